@@ -1,0 +1,2 @@
+-- What a word is.
+pub mod Width

@@ -1,0 +1,12 @@
+-- The widths of atomic instructions: funct3 2 is W, 3 is D.
+use Prim.Native.Nat.{ℕ}
+use Rattle.isa.specs.declared.Width.{Width}
+use Rattle.isa.specs.declared.Width.the-variants.{Word, Double}
+
+abbrev pub bitsOf : Width → ℕ
+bitsOf Word = 32
+bitsOf Double = 64
+
+abbrev pub bytesOf : Width → ℕ
+bytesOf Word = 4
+bytesOf Double = 8

@@ -1,0 +1,175 @@
+// The instructions of RV64I (without FENCE.I and CSRs), A 2.1 and Zacas, and their decoder.
+ghost use mathlib.Core.Path.{_≡_};
+ghost use Prim.Native.Nat.{_≤_, _<_};
+ghost use Rattle.isa.specs.Width.{bitsOf, bytesOf};
+
+pub enum LoadOp {
+    Lb,
+    Lh,
+    Lw,
+    Ld,
+    Lbu,
+    Lhu,
+    Lwu,
+}
+
+pub enum StoreOp {
+    Sb,
+    Sh,
+    Sw,
+    Sd,
+}
+
+pub enum BranchOp {
+    Eq,
+    Ne,
+    Lt,
+    Ge,
+    Ltu,
+    Geu,
+}
+
+// The operations of OP, OP-IMM, OP-32 and OP-IMM-32.
+pub enum AluOp {
+    Add,
+    Sub,
+    Sll,
+    Slt,
+    Sltu,
+    Xor,
+    Srl,
+    Sra,
+    Or,
+    And,
+}
+
+// The operations of the nine AMOs.
+pub enum AmoOp {
+    Swap,
+    Add,
+    Xor,
+    And,
+    Or,
+    Min,
+    Max,
+    Minu,
+    Maxu,
+}
+
+// CasPair compares and swaps a pair of registers: AMOCAS.Q.
+pub enum AtomicOp {
+    Lr,
+    Sc,
+    Cas,
+    CasPair,
+    Rmw(AmoOp),
+}
+
+// The width of what an atomic instruction moves to or from one register.
+pub enum Width {
+    Word,
+    Double,
+}
+
+// An atomic operation with its width, both ordering bits and its registers.
+pub struct Atomic {
+    pub op: AtomicOp,
+    pub width: Width,
+    pub aq: bool,
+    pub rl: bool,
+    pub rd: usize,
+    pub rs1: usize,
+    pub rs2: usize,
+}
+
+// imm is the immediate sign-extended to 64 bits, or the shift amount; of a FENCE, bits 31 to 20 as they stand.
+pub enum Instr {
+    Illegal,
+    Lui {
+        rd: usize,
+        imm: u64,
+    },
+    Auipc {
+        rd: usize,
+        imm: u64,
+    },
+    Jal {
+        rd: usize,
+        imm: u64,
+    },
+    Jalr {
+        rd: usize,
+        rs1: usize,
+        imm: u64,
+    },
+    Branch {
+        op: BranchOp,
+        rs1: usize,
+        rs2: usize,
+        imm: u64,
+    },
+    Load {
+        op: LoadOp,
+        rd: usize,
+        rs1: usize,
+        imm: u64,
+    },
+    Store {
+        op: StoreOp,
+        rs1: usize,
+        rs2: usize,
+        imm: u64,
+    },
+    OpImm {
+        op: AluOp,
+        rd: usize,
+        rs1: usize,
+        imm: u64,
+    },
+    OpImm32 {
+        op: AluOp,
+        rd: usize,
+        rs1: usize,
+        imm: u64,
+    },
+    Op {
+        op: AluOp,
+        rd: usize,
+        rs1: usize,
+        rs2: usize,
+    },
+    Op32 {
+        op: AluOp,
+        rd: usize,
+        rs1: usize,
+        rs2: usize,
+    },
+    Fence {
+        rd: usize,
+        rs1: usize,
+        imm: u64,
+    },
+    Ecall,
+    Ebreak,
+    Amo(Atomic),
+}
+
+// The bits of a register's part that an atomic of this width moves.
+pub fn bits_of(w: Width) -> u32
+    ensures { λ r. ⌜ (r ≡ bitsOf w) × (0 < r) × (r ≤ 64) ⌝ }
+{
+    match w {
+        Width::Word => 32,
+        Width::Double => 64,
+    }
+}
+
+// The same in bytes.
+pub fn bytes_of(w: Width) -> usize
+    ensures { λ r. ⌜ (r ≡ bytesOf w) × (0 < r) × (r ≤ 8) ⌝ }
+{
+    match w {
+        Width::Word => 4,
+        Width::Double => 8,
+    }
+}
