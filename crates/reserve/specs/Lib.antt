@@ -1,0 +1,3 @@
+-- Reservations and what breaks them.
+pub mod Range
+pub mod Reserve
