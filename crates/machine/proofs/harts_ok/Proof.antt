@@ -1,0 +1,108 @@
+use borrow.Author.Needs.{needs}
+use mathlib.Core.Bool.{true}
+use mathlib.Core.Path.{_≡_, sym, _∙_}
+use Prim.Native.Nat.{ℕ, _-_, _≤_}
+use native.Mathlib.Omega.{arith}
+use borrow.Author.Tests.{not-true, not-false}
+use Rattle.word.specs.Each.{allBelow}
+use Rattle.word.proofs.EachLaws.{all-none, all-more, all-fails}
+use Rattle.machine.specs.State.{hartAt}
+use Rattle.machine.proofs.harts_ok.Statement.{statement}
+use Rattle.machine.proofs.harts_ok.Tie as tie
+use Rattle.machine.proofs.harts_ok.Reads as reads
+use Rattle.machine.proofs.harts_ok.Lts as lts
+use Rattle.machine.proofs.hart_ok.Reads as hart-ok-reads
+
+abbrev Inv-loop : tie.InvT-loop
+Inv-loop base len count x pc res k₀ k =
+    (k ≤ count) × (allBelow (hartAt base len (record { count = count; x = x; pc = pc; res = res })) k ≡ true)
+
+abbrev μ-loop : tie.MeasureT-loop
+μ-loop base len count x pc res k₀ k = count - k
+
+-- src/lib.rt:57:5
+loop-holds : tie.Need-loop-holds Inv-loop μ-loop
+loop-holds c = (search needs, all-none _)
+
+-- src/lib.rt:58:17
+mul-s : tie.Need-mul-s Inv-loop μ-loop
+mul-s c = search needs
+
+-- src/lib.rt:58:17
+array-copy-out-s : tie.Need-array-copy-out-s Inv-loop μ-loop
+array-copy-out-s c = search needs
+
+-- src/lib.rt:60:34
+mul-hart-ok : tie.Need-mul-hart-ok Inv-loop μ-loop
+mul-hart-ok c = search needs
+
+-- src/lib.rt:60:32
+mul-hart-ok-2 : tie.Need-mul-hart-ok-2 Inv-loop μ-loop
+mul-hart-ok-2 c = search needs
+
+-- src/lib.rt:60:32
+element-copy-out-hart-ok : tie.Need-element-copy-out-hart-ok Inv-loop μ-loop
+element-copy-out-hart-ok c = search needs
+
+-- src/lib.rt:60:43
+mul-hart-ok-3 : tie.Need-mul-hart-ok-3 Inv-loop μ-loop
+mul-hart-ok-3 c = search needs
+
+-- src/lib.rt:60:43
+element-copy-out-hart-ok-2 : tie.Need-element-copy-out-hart-ok-2 Inv-loop μ-loop
+element-copy-out-hart-ok-2 c = search needs
+
+-- src/lib.rt:60:13
+hart-ok-requires : tie.Need-hart-ok-requires Inv-loop μ-loop
+hart-ok-requires c κs = search needs
+
+-- src/lib.rt:61:13
+returns : tie.Need-returns Inv-loop μ-loop
+returns c =
+    let a = c .before .before .before .before .before .before .before .args in
+    sym (all-fails (hartAt (a .base) (a .len) (record { count = a .count; x = a .x .now; pc = a .pc .now; res = a .t6 })) (c .before .before .before .before .before .before .loop .k) (a .count) (omega arith)
+    (sym (c .before .hart-ok .ensures) ∙ not-true _ (c .if1 .taken)))
+
+-- src/lib.rt:63:9
+add-k : tie.Need-add-k Inv-loop μ-loop
+add-k c = search needs
+
+-- src/lib.rt:57:5
+loop-less : tie.Need-loop-less Inv-loop μ-loop
+loop-less c = search needs
+
+-- src/lib.rt:57:5
+loop-again : tie.Need-loop-again Inv-loop μ-loop
+loop-again c =
+    let a = c .before .before .before .before .before .before .before .args in (
+      search needs,
+      all-more (hartAt (a .base) (a .len) (record { count = a .count; x = a .x .now; pc = a .pc .now; res = a .t6 })) (c .before .before .before .before .before .before .loop .k) (c .before .before .before .before .before .before .loop .inv .1)
+          (sym (c .before .hart-ok .ensures) ∙ not-false _ (c .if1 .left)),
+    )
+
+-- src/lib.rt:45:1
+returns-2 : tie.Need-returns-2 Inv-loop μ-loop
+returns-2 c =
+    let e : c .before .loop .k ≡ c .before .before .args .count = omega arith in
+    sym (rw e at (c .before .loop .inv .1))
+
+pub harts-ok-spec : {M : Type 1} → statement M
+harts-ok-spec =
+    tie.close
+    (tie.spec
+    Inv-loop
+    μ-loop
+    loop-holds
+    mul-s
+    array-copy-out-s
+    mul-hart-ok
+    mul-hart-ok-2
+    element-copy-out-hart-ok
+    mul-hart-ok-3
+    element-copy-out-hart-ok-2
+    hart-ok-requires
+    returns
+    add-k
+    loop-less
+    loop-again
+    returns-2)

@@ -1,0 +1,14 @@
+use mathlib.Core.Path.{refl}
+use Rattle.machine.specs.State.{memoryOk}
+use Rattle.machine.proofs.memory_ok.Statement.{statement}
+use Rattle.machine.proofs.memory_ok.Tie as tie
+use Rattle.machine.proofs.memory_ok.Reads as reads
+use Rattle.machine.proofs.memory_ok.Lts as lts
+
+-- src/lib.rt:18:1
+returns : tie.Need-returns
+unfolding memoryOk
+returns c = refl
+
+pub memory-ok-spec : {M : Type 1} → statement M
+memory-ok-spec = tie.close (tie.spec returns)

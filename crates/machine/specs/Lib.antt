@@ -1,0 +1,2 @@
+-- The state of the machine.
+pub mod State

@@ -1,0 +1,37 @@
+-- Which memories and states are refused (01, refusals 1 and 2).
+use Prim.Native.Nat.{ℕ, _*_, _%_, _^_}
+use mathlib.Core.Bool.{Bool, true, cond, _&&_, _||_}
+use mathlib.Core.List.{List}
+use lib.Dec.{eqb, leb}
+use lib.ListN.{getD}
+use Rattle.word.specs.Each.{allBelow}
+use Rattle.reserve.specs.Range.{insideOf}
+use Rattle.reserve.specs.Reserve.{slot}
+use Rattle.reserve.specs.declared.Reservation.{Reservation}
+use Rattle.reserve.specs.declared.Reservation.the-variants.{None, Held}
+use Rattle.machine.specs.declared.State.{State}
+
+-- 01: "One lent memory, 64 to 1,048,576 bytes, a multiple of 64, at a base address that is a multiple of 64 and at most 2^40."
+unfoldable pub memoryOk : ℕ → ℕ → Bool
+memoryOk base len = leb 64 len && (leb len 1048576 && (eqb (len % 64) 0 && (eqb (base % 64) 0 && leb base (2 ^ 40))))
+
+-- 01: "a reservation whose width isn't 4 or 8, isn't aligned to it, or isn't inside memory"
+unfoldable pub reservationOk : ℕ → ℕ → Reservation → Bool
+reservationOk base len None = true
+reservationOk base len (Held a w) = (eqb w 4 || eqb w 8) && (eqb (a % w) 0 && insideOf base len a w)
+
+-- 01: "nonzero x0, pc not a multiple of 4"
+unfoldable pub hartOk : ℕ → ℕ → ℕ → ℕ → Reservation → Bool
+hartOk base len x0 pc r = eqb x0 0 && (eqb (pc % 4) 0 && reservationOk base len r)
+
+-- hart k; its x0 stands at 32 * k
+abbrev pub hartAt : ℕ → ℕ → State → ℕ → Bool
+hartAt base len s k = hartOk base len (getD (s .x) (k * 32) 0) (getD (s .pc) k 0) (getD (s .res) k (slot None) .reservation)
+
+-- 01: "1 to 8 harts"; "unused harts' fields aren't looked at"
+unfoldable pub stateOk : ℕ → ℕ → State → Bool
+stateOk base len s = (leb 1 (s .count) && leb (s .count) 8) && allBelow (hartAt base len s) (s .count)
+
+-- the first of refusals 1 and 2 that applies, or 0
+unfoldable pub refusalOf : ℕ → ℕ → State → ℕ
+refusalOf base len s = cond (memoryOk base len) (cond (stateOk base len s) 0 2) 1

@@ -1,0 +1,94 @@
+// The state of the machine, and which states and memories are refused.
+ghost use mathlib.Core.Path.{_≡_};
+ghost use Prim.Native.Nat.{_<_, _≤_};
+ghost use Rattle.word.specs.Each.{allBelow};
+ghost use Rattle.machine.specs.State.{memoryOk, reservationOk, hartOk, hartAt, refusalOf};
+use reserve::Reservation;
+use reserve::Slot;
+
+// count harts are used. x of hart h stands at 32 * h to 32 * h + 31, its pc and its reservation at h.
+pub struct State {
+    pub count: usize,
+    pub x: [u64; 256],
+    pub pc: [u64; 8],
+    pub res: [Slot; 8],
+}
+
+// Whether a memory of len bytes at base may be lent.
+fn memory_ok(base: u64, len: usize) -> bool
+    ensures { λ r. ⌜ r ≡ memoryOk base len ⌝ }
+{
+    (64 <= len)
+        & ((len <= 1048576) & ((len % 64 == 0) & ((base % 64 == 0) & (base <= 1099511627776))))
+}
+
+fn reservation_ok(base: u64, len: usize, r: Reservation) -> bool
+    ensures { λ t. ⌜ t ≡ reservationOk base len r ⌝ }
+{
+    match r {
+        Reservation::None => true,
+        Reservation::Held { addr, width } => {
+            if (width == 4) | (width == 8) {
+                return (addr % width == 0) & reserve::inside(base, len as u64, addr, width);
+            }
+            false
+        }
+    }
+}
+
+fn hart_ok(base: u64, len: usize, x0: u64, pc: u64, r: Reservation) -> bool
+    ensures { λ t. ⌜ t ≡ hartOk base len x0 pc r ⌝ }
+{
+    (x0 == 0) & ((pc % 4 == 0) & reservation_ok(base, len, r))
+}
+
+// Whether each of the first count harts is well formed.
+fn harts_ok<'a>(
+    base: u64,
+    len: usize,
+    count: usize,
+    x: &'a [u64; 256],
+    pc: &'a [u64; 8],
+    res: [Slot; 8],
+) -> bool
+    requires { ⌜ count ≤ 8 ⌝ }
+    ensures { λ t. ⌜ t ≡ allBelow (hartAt base len (record { count = count; x = now (x .entry); pc = now (pc .entry); res = res })) count ⌝ }
+{
+    let mut k: usize = 0;
+    while k < count {
+        let s = res[k];
+        let r = s.reservation;
+        if !hart_ok(base, len, x[k * 32], pc[k], r) {
+            return false;
+        }
+        k += 1;
+    }
+    true
+}
+
+// The first of refusals 1 and 2 that applies, or 0.
+pub fn refusal<'a>(
+    base: u64,
+    len: usize,
+    count: usize,
+    x: &'a [u64; 256],
+    pc: &'a [u64; 8],
+    res: [Slot; 8],
+) -> u64
+    ensures { λ n. ⌜ n ≡ refusalOf base len (record { count = count; x = now (x .entry); pc = now (pc .entry); res = res }) ⌝ }
+{
+    if !memory_ok(base, len) {
+        return 1;
+    }
+    if count == 0 {
+        return 2;
+    }
+    if 8 < count {
+        return 2;
+    }
+    if harts_ok(base, len, count, x, pc, res) {
+        0
+    } else {
+        2
+    }
+}
