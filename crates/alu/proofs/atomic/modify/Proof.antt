@@ -1,0 +1,47 @@
+use mathlib.Core.Path.{ap, ap₂, _∙_}
+use Prim.Native.Nat.{ℕ}
+use native.Mathlib.Omega.{arith}
+use Rattle.word.specs.Bytes.{toLe}
+use Rattle.isa.specs.Width.{bitsOf}
+use Rattle.alu.specs.Amo.{amoOf}
+use Rattle.alu.proofs.AmoLaws.{bytes-most, le-fits}
+use borrow.Author.Needs.{needs}
+use Rattle.alu.proofs.atomic.modify.Statement.{statement}
+use Rattle.alu.proofs.atomic.modify.Tie as tie
+use Rattle.alu.proofs.atomic.modify.Reads as reads
+use Rattle.alu.proofs.atomic.modify.Lts as lts
+use Rattle.alu.proofs.atomic.amo.Reads as amo-reads
+use Rattle.word.proofs.bytes.load_le.Reads as load-le-reads
+use Rattle.word.proofs.bytes.store_le.Reads as store-le-reads
+
+-- src/atomic.rt:78:9
+load-le-requires : tie.Need-load-le-requires
+load-le-requires c κs = omega (arith, c .before .before .pre .0, bytes-most (c .before .before .args .w))
+
+-- src/atomic.rt:79:43
+amo-requires : tie.Need-amo-requires
+amo-requires c κs =
+    let x = c .before .before .before .before .args in
+    (rw (c .before .load-le .ensures) (le-fits (x .w) (x .bytes .now) (λ i. c .before .before .before .slice-known .given i .fits) (c .before .before .before .before .pre .0)), c .before .before .before .before .pre .1)
+
+-- src/atomic.rt:79:5
+store-le-requires : tie.Need-store-le-requires
+store-le-requires c κs = search needs
+
+-- src/atomic.rt:72:1
+same-length : tie.Need-same-length
+same-length c = search needs
+
+-- src/atomic.rt:72:1
+returns : tie.Need-returns
+returns c =
+    let x = c .before .before .before .before .before .before .before .before .args in
+    let old = c .before .before .before .before .before .load-le .ensures in (
+      old,
+      c .before .before .store-le .ensures
+          ∙ ap₂ toLe (c .before .before .before .before .before .before .before .before .pre .0) (c .before .before .before .amo .ensures ∙ ap (λ (m : ℕ). amoOf (x .op) (bitsOf (x .w)) m (x .operand)) old),
+    )
+
+pub modify-spec : {M : Type 1} → statement M
+modify-spec =
+    tie.close (tie.spec load-le-requires amo-requires store-le-requires same-length returns)

@@ -1,0 +1,28 @@
+use mathlib.Core.Path.{ap, _∙_}
+use Prim.Native.Nat.{_+_}
+use Rattle.word.specs.Word.{low}
+use Rattle.word.proofs.WordLaws.{low-low}
+use borrow.Author.Needs.{needs}
+use Rattle.alu.proofs.integer.add.Statement.{statement}
+use Rattle.alu.proofs.integer.add.Tie as tie
+use Rattle.alu.proofs.integer.add.Reads as reads
+use Rattle.alu.proofs.integer.add.Lts as lts
+use Rattle.std.proofs.num.wrapping_add_u64.Reads as wrapping-add-u64-reads
+use Rattle.word.proofs.num.wrap.Reads as wrap-reads
+
+-- src/integer.rt:17:10
+wrapping-add-u64-requires : tie.Need-wrapping-add-u64-requires
+wrapping-add-u64-requires c κs = search needs
+
+-- src/integer.rt:17:5
+wrap-requires : tie.Need-wrap-requires
+wrap-requires c κs = search needs
+
+-- src/integer.rt:13:1
+returns : tie.Need-returns
+returns c =
+    let x = c .before .before .args in
+    c .wrap .ensures ∙ ap (low (x .bits)) (c .before .wrapping-add-u64 .ensures) ∙ low-low 64 (x .bits) (c .before .before .pre) (x .a + x .b)
+
+pub add-spec : {M : Type 1} → statement M
+add-spec = tie.close (tie.spec wrapping-add-u64-requires wrap-requires returns)

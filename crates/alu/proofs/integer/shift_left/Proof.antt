@@ -1,0 +1,26 @@
+use mathlib.Core.Path.{_∙_}
+use Prim.Native.Nat.{_*_, _^_}
+use Rattle.word.proofs.WordLaws.{low-low}
+use borrow.Author.Needs.{needs}
+use Rattle.alu.proofs.integer.shift_left.Statement.{statement}
+use Rattle.alu.proofs.integer.shift_left.Tie as tie
+use Rattle.alu.proofs.integer.shift_left.Reads as reads
+use Rattle.alu.proofs.integer.shift_left.Lts as lts
+use Rattle.word.proofs.num.wrap.Reads as wrap-reads
+
+-- src/integer.rt:40:10
+shl-wrap : tie.Need-shl-wrap
+shl-wrap c = search needs
+
+-- src/integer.rt:40:5
+wrap-requires : tie.Need-wrap-requires
+wrap-requires c κs = search needs
+
+-- src/integer.rt:36:1
+returns : tie.Need-returns
+returns c =
+    let x = c .before .args in
+    c .wrap .ensures ∙ low-low 64 (x .bits) (c .before .pre .1) (x .a * 2 ^ x .by)
+
+pub shift-left-spec : {M : Type 1} → statement M
+shift-left-spec = tie.close (tie.spec shl-wrap wrap-requires returns)

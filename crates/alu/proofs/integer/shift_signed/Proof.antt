@@ -1,0 +1,51 @@
+use mathlib.Core.Path.{ap, _∙_}
+use native.Mathlib.Omega.{arith}
+use Rattle.word.specs.Word.{low}
+use Rattle.alu.proofs.AluLaws.{low-shr}
+use borrow.Author.Needs.{needs}
+use Rattle.alu.proofs.integer.shift_signed.Statement.{statement}
+use Rattle.alu.proofs.integer.shift_signed.Tie as tie
+use Rattle.alu.proofs.integer.shift_signed.Reads as reads
+use Rattle.alu.proofs.integer.shift_signed.Lts as lts
+use Rattle.word.proofs.num.from_i64.Reads as from-i64-reads
+use Rattle.word.proofs.num.to_signed.Reads as to-signed-reads
+use Rattle.word.proofs.num.wrap.Reads as wrap-reads
+
+-- src/integer.rt:49:19
+to-signed-requires : tie.Need-to-signed-requires
+to-signed-requires c κs = search needs
+
+-- src/integer.rt:49:41
+cast-from-i64 : tie.Need-cast-from-i64
+cast-from-i64 c = search needs
+
+-- src/integer.rt:49:19
+shr-from-i64 : tie.Need-shr-from-i64
+shr-from-i64 c = search needs
+
+-- src/integer.rt:49:10
+from-i64-requires : tie.Need-from-i64-requires
+from-i64-requires c κs = search needs
+
+-- src/integer.rt:49:5
+wrap-requires : tie.Need-wrap-requires
+wrap-requires c κs = search needs
+
+-- src/integer.rt:44:1
+returns : tie.Need-returns
+returns c =
+    let x = c .before .before .before .args in
+    let z = c .before .before .to-signed in
+    c .wrap .ensures ∙ ap (low (x .bits)) (c .before .from-i64 .ensures)
+    ∙ low-shr (x .bits) (x .a) (x .by) (z .result) (omega arith) (omega arith) (c .before .before .before .pre .1) (z .ensures)
+
+pub shift-signed-spec : {M : Type 1} → statement M
+shift-signed-spec =
+    tie.close
+    (tie.spec
+    to-signed-requires
+    cast-from-i64
+    shr-from-i64
+    from-i64-requires
+    wrap-requires
+    returns)

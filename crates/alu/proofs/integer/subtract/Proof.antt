@@ -1,0 +1,27 @@
+use mathlib.Core.Path.{_∙_}
+use Rattle.alu.proofs.AluLaws.{low-sub}
+use borrow.Author.Needs.{needs}
+use Rattle.alu.proofs.integer.subtract.Statement.{statement}
+use Rattle.alu.proofs.integer.subtract.Tie as tie
+use Rattle.alu.proofs.integer.subtract.Reads as reads
+use Rattle.alu.proofs.integer.subtract.Lts as lts
+use Rattle.std.proofs.num.wrapping_sub_u64.Reads as wrapping-sub-u64-reads
+use Rattle.word.proofs.num.wrap.Reads as wrap-reads
+
+-- src/integer.rt:25:10
+wrapping-sub-u64-requires : tie.Need-wrapping-sub-u64-requires
+wrapping-sub-u64-requires c κs = search needs
+
+-- src/integer.rt:25:5
+wrap-requires : tie.Need-wrap-requires
+wrap-requires c κs = search needs
+
+-- src/integer.rt:20:1
+returns : tie.Need-returns
+returns c =
+    let x = c .before .before .args in
+    let d = c .before .wrapping-sub-u64 in
+    c .wrap .ensures ∙ low-sub (x .bits) (x .a) (x .b) (d .result) (c .before .before .pre .0) (c .before .before .pre .1) (d .ensures)
+
+pub subtract-spec : {M : Type 1} → statement M
+subtract-spec = tie.close (tie.spec wrapping-sub-u64-requires wrap-requires returns)

@@ -1,0 +1,42 @@
+use mathlib.Core.Path.{refl, sym, _∙_}
+use borrow.Author.Tests.{eq-eqb, ne-eqb}
+use borrow.Author.Needs.{needs}
+use Rattle.alu.proofs.swap.compare_swap.Statement.{statement}
+use Rattle.alu.proofs.swap.compare_swap.Tie as tie
+use Rattle.alu.proofs.swap.compare_swap.Reads as reads
+use Rattle.alu.proofs.swap.compare_swap.Lts as lts
+use Rattle.word.proofs.bytes.load_le.Reads as load-le-reads
+use Rattle.word.proofs.bytes.store_le.Reads as store-le-reads
+
+-- src/swap.rt:27:9
+load-le-requires : tie.Need-load-le-requires
+load-le-requires c κs = search needs
+
+-- src/swap.rt:29:9
+store-le-requires : tie.Need-store-le-requires
+store-le-requires c κs = search needs
+
+-- src/swap.rt:22:1
+same-length : tie.Need-same-length
+same-length c = search needs
+
+-- src/swap.rt:22:1
+returns : tie.Need-returns
+returns c =
+    let old = c .before .before .before .before .before .load-le .ensures in
+    (old, rw (eq-eqb _ _ (sym old ∙ c .before .before .before .before .if1 .taken)) (c .before .before .store-le .ensures))
+
+-- src/swap.rt:22:1
+same-length-2 : tie.Need-same-length-2
+same-length-2 c = search needs
+
+-- src/swap.rt:22:1
+returns-2 : tie.Need-returns-2
+returns-2 c =
+    let old = c .before .load-le .ensures in
+    (old, rw (ne-eqb _ _ (λ e. c .if1 .left (old ∙ e))) refl)
+
+pub compare-swap-spec : {M : Type 1} → statement M
+compare-swap-spec =
+    tie.close
+    (tie.spec load-le-requires store-le-requires same-length returns same-length-2 returns-2)

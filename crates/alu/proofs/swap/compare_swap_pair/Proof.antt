@@ -1,0 +1,80 @@
+use mathlib.Core.Path.{_≡_, refl, sym, ap, _∙_}
+use mathlib.Core.List.{List}
+use Prim.Native.Nat.{ℕ, _+_, _*_, _^_}
+use native.Mathlib.Omega.{arith}
+use Rattle.word.specs.Bytes.{le, toLe}
+use Rattle.word.specs.Memory.{splice}
+use Rattle.alu.proofs.PairLaws.{le-pair, splice-pair}
+use borrow.Author.Needs.{needs}
+use Rattle.alu.proofs.swap.compare_swap_pair.Statement.{statement}
+use Rattle.alu.proofs.swap.compare_swap_pair.Tie as tie
+use Rattle.alu.proofs.swap.compare_swap_pair.Reads as reads
+use Rattle.alu.proofs.swap.compare_swap_pair.Lts as lts
+use Rattle.alu.proofs.swap.same.Reads as same-reads
+use Rattle.word.proofs.bytes.load_at.Reads as load-at-reads
+use Rattle.word.proofs.bytes.store_at.Reads as store-at-reads
+
+-- src/swap.rt:63:9
+load-at-requires : tie.Need-load-at-requires
+load-at-requires c κs = search needs
+
+-- src/swap.rt:64:9
+load-at-requires-2 : tie.Need-load-at-requires-2
+load-at-requires-2 c κs = search needs
+
+-- src/swap.rt:65:8
+same-requires : tie.Need-same-requires
+same-requires c κs = search needs
+
+-- src/swap.rt:66:9
+store-at-requires : tie.Need-store-at-requires
+store-at-requires c κs = search needs
+
+-- src/swap.rt:67:9
+store-at-requires-2 : tie.Need-store-at-requires-2
+store-at-requires-2 c κs = search needs
+
+-- src/swap.rt:58:1
+same-length : tie.Need-same-length
+same-length c = search needs
+
+-- src/swap.rt:58:1
+returns : tie.Need-returns
+returns c =
+    let x = c .before .before .before .before .before .before .before .before .before .before .before .before .before .before .before .args in
+    let bs = x .bytes .now in
+    let low = c .before .before .before .before .before .before .before .before .before .before .before .before .load-at in
+    let high = c .before .before .before .before .before .before .before .before .before .before .load-at2 in
+    let old : low .result + 2 ^ 64 * high .result ≡ le bs = rw (low .ensures, high .ensures) (le-pair 8 bs (c .before .before .before .before .before .before .before .before .before .before .before .before .before .before .before .pre)) in (
+      old,
+      rw (← old, sym (c .before .before .before .before .before .before .before .before .before .same .ensures) ∙ c .before .before .before .before .before .before .before .before .if1 .taken)
+          (c .before .before .store-at2 .ensures ∙ ap (λ (l : List ℕ). splice l 8 (toLe 8 (x .new .high))) (c .before .before .before .before .before .before .store-at .ensures)
+          ∙ splice-pair 8 bs (x .new .low) (x .new .high) (c .before .before .before .before .before .before .before .before .before .before .before .before .before .before .before .pre) (omega arith)),
+    )
+
+-- src/swap.rt:58:1
+same-length-2 : tie.Need-same-length-2
+same-length-2 c = search needs
+
+-- src/swap.rt:58:1
+returns-2 : tie.Need-returns-2
+returns-2 c =
+    let bs = c .before .before .before .before .before .before .before .args .bytes .now in
+    let low = c .before .before .before .before .load-at in
+    let high = c .before .before .load-at2 in
+    let old : low .result + 2 ^ 64 * high .result ≡ le bs = rw (low .ensures, high .ensures) (le-pair 8 bs (c .before .before .before .before .before .before .before .pre)) in
+    (old, rw (← old, sym (c .before .same .ensures) ∙ c .if1 .left) refl)
+
+pub compare-swap-pair-spec : {M : Type 1} → statement M
+compare-swap-pair-spec =
+    tie.close
+    (tie.spec
+    load-at-requires
+    load-at-requires-2
+    same-requires
+    store-at-requires
+    store-at-requires-2
+    same-length
+    returns
+    same-length-2
+    returns-2)

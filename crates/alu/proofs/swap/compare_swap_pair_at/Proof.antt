@@ -1,0 +1,65 @@
+use mathlib.Core.Path.{_≡_, ap, _∙_}
+use Prim.Native.Nat.{_+_, _-_}
+use lib.Dec.{eqb}
+use lib.ListN.{take, drop}
+use Rattle.word.specs.Bytes.{le, toLe}
+use Rattle.word.specs.Memory.{part}
+use Rattle.word.proofs.BytesLaws.{length-toLe}
+use Rattle.word.proofs.MemoryLaws.{lent-part}
+use Rattle.alu.specs.Pair.{joined}
+use Rattle.alu.proofs.LentLaws.{lent-cond}
+use borrow.Author.Needs.{needs}
+use Rattle.alu.proofs.swap.compare_swap_pair_at.Statement.{statement}
+use Rattle.alu.proofs.swap.compare_swap_pair_at.Tie as tie
+use Rattle.alu.proofs.swap.compare_swap_pair_at.Reads as reads
+use Rattle.alu.proofs.swap.compare_swap_pair_at.Lts as lts
+use Rattle.alu.proofs.swap.compare_swap_pair.Reads as compare-swap-pair-reads
+
+-- src/swap.rt:78:15
+add-end : tie.Need-add-end
+add-end c = search needs
+
+-- src/swap.rt:79:23
+sub-compare-swap-pair : tie.Need-sub-compare-swap-pair
+sub-compare-swap-pair c = search needs
+
+-- src/swap.rt:79:23
+part-compare-swap-pair-start : tie.Need-part-compare-swap-pair-start
+part-compare-swap-pair-start c = search needs
+
+-- src/swap.rt:79:23
+part-compare-swap-pair-end : tie.Need-part-compare-swap-pair-end
+part-compare-swap-pair-end c = search needs
+
+-- src/swap.rt:79:5
+compare-swap-pair-requires : tie.Need-compare-swap-pair-requires
+compare-swap-pair-requires c κs = search needs
+
+-- src/swap.rt:73:1
+same-length : tie.Need-same-length
+same-length c = search needs
+
+-- src/swap.rt:73:1
+returns : tie.Need-returns
+returns c =
+    let x = c .before .before .before .before .before .args in
+    let m = c .before .before .compare-swap-pair in
+    let mem = x .mem .now in
+    let lent = take (x .at + 16 - x .at) (drop (x .at) mem) in
+    let seen : lent ≡ part mem (x .at) 16 = lent-part mem (x .at) 16 in (
+      m .ensures .0 ∙ ap le seen,
+      rw (← seen)
+          (lent-cond mem (x .at) 16 (m .last .0) (toLe 16 (joined (x .new))) (eqb (le lent) (joined (x .want))) (length-toLe _ _) (m .ensures .1)),
+    )
+
+pub compare-swap-pair-at-spec : {M : Type 1} → statement M
+compare-swap-pair-at-spec =
+    tie.close
+    (tie.spec
+    add-end
+    sub-compare-swap-pair
+    part-compare-swap-pair-start
+    part-compare-swap-pair-end
+    compare-swap-pair-requires
+    same-length
+    returns)

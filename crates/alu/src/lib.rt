@@ -1,0 +1,4 @@
+// What instructions compute: the integer operations, and the leaves of the atomic ones.
+pub mod atomic;
+pub mod integer;
+pub mod swap;

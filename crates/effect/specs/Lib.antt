@@ -1,0 +1,6 @@
+-- What one instruction does, class by class.
+pub mod Effect
+pub mod Integer
+pub mod Memory
+pub mod Atomic
+pub mod Execute
