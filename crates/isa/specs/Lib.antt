@@ -1,2 +1,4 @@
 -- What a word is.
 pub mod Width
+pub mod Fields
+pub mod Decode
