@@ -2,3 +2,4 @@
 pub mod Width
 pub mod Fields
 pub mod Decode
+pub mod Wf

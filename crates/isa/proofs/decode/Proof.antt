@@ -109,7 +109,9 @@ returns-14 c = rw (← c .before .before .class-of .ensures, c .before .match .k
 
 returns-15 : tie.Need-returns-15
 unfolding decodeOf
-returns-15 c = rw (← c .before .class-of .ensures) (sym (select-none (c .before .class-of .result) decoders (of (c .before .before .args .word)) Illegal (c .match .rest)))
+returns-15 c =
+    rw (← c .before .class-of .ensures)
+    (sym (select-none (c .before .class-of .result) decoders (of (c .before .before .args .word)) Illegal (c .match .rest)))
 
 pub decode-spec : {M : Type 1} → statement M
 decode-spec =

@@ -95,7 +95,9 @@ returns-12 c = rw (← c .before .before .funct5 .ensures, c .before .match .key
 
 returns-13 : tie.Need-returns-13
 unfolding atomicOf
-returns-13 c = rw (← c .before .funct5 .ensures) (sym (select-none (c .before .funct5 .result) atomics (of (c .before .before .args .word)) Illegal (c .match .rest)))
+returns-13 c =
+    rw (← c .before .funct5 .ensures)
+    (sym (select-none (c .before .funct5 .result) atomics (of (c .before .before .args .word)) Illegal (c .match .rest)))
 
 pub atomic-spec : {M : Type 1} → statement M
 atomic-spec =

@@ -14,7 +14,8 @@ atomic-as-requires c κs = search needs
 
 returns : tie.Need-returns
 unfolding casPairOf
-returns c = rw (c .atomic-as .ensures, ← c .before .before .before .rd .ensures, ← c .before .before .rs2 .ensures, c .before .if1 .taken)
+returns c =
+    rw (c .atomic-as .ensures, ← c .before .before .before .rd .ensures, ← c .before .before .rs2 .ensures, c .before .if1 .taken)
 
 returns-2 : tie.Need-returns-2
 unfolding casPairOf

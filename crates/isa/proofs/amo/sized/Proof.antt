@@ -25,7 +25,9 @@ returns-2 c = rw (← c .before .before .funct3 .ensures .0, c .before .match .k
 
 returns-3 : tie.Need-returns-3
 unfolding sizedOf
-returns-3 c = let a = c .before .before .args in rw (← c .before .funct3 .ensures .0) (sym (select-none (c .before .funct3 .result) widths (atomicAs (a .word) (a .op)) Illegal (c .match .rest)))
+returns-3 c =
+    let a = c .before .before .args in rw (← c .before .funct3 .ensures .0)
+    (sym (select-none (c .before .funct3 .result) widths (atomicAs (a .word) (a .op)) Illegal (c .match .rest)))
 
 pub sized-spec : {M : Type 1} → statement M
 sized-spec =

@@ -53,7 +53,9 @@ returns-6 c = rw (← c .before .before .funct3 .ensures .0, c .before .match .k
 
 returns-7 : tie.Need-returns-7
 unfolding branchOf
-returns-7 c = rw (← c .before .funct3 .ensures .0) (sym (select-none (c .before .funct3 .result) branches (branchAs (c .before .before .args .word)) Illegal (c .match .rest)))
+returns-7 c =
+    rw (← c .before .funct3 .ensures .0)
+    (sym (select-none (c .before .funct3 .result) branches (branchAs (c .before .before .args .word)) Illegal (c .match .rest)))
 
 pub branch-spec : {M : Type 1} → statement M
 branch-spec =

@@ -60,7 +60,9 @@ returns-7 c = rw (← c .before .before .funct3 .ensures .0, c .before .match .k
 
 returns-8 : tie.Need-returns-8
 unfolding loadOf
-returns-8 c = rw (← c .before .funct3 .ensures .0) (sym (select-none (c .before .funct3 .result) loads (loadAs (c .before .before .args .word)) Illegal (c .match .rest)))
+returns-8 c =
+    rw (← c .before .funct3 .ensures .0)
+    (sym (select-none (c .before .funct3 .result) loads (loadAs (c .before .before .args .word)) Illegal (c .match .rest)))
 
 pub load-spec : {M : Type 1} → statement M
 load-spec =

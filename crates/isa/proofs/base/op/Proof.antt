@@ -51,47 +51,59 @@ op-as-requires-10 c κs = search needs
 
 returns : tie.Need-returns
 unfolding opOf
-returns c = rw (← c .before .before .before .funct7 .ensures .0, ← c .before .before .funct3 .ensures .0, c .before .match .keys1) (c .op-as .ensures)
+returns c =
+    rw (← c .before .before .before .funct7 .ensures .0, ← c .before .before .funct3 .ensures .0, c .before .match .keys1) (c .op-as .ensures)
 
 returns-2 : tie.Need-returns-2
 unfolding opOf
-returns-2 c = rw (← c .before .before .before .funct7 .ensures .0, ← c .before .before .funct3 .ensures .0, c .before .match .keys2) (c .op-as2 .ensures)
+returns-2 c =
+    rw (← c .before .before .before .funct7 .ensures .0, ← c .before .before .funct3 .ensures .0, c .before .match .keys2) (c .op-as2 .ensures)
 
 returns-3 : tie.Need-returns-3
 unfolding opOf
-returns-3 c = rw (← c .before .before .before .funct7 .ensures .0, ← c .before .before .funct3 .ensures .0, c .before .match .keys3) (c .op-as3 .ensures)
+returns-3 c =
+    rw (← c .before .before .before .funct7 .ensures .0, ← c .before .before .funct3 .ensures .0, c .before .match .keys3) (c .op-as3 .ensures)
 
 returns-4 : tie.Need-returns-4
 unfolding opOf
-returns-4 c = rw (← c .before .before .before .funct7 .ensures .0, ← c .before .before .funct3 .ensures .0, c .before .match .keys4) (c .op-as4 .ensures)
+returns-4 c =
+    rw (← c .before .before .before .funct7 .ensures .0, ← c .before .before .funct3 .ensures .0, c .before .match .keys4) (c .op-as4 .ensures)
 
 returns-5 : tie.Need-returns-5
 unfolding opOf
-returns-5 c = rw (← c .before .before .before .funct7 .ensures .0, ← c .before .before .funct3 .ensures .0, c .before .match .keys5) (c .op-as5 .ensures)
+returns-5 c =
+    rw (← c .before .before .before .funct7 .ensures .0, ← c .before .before .funct3 .ensures .0, c .before .match .keys5) (c .op-as5 .ensures)
 
 returns-6 : tie.Need-returns-6
 unfolding opOf
-returns-6 c = rw (← c .before .before .before .funct7 .ensures .0, ← c .before .before .funct3 .ensures .0, c .before .match .keys6) (c .op-as6 .ensures)
+returns-6 c =
+    rw (← c .before .before .before .funct7 .ensures .0, ← c .before .before .funct3 .ensures .0, c .before .match .keys6) (c .op-as6 .ensures)
 
 returns-7 : tie.Need-returns-7
 unfolding opOf
-returns-7 c = rw (← c .before .before .before .funct7 .ensures .0, ← c .before .before .funct3 .ensures .0, c .before .match .keys7) (c .op-as7 .ensures)
+returns-7 c =
+    rw (← c .before .before .before .funct7 .ensures .0, ← c .before .before .funct3 .ensures .0, c .before .match .keys7) (c .op-as7 .ensures)
 
 returns-8 : tie.Need-returns-8
 unfolding opOf
-returns-8 c = rw (← c .before .before .before .funct7 .ensures .0, ← c .before .before .funct3 .ensures .0, c .before .match .keys8) (c .op-as8 .ensures)
+returns-8 c =
+    rw (← c .before .before .before .funct7 .ensures .0, ← c .before .before .funct3 .ensures .0, c .before .match .keys8) (c .op-as8 .ensures)
 
 returns-9 : tie.Need-returns-9
 unfolding opOf
-returns-9 c = rw (← c .before .before .before .funct7 .ensures .0, ← c .before .before .funct3 .ensures .0, c .before .match .keys9) (c .op-as9 .ensures)
+returns-9 c =
+    rw (← c .before .before .before .funct7 .ensures .0, ← c .before .before .funct3 .ensures .0, c .before .match .keys9) (c .op-as9 .ensures)
 
 returns-10 : tie.Need-returns-10
 unfolding opOf
-returns-10 c = rw (← c .before .before .before .funct7 .ensures .0, ← c .before .before .funct3 .ensures .0, c .before .match .keys10) (c .op-as10 .ensures)
+returns-10 c =
+    rw (← c .before .before .before .funct7 .ensures .0, ← c .before .before .funct3 .ensures .0, c .before .match .keys10) (c .op-as10 .ensures)
 
 returns-11 : tie.Need-returns-11
 unfolding opOf
-returns-11 c = rw (← c .before .before .funct7 .ensures .0, ← c .before .funct3 .ensures .0) (sym (select-none (c .before .before .funct7 .result * 8 + c .before .funct3 .result) ops (opAs (c .before .before .before .args .word)) Illegal (c .match .rest)))
+returns-11 c =
+    rw (← c .before .before .funct7 .ensures .0, ← c .before .funct3 .ensures .0)
+    (sym (select-none (c .before .before .funct7 .result * 8 + c .before .funct3 .result) ops (opAs (c .before .before .before .args .word)) Illegal (c .match .rest)))
 
 pub op-spec : {M : Type 1} → statement M
 op-spec =

@@ -36,27 +36,34 @@ op-32-as-requires-5 c κs = search needs
 
 returns : tie.Need-returns
 unfolding op32Of
-returns c = rw (← c .before .before .before .funct7 .ensures .0, ← c .before .before .funct3 .ensures .0, c .before .match .keys1) (c .op-32-as .ensures)
+returns c =
+    rw (← c .before .before .before .funct7 .ensures .0, ← c .before .before .funct3 .ensures .0, c .before .match .keys1) (c .op-32-as .ensures)
 
 returns-2 : tie.Need-returns-2
 unfolding op32Of
-returns-2 c = rw (← c .before .before .before .funct7 .ensures .0, ← c .before .before .funct3 .ensures .0, c .before .match .keys2) (c .op-32-as2 .ensures)
+returns-2 c =
+    rw (← c .before .before .before .funct7 .ensures .0, ← c .before .before .funct3 .ensures .0, c .before .match .keys2) (c .op-32-as2 .ensures)
 
 returns-3 : tie.Need-returns-3
 unfolding op32Of
-returns-3 c = rw (← c .before .before .before .funct7 .ensures .0, ← c .before .before .funct3 .ensures .0, c .before .match .keys3) (c .op-32-as3 .ensures)
+returns-3 c =
+    rw (← c .before .before .before .funct7 .ensures .0, ← c .before .before .funct3 .ensures .0, c .before .match .keys3) (c .op-32-as3 .ensures)
 
 returns-4 : tie.Need-returns-4
 unfolding op32Of
-returns-4 c = rw (← c .before .before .before .funct7 .ensures .0, ← c .before .before .funct3 .ensures .0, c .before .match .keys4) (c .op-32-as4 .ensures)
+returns-4 c =
+    rw (← c .before .before .before .funct7 .ensures .0, ← c .before .before .funct3 .ensures .0, c .before .match .keys4) (c .op-32-as4 .ensures)
 
 returns-5 : tie.Need-returns-5
 unfolding op32Of
-returns-5 c = rw (← c .before .before .before .funct7 .ensures .0, ← c .before .before .funct3 .ensures .0, c .before .match .keys5) (c .op-32-as5 .ensures)
+returns-5 c =
+    rw (← c .before .before .before .funct7 .ensures .0, ← c .before .before .funct3 .ensures .0, c .before .match .keys5) (c .op-32-as5 .ensures)
 
 returns-6 : tie.Need-returns-6
 unfolding op32Of
-returns-6 c = rw (← c .before .before .funct7 .ensures .0, ← c .before .funct3 .ensures .0) (sym (select-none (c .before .before .funct7 .result * 8 + c .before .funct3 .result) ops32 (op32As (c .before .before .before .args .word)) Illegal (c .match .rest)))
+returns-6 c =
+    rw (← c .before .before .funct7 .ensures .0, ← c .before .funct3 .ensures .0)
+    (sym (select-none (c .before .before .funct7 .result * 8 + c .before .funct3 .result) ops32 (op32As (c .before .before .before .args .word)) Illegal (c .match .rest)))
 
 pub op-32-spec : {M : Type 1} → statement M
 op-32-spec =

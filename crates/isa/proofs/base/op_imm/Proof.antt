@@ -67,7 +67,9 @@ returns-8 c = rw (← c .before .before .funct3 .ensures .0, c .before .match .k
 
 returns-9 : tie.Need-returns-9
 unfolding opImmOf
-returns-9 c = rw (← c .before .funct3 .ensures .0) (sym (select-none (c .before .funct3 .result) opImms (of (c .before .before .args .word)) Illegal (c .match .rest)))
+returns-9 c =
+    rw (← c .before .funct3 .ensures .0)
+    (sym (select-none (c .before .funct3 .result) opImms (of (c .before .before .args .word)) Illegal (c .match .rest)))
 
 pub op-imm-spec : {M : Type 1} → statement M
 op-imm-spec =

@@ -30,19 +30,24 @@ shift-as-requires-3 c κs = search needs
 
 returns : tie.Need-returns
 unfolding shiftOf
-returns c = rw (← c .before .before .before .funct6 .ensures .0, ← c .before .before .funct3 .ensures .0, c .before .match .keys1) (c .shift-as .ensures)
+returns c =
+    rw (← c .before .before .before .funct6 .ensures .0, ← c .before .before .funct3 .ensures .0, c .before .match .keys1) (c .shift-as .ensures)
 
 returns-2 : tie.Need-returns-2
 unfolding shiftOf
-returns-2 c = rw (← c .before .before .before .funct6 .ensures .0, ← c .before .before .funct3 .ensures .0, c .before .match .keys2) (c .shift-as2 .ensures)
+returns-2 c =
+    rw (← c .before .before .before .funct6 .ensures .0, ← c .before .before .funct3 .ensures .0, c .before .match .keys2) (c .shift-as2 .ensures)
 
 returns-3 : tie.Need-returns-3
 unfolding shiftOf
-returns-3 c = rw (← c .before .before .before .funct6 .ensures .0, ← c .before .before .funct3 .ensures .0, c .before .match .keys3) (c .shift-as3 .ensures)
+returns-3 c =
+    rw (← c .before .before .before .funct6 .ensures .0, ← c .before .before .funct3 .ensures .0, c .before .match .keys3) (c .shift-as3 .ensures)
 
 returns-4 : tie.Need-returns-4
 unfolding shiftOf
-returns-4 c = rw (← c .before .before .funct6 .ensures .0, ← c .before .funct3 .ensures .0) (sym (select-none (c .before .before .funct6 .result * 8 + c .before .funct3 .result) shifts (shiftAs (c .before .before .before .args .word)) Illegal (c .match .rest)))
+returns-4 c =
+    rw (← c .before .before .funct6 .ensures .0, ← c .before .funct3 .ensures .0)
+    (sym (select-none (c .before .before .funct6 .result * 8 + c .before .funct3 .result) shifts (shiftAs (c .before .before .before .args .word)) Illegal (c .match .rest)))
 
 pub shift-spec : {M : Type 1} → statement M
 shift-spec =

@@ -30,19 +30,24 @@ shift-32-as-requires-3 c κs = search needs
 
 returns : tie.Need-returns
 unfolding shift32Of
-returns c = rw (← c .before .before .before .funct7 .ensures .0, ← c .before .before .funct3 .ensures .0, c .before .match .keys1) (c .shift-32-as .ensures)
+returns c =
+    rw (← c .before .before .before .funct7 .ensures .0, ← c .before .before .funct3 .ensures .0, c .before .match .keys1) (c .shift-32-as .ensures)
 
 returns-2 : tie.Need-returns-2
 unfolding shift32Of
-returns-2 c = rw (← c .before .before .before .funct7 .ensures .0, ← c .before .before .funct3 .ensures .0, c .before .match .keys2) (c .shift-32-as2 .ensures)
+returns-2 c =
+    rw (← c .before .before .before .funct7 .ensures .0, ← c .before .before .funct3 .ensures .0, c .before .match .keys2) (c .shift-32-as2 .ensures)
 
 returns-3 : tie.Need-returns-3
 unfolding shift32Of
-returns-3 c = rw (← c .before .before .before .funct7 .ensures .0, ← c .before .before .funct3 .ensures .0, c .before .match .keys3) (c .shift-32-as3 .ensures)
+returns-3 c =
+    rw (← c .before .before .before .funct7 .ensures .0, ← c .before .before .funct3 .ensures .0, c .before .match .keys3) (c .shift-32-as3 .ensures)
 
 returns-4 : tie.Need-returns-4
 unfolding shift32Of
-returns-4 c = rw (← c .before .before .funct7 .ensures .0, ← c .before .funct3 .ensures .0) (sym (select-none (c .before .before .funct7 .result * 8 + c .before .funct3 .result) shifts32 (shift32As (c .before .before .before .args .word)) Illegal (c .match .rest)))
+returns-4 c =
+    rw (← c .before .before .funct7 .ensures .0, ← c .before .funct3 .ensures .0)
+    (sym (select-none (c .before .before .funct7 .result * 8 + c .before .funct3 .result) shifts32 (shift32As (c .before .before .before .args .word)) Illegal (c .match .rest)))
 
 pub shift-32-spec : {M : Type 1} → statement M
 shift-32-spec =

@@ -39,7 +39,9 @@ returns-4 c = rw (← c .before .before .funct3 .ensures .0, c .before .match .k
 
 returns-5 : tie.Need-returns-5
 unfolding storeOf
-returns-5 c = rw (← c .before .funct3 .ensures .0) (sym (select-none (c .before .funct3 .result) stores (storeAs (c .before .before .args .word)) Illegal (c .match .rest)))
+returns-5 c =
+    rw (← c .before .funct3 .ensures .0)
+    (sym (select-none (c .before .funct3 .result) stores (storeAs (c .before .before .args .word)) Illegal (c .match .rest)))
 
 pub store-spec : {M : Type 1} → statement M
 store-spec =

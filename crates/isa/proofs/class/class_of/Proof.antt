@@ -28,11 +28,18 @@ array-read-result c = search needs
 
 returns : tie.Need-returns
 unfolding classOf table right
-returns c = let w = c .before .args .word in let k = w / 4 % 32 in let low : w / 1 ≡ w = omega arith in rw (low, eq-eqb _ _ (c .if1 .taken)) (eqb→eq (getD table k 0) (classAt k) (rule-at right table tt k (omega arith)))
+returns c =
+    let w = c .before .args .word in
+    let k = w / 4 % 32 in
+    let low : w / 1 ≡ w = omega arith in
+    rw (low, eq-eqb _ _ (c .if1 .taken)) (eqb→eq (getD table k 0) (classAt k) (rule-at right table tt k (omega arith)))
 
 returns-2 : tie.Need-returns-2
 unfolding classOf table right
-returns-2 c = let w = c .before .args .word in let low : w / 1 ≡ w = omega arith in rw (low, ne-eqb _ _ (c .if1 .left))
+returns-2 c =
+    let w = c .before .args .word in
+    let low : w / 1 ≡ w = omega arith in
+    rw (low, ne-eqb _ _ (c .if1 .left))
 
 pub class-of-spec : {M : Type 1} → statement M
 class-of-spec =
