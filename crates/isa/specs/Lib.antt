@@ -1,2 +1,5 @@
 -- What a word is.
 pub mod Width
+pub mod Fields
+pub mod Decode
+pub mod Wf

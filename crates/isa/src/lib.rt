@@ -2,6 +2,12 @@
 ghost use mathlib.Core.Path.{_≡_};
 ghost use Prim.Native.Nat.{_≤_, _<_};
 ghost use Rattle.isa.specs.Width.{bitsOf, bytesOf};
+ghost use Rattle.isa.specs.Decode.{decodeOf};
+
+mod amo;
+mod base;
+pub mod class;
+mod fields;
 
 pub enum LoadOp {
     Lb,
@@ -171,5 +177,27 @@ pub fn bytes_of(w: Width) -> usize
     match w {
         Width::Word => 4,
         Width::Double => 8,
+    }
+}
+
+pub fn decode(word: u32) -> Instr
+    ensures { λ r. ⌜ r ≡ decodeOf word ⌝ }
+{
+    match class::class_of(word) {
+        class::LOAD => base::load(word),
+        class::MISC_MEM => base::misc_mem(word),
+        class::OP_IMM => base::op_imm(word),
+        class::AUIPC => base::auipc(word),
+        class::OP_IMM_32 => base::op_imm_32(word),
+        class::STORE => base::store(word),
+        class::AMO => amo::atomic(word),
+        class::OP => base::op(word),
+        class::LUI => base::lui(word),
+        class::OP_32 => base::op_32(word),
+        class::BRANCH => base::branch(word),
+        class::JALR => base::jalr(word),
+        class::JAL => base::jal(word),
+        class::SYSTEM => base::system(word),
+        _ => Instr::Illegal,
     }
 }

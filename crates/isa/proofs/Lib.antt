@@ -1,0 +1,4 @@
+-- The laws of decoded words.
+pub mod OffsetLaws
+pub mod DecodeLaws
+pub mod Vectors
