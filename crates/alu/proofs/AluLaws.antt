@@ -1,7 +1,7 @@
 -- The integer operations, each law over the width k. Assumes nothing.
 use mathlib.Core.Path.{_≡_, refl, sym, ap, _∙_}
 use mathlib.Core.Bool.{Bool, true, false, cond}
-use Prim.Native.Nat.{ℕ, _+_, _*_, _-_, _/_, _%_, _^_, _≤_, _<_}
+use Prim.Native.Nat.{ℕ, _+_, _-_, _%_, _^_, _≤_, _<_}
 use native.Mathlib.Nat.{mod-add-mod, add-mod-right, mod-lt, lt-of-le-of-lt}
 use native.Mathlib.Omega.{arith}
 use lib.IntN.{ℤ}
@@ -10,7 +10,7 @@ use lib.Dec.{ltb}
 use lib.Pow.{pow-lt, shr-le, pow-pos, pow-mono}
 use lib.Signed.{mag, ltZ, shrZ, mag-shr}
 use mir.Syntax.{w64}
-use mir.Val.{toZ, ofZ, SFits, boolByte}
+use mir.Val.{toZ, ofZ, boolByte}
 use mir.Facts.{toZ-ofZ}
 use Rattle.isa.specs.declared.AluOp.{AluOp}
 use Rattle.isa.specs.declared.AluOp.the-variants.{Add, Sub, Sll, Slt, Sltu, Xor, Srl, Sra, Or, And}
@@ -55,9 +55,9 @@ flag-lt t k some = cond-all (λ (n : ℕ). n < 2 ^ k) t 1 0 (pow-lt {i = 0} some
 -- each operation on numbers of k bits gives one
 pub aluOf-lt : (op : AluOp) (k a b : ℕ) → 0 < k → a < 2 ^ k → b < 2 ^ k → aluOf op k a b < 2 ^ k
 unfolding aluOf
-aluOf-lt Add k a b some ha hb = mod-lt (a + b) (pow-pos k)
-aluOf-lt Sub k a b some ha hb = mod-lt (a + (2 ^ k - b)) (pow-pos k)
-aluOf-lt Sll k a b some ha hb = mod-lt (a * 2 ^ (b % k)) (pow-pos k)
+aluOf-lt Add k a b some ha hb = mod-lt _ (pow-pos k)
+aluOf-lt Sub k a b some ha hb = mod-lt _ (pow-pos k)
+aluOf-lt Sll k a b some ha hb = mod-lt _ (pow-pos k)
 aluOf-lt Slt k a b some ha hb = flag-lt (ltZ (toInt k a) (toInt k b)) k some
 aluOf-lt Sltu k a b some ha hb = flag-lt (ltb a b) k some
 aluOf-lt Xor k a b some ha hb = xor-lt k a b ha hb

@@ -49,7 +49,7 @@ toLe-low (suc n) a b =
     let q : (a + 256 ^ suc n * b) / 256 ≡ a / 256 + 256 ^ n * b = omega arith in
     ap₂ (λ (x : ℕ) (xs : List ℕ). x ∷ xs) r (ap (toLe n) q ∙ toLe-low n (a / 256) b)
 
-pub toLe-pair : (n a b : ℕ) → a < 256 ^ n → toLe (n + n) (a + 256 ^ n * b) ≡ toLe n a ++ toLe n b
+toLe-pair : (n a b : ℕ) → a < 256 ^ n → toLe (n + n) (a + 256 ^ n * b) ≡ toLe n a ++ toLe n b
 toLe-pair n a b h =
     toLe-append n n (a + 256 ^ n * b) ∙ ap₂ (λ (x y : List ℕ). x ++ y) (toLe-low n a b) (ap (toLe n) (high-half (256 ^ n) a b h))
 

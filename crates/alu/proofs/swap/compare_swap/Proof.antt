@@ -1,4 +1,5 @@
-use mathlib.Core.Path.{refl, sym, _∙_}
+use mathlib.Core.Path.{_≡_, refl, sym, _∙_}
+use Rattle.word.specs.Bytes.{le}
 use borrow.Author.Tests.{eq-eqb, ne-eqb}
 use borrow.Author.Needs.{needs}
 use Rattle.alu.proofs.swap.compare_swap.Statement.{statement}
@@ -23,8 +24,10 @@ same-length c = search needs
 -- src/swap.rt:22:1
 returns : tie.Need-returns
 returns c =
+    let x = c .before .before .before .before .before .before .before .before .args in
     let old = c .before .before .before .before .before .load-le .ensures in
-    (old, rw (eq-eqb _ _ (sym old ∙ c .before .before .before .before .if1 .taken)) (c .before .before .store-le .ensures))
+    let equal : le (x .bytes .now) ≡ x .want = sym old ∙ c .before .before .before .before .if1 .taken in
+    (old, rw (eq-eqb _ _ equal) (c .before .before .store-le .ensures))
 
 -- src/swap.rt:22:1
 same-length-2 : tie.Need-same-length-2
@@ -33,8 +36,10 @@ same-length-2 c = search needs
 -- src/swap.rt:22:1
 returns-2 : tie.Need-returns-2
 returns-2 c =
+    let x = c .before .before .before .before .args in
     let old = c .before .load-le .ensures in
-    (old, rw (ne-eqb _ _ (λ e. c .if1 .left (old ∙ e))) refl)
+    let unequal : le (x .bytes .now) ≡ x .want → ⊥ = λ e. c .if1 .left (old ∙ e) in
+    (old, rw (ne-eqb _ _ unequal) refl)
 
 pub compare-swap-spec : {M : Type 1} → statement M
 compare-swap-spec =
