@@ -1,0 +1,2 @@
+-- The events one after another.
+pub mod EventLaws

@@ -1,0 +1,2 @@
+-- The events of a case.
+pub mod Events
