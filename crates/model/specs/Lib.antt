@@ -1,0 +1,4 @@
+-- The machine.
+pub mod Act
+pub mod Perform
+pub mod Run

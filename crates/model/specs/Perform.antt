@@ -1,0 +1,71 @@
+-- The machine: what each event does to a state and a memory at a base.
+use mathlib.Core.Path.{_≡_}
+use Prim.Native.Nat.{ℕ}
+use mathlib.Core.Bool.{Bool, cond, _&&_}
+use mathlib.Core.List.{List, [], _∷_}
+use lib.Dec.{eqb, ltb, leb}
+use lib.ListN.{length, getD}
+use Rattle.word.specs.Bytes.{toLe}
+use Rattle.reserve.specs.Range.{insideOf}
+use Rattle.reserve.specs.Reserve.{slot, coversOf}
+use Rattle.reserve.specs.declared.Reservation.{Reservation}
+use Rattle.reserve.specs.declared.Reservation.the-variants.{None}
+use Rattle.machine.specs.State.{refusalOf}
+use Rattle.machine.specs.declared.State.{State}
+use Rattle.effect.specs.Effect.{Exec, trap, effect}
+use Rattle.effect.specs.Memory.{valueAt}
+use Rattle.effect.specs.Execute.{regAt, executeWord}
+use Rattle.events.specs.declared.Event.{Event}
+use Rattle.events.specs.declared.Event.the-variants.{Step, Device, Yield}
+use Rattle.model.specs.Act.{Act, refuse, fault, change, put, release, told, apply, leaves}
+use Rattle.model.specs.declared.Outcome.{Outcome}
+use Rattle.model.specs.declared.Answer.{Answer}
+
+-- a hart's reservation
+abbrev pub reservationOf : State → ℕ → Reservation
+reservationOf s h = getD (s .res) h (slot None) .reservation
+
+-- 01: cause 1, "the word at pc isn't wholly in memory", value "pc"; then what the word there does. x gives the hart's registers
+unfoldable pub fetchOf : (ℕ → ℕ) → ℕ → ℕ → List ℕ → (ℕ → ℕ → Bool) → Exec
+fetchOf x pc base mem covered =
+    cond (insideOf base (length mem) pc 4) (executeWord 64 (valueAt base mem pc 4) x pc base mem covered) (trap 1 pc)
+
+-- hart h's step
+abbrev pub stepOf : ℕ → List ℕ → State → ℕ → Exec
+stepOf base mem s h = fetchOf (regAt (s .x) h) (getD (s .pc) h 0) base mem (coversOf 64 (reservationOf s h))
+
+abbrev pub ofExec : ℕ → Exec → Act
+ofExec h (trap cause value) = fault cause value
+ofExec h (effect ws to t) = change h ws to t
+
+-- 01: refusals 3, "hart number not below the count", 4, "device write of 0 or more than 8 bytes", and 5, "device write not wholly inside memory"
+unfoldable pub actOn : ℕ → List ℕ → State → Event → Act
+actOn base mem s (Step h) = cond (ltb h (s .count)) (ofExec h (stepOf base mem s h)) (refuse 3)
+actOn base mem s (Device a n v) =
+    cond (leb 1 n && leb n 8) (cond (insideOf base (length mem) a n) (put a (toLe n v)) (refuse 5)) (refuse 4)
+actOn base mem s (Yield h) = cond (ltb h (s .count)) (release h) (refuse 3)
+
+-- refusals 1 and 2 first
+unfoldable pub actOf : ℕ → List ℕ → State → Event → Act
+actOf base mem s e =
+    cond (eqb (refusalOf base (length mem) s) 0) (actOn base mem s e) (refuse (refusalOf base (length mem) s))
+
+-- a state and a memory
+pub record Machine : Type 0 where
+  pub state : State
+  pub mem : List ℕ
+
+-- the answer to an event, the state with it, and the memory afterwards
+unfoldable pub answerOf : ℕ → List ℕ → State → Event → Answer
+answerOf base mem s e = record { outcome = told (actOf base mem s e); state = apply 64 s (actOf base mem s e) }
+
+unfoldable pub memoryOf : ℕ → List ℕ → State → Event → List ℕ
+memoryOf base mem s e = leaves base mem (actOf base mem s e)
+
+-- the machine after an event, and after events one after another: each gets what the one before left
+unfoldable pub nextOf : ℕ → Machine → Event → Machine
+nextOf base m e = record { state = answerOf base (m .mem) (m .state) e .state; mem = memoryOf base (m .mem) (m .state) e }
+
+unfoldable pub runOf : ℕ → Machine → List Event → Machine
+runOf base m [] = m
+runOf base m (e ∷ es) = runOf base (nextOf base m e) es
