@@ -1,2 +1,3 @@
 -- The state of the machine.
 pub mod State
+pub mod Rules

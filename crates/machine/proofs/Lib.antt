@@ -1,0 +1,2 @@
+-- The laws of refusals 1 and 2.
+pub mod StateLaws

@@ -1,0 +1,34 @@
+-- The rules of 01, "The machine", without tests: what refusals 1 and 2 ask of a memory and a state.
+use mathlib.Core.Path.{_≡_}
+use mathlib.Core.Logic.{_⊎_}
+use Prim.Native.Nat.{ℕ, _*_, _%_, _^_, _≤_, _<_}
+use lib.ListN.{getD, length}
+use Rattle.reserve.specs.Range.{Inside}
+use Rattle.reserve.specs.Reserve.{slot}
+use Rattle.reserve.specs.declared.Reservation.{Reservation}
+use Rattle.reserve.specs.declared.Reservation.the-variants.{None, Held}
+use Rattle.machine.specs.declared.State.{State}
+
+-- "One lent memory, 64 to 1,048,576 bytes, a multiple of 64, at a base address that is a multiple of 64 and at most 2^40."
+abbrev pub MemoryRules : ℕ → ℕ → Type 0
+MemoryRules base len = (64 ≤ len) × (len ≤ 1048576) × (len % 64 ≡ 0) × (base % 64 ≡ 0) × (base ≤ 2 ^ 40)
+
+-- "at most one reservation: the address and width (4 or 8) of the LR that made it", aligned to the width and inside memory
+abbrev pub ReservationRules : ℕ → ℕ → Reservation → Type 0
+ReservationRules base len None = Unit {0}
+ReservationRules base len (Held a w) = ((w ≡ 4) ⊎ (w ≡ 8)) × (a % w ≡ 0) × Inside base len a w
+
+-- "x0 zero, a pc that is a multiple of 4": hart k
+abbrev pub HartRules : ℕ → ℕ → State → ℕ → Type 0
+HartRules base len s k =
+    (getD (s .x) (k * 32) 0 ≡ 0) × (getD (s .pc) k 0 % 4 ≡ 0) × ReservationRules base len (getD (s .res) k (slot None) .reservation)
+
+-- "1 to 8 harts"; only those below the count are looked at
+abbrev pub StateRules : ℕ → ℕ → State → Type 0
+StateRules base len s = (1 ≤ s .count) × (s .count ≤ 8) × ((k : ℕ) → k < s .count → HartRules base len s k)
+
+-- the lengths of a state's arrays, which its type fixes
+pub record Shaped (s : State) : Type 0 where
+  pub registers : length (s .x) ≡ 256
+  pub counters : length (s .pc) ≡ 8
+  pub reservations : length (s .res) ≡ 8
