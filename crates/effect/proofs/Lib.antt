@@ -1,2 +1,3 @@
 -- The laws of the definitions of `specs/`.
 pub mod Sound
+pub mod Fits
