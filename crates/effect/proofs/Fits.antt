@@ -1,16 +1,16 @@
 -- What every instruction writes to registers fits them, and memory keeps its length and stays bytes. Assumes nothing.
-use Prim.Native.Nat.{ℕ, zero, suc, _+_, _*_, _-_, _/_, _%_, _^_, _≤_, _<_}
-use mathlib.Core.Path.{_≡_, refl, sym, _∙_, subst}
-use mathlib.Core.Bool.{Bool, true, false, cond}
+use Prim.Native.Nat.{ℕ, zero, suc, _+_, _-_, _/_, _%_, _^_, _≤_, _<_}
+use mathlib.Core.Path.{_≡_, refl}
+use mathlib.Core.Bool.{Bool, true, false}
 use mathlib.Core.List.{List, [], _∷_}
 use native.Mathlib.Nat.{mod-lt, div-lt-iff-lt-mul, pow-le-pow-right, lt-of-lt-of-le}
 use native.Mathlib.Omega.{arith}
-use lib.ListN.{length, getD, take, drop, length-take}
+use lib.ListN.{length, take, drop, length-take}
 use lib.Dec.{eqb, lit<, lit≤}
 use lib.Pow.{pow-pos}
 use Rattle.word.specs.Word.{low, signExtend}
-use Rattle.word.specs.Bytes.{le, toLe, IsBytes}
-use Rattle.word.specs.Memory.{part, splice}
+use Rattle.word.specs.Bytes.{toLe, IsBytes}
+use Rattle.word.specs.Memory.{part}
 use Rattle.word.proofs.BytesLaws.{le-lt, bytes-drop, bytes-toLe}
 use Rattle.word.proofs.WordLaws.{signExtend-lt}
 use Rattle.word.proofs.MemoryLaws.{length-splice, bytes-splice}
@@ -28,12 +28,12 @@ use Rattle.isa.specs.declared.AtomicOp.the-variants.{Lr, Sc, Cas, CasPair, Rmw}
 use Rattle.isa.specs.declared.Atomic.{Atomic}
 use Rattle.isa.specs.declared.Instr.{Instr}
 use Rattle.isa.specs.declared.Instr.the-variants.{Illegal, Lui, Auipc, Jal, Jalr, Branch, Load, Store, OpImm, OpImm32, Op, Op32, Fence, Ecall, Ebreak, Amo}
-use Rattle.effect.specs.Effect.{Writes, none, one, pair, Touch, nothing, reserve, store, scStore, scLose, Exec, trap, effect, offset, nextOf, stored, leaves}
+use Rattle.effect.specs.Effect.{none, pair, nothing, reserve, store, scStore, scLose, Exec, trap, effect, offset, nextOf, leaves}
 use Rattle.effect.specs.Integer.{computed, execJump, even, holdsOf, execBranch}
 use Rattle.effect.specs.Memory.{faultOf, checked, valueAt, loadBytes, extended, storeBytes, execLoad, execStore}
 use Rattle.effect.specs.Atomic.{swapped, pairWrites, execLr, execSc, execAmo, execCas, execCasPair}
 use Rattle.effect.specs.Execute.{pairAt, atomicBy, execAtomic, execute, executeWord}
-use Rattle.effect.specs.Sound.{TouchOk, Sound, TouchFits, WritesFit, Fits}
+use Rattle.effect.specs.Sound.{Sound, TouchFits, WritesFit, Fits}
 
 -- ---- values
 

@@ -8,7 +8,7 @@ use native.Mathlib.Omega.{arith}
 use lib.Dec.{eqb}
 use borrow.Author.Tests.{eqb-true, eqb-false, eq-eqb, ne-eqb}
 use Rattle.word.proofs.TestLaws.{bool-cases, contrary}
-use Rattle.reserve.specs.Range.{Touch, touches, Inside, insideOf, setOf}
+use Rattle.reserve.specs.Range.{Touch, touches, setOf}
 use Rattle.reserve.specs.Reserve.{coversOf, breaksOf, ownOf, observeOf}
 use Rattle.reserve.specs.declared.Reservation.{Reservation}
 use Rattle.reserve.specs.declared.Reservation.the-variants.{None, Held}
