@@ -4,3 +4,4 @@ pub mod Integer
 pub mod Memory
 pub mod Atomic
 pub mod Execute
+pub mod Sound

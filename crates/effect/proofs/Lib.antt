@@ -1,0 +1,4 @@
+-- The laws of the definitions of `specs/`.
+pub mod Sound
+pub mod Fits
+pub mod TrapLaws

@@ -1,0 +1,94 @@
+-- The table of traps (01, "Traps"), read without tests: which cause and value, and when none. Cause 1 is of the fetch. Assumes nothing.
+use Prim.Native.Nat.{ℕ, _%_, _<_}
+use mathlib.Core.Path.{_≡_, refl}
+use mathlib.Core.Bool.{Bool, true, false}
+use mathlib.Core.List.{List}
+use native.Mathlib.Omega.{arith}
+use borrow.Author.Tests.{eq-eqb, ne-eqb}
+use Rattle.word.proofs.TestLaws.{bool-cases}
+use Rattle.reserve.specs.Range.{Inside, insideOf}
+use Rattle.reserve.proofs.RangeLaws.{inside-of, of-inside}
+use Rattle.isa.specs.Width.{bytesOf}
+use Rattle.isa.specs.Decode.{decodeOf}
+use Rattle.isa.specs.declared.Width.{Width}
+use Rattle.isa.specs.declared.Instr.the-variants.{Illegal, Ecall, Ebreak}
+use Rattle.effect.specs.Effect.{Exec, trap, effect, none, one, nothing, scLose, scStore, nextOf}
+use Rattle.effect.specs.Integer.{execJump, execBranch}
+use Rattle.effect.specs.Memory.{faultOf, checked}
+use Rattle.effect.specs.Atomic.{execSc}
+use Rattle.effect.specs.Execute.{execute, executeWord}
+use Rattle.word.specs.Bytes.{toLe}
+
+-- causes 4 to 7: an access of n bytes at a, in a memory of len bytes at base. A load or LR has causes 4 and 5, a store or AMO 6 and 7
+module _ (misaligned outside a n base len : ℕ) (some : 0 < misaligned) (more : 0 < outside) (e : Exec) where
+  caused : (cause : ℕ) → faultOf misaligned outside a n base len ≡ cause → 0 < cause
+      → checked misaligned outside a n base len e ≡ trap cause a
+  unfolding checked
+  caused cause f pos = rw (f, ne-eqb cause 0 (λ z. omega arith))
+
+  pub misaligned-traps : (a % n ≡ 0 → ⊥) → checked misaligned outside a n base len e ≡ trap misaligned a
+  unfolding faultOf
+  misaligned-traps d = caused misaligned (rw (ne-eqb (a % n) 0 d)) some
+
+  not-inside : (Inside base len a n → ⊥) → insideOf base len a n ≡ false
+  not-inside d = bool-cases (insideOf base len a n) (λ t. absurd (d (inside-of base len a n t))) (λ f. f)
+
+  pub outside-traps : a % n ≡ 0 → (Inside base len a n → ⊥) → checked misaligned outside a n base len e ≡ trap outside a
+  unfolding faultOf
+  outside-traps al d = caused outside (rw (eq-eqb (a % n) 0 al, not-inside d)) more
+
+  pub access-retires : a % n ≡ 0 → Inside base len a n → checked misaligned outside a n base len e ≡ e
+  unfolding checked faultOf
+  access-retires al i = rw (eq-eqb (a % n) 0 al, of-inside base len a n i)
+
+module _ (xlen pc : ℕ) where
+  -- cause 0: JAL and JALR, and a taken branch
+  pub jump-traps : (rd to : ℕ) → (to % 4 ≡ 0 → ⊥) → execJump xlen rd to pc ≡ trap 0 to
+  unfolding execJump
+  jump-traps rd to d = rw (ne-eqb (to % 4) 0 d)
+
+  pub jump-retires : (rd to : ℕ) → to % 4 ≡ 0 → execJump xlen rd to pc ≡ effect (one rd (nextOf xlen pc)) to nothing
+  unfolding execJump
+  jump-retires rd to al = rw (eq-eqb (to % 4) 0 al)
+
+  pub branch-traps : (to : ℕ) → (to % 4 ≡ 0 → ⊥) → execBranch xlen true to pc ≡ trap 0 to
+  unfolding execBranch
+  branch-traps to d = rw (ne-eqb (to % 4) 0 d)
+
+  pub branch-taken : (to : ℕ) → to % 4 ≡ 0 → execBranch xlen true to pc ≡ effect none to nothing
+  unfolding execBranch
+  branch-taken to al = rw (eq-eqb (to % 4) 0 al)
+
+  pub branch-passed : (to : ℕ) → execBranch xlen false to pc ≡ effect none (nextOf xlen pc) nothing
+  unfolding execBranch
+  branch-passed to = refl
+
+  -- cause 6 of an SC, which has no cause 7
+  module _ (w : Width) (rd a v : ℕ) (covered : ℕ → ℕ → Bool) where
+    pub sc-traps : (a % bytesOf w ≡ 0 → ⊥) → execSc xlen w rd a v pc covered ≡ trap 6 a
+    unfolding execSc
+    sc-traps d = rw (ne-eqb (a % bytesOf w) 0 d)
+
+    pub sc-succeeds : a % bytesOf w ≡ 0 → covered a (bytesOf w) ≡ true
+        → execSc xlen w rd a v pc covered ≡ effect (one rd 0) (nextOf xlen pc) (scStore a (toLe (bytesOf w) v))
+    unfolding execSc
+    sc-succeeds al c = rw (eq-eqb (a % bytesOf w) 0 al, c)
+
+    pub sc-fails : a % bytesOf w ≡ 0 → covered a (bytesOf w) ≡ false
+        → execSc xlen w rd a v pc covered ≡ effect (one rd 1) (nextOf xlen pc) scLose
+    unfolding execSc
+    sc-fails al c = rw (eq-eqb (a % bytesOf w) 0 al, c)
+
+-- causes 2, 8 and 3
+module _ (xlen word : ℕ) (x : ℕ → ℕ) (pc base : ℕ) (mem : List ℕ) (covered : ℕ → ℕ → Bool) where
+  pub illegal-traps : decodeOf word ≡ Illegal → executeWord xlen word x pc base mem covered ≡ trap 2 word
+  unfolding executeWord execute
+  illegal-traps e = rw e
+
+  pub ecall-traps : decodeOf word ≡ Ecall → executeWord xlen word x pc base mem covered ≡ trap 8 0
+  unfolding executeWord execute
+  ecall-traps e = rw e
+
+  pub ebreak-traps : decodeOf word ≡ Ebreak → executeWord xlen word x pc base mem covered ≡ trap 3 0
+  unfolding executeWord execute
+  ebreak-traps e = rw e

@@ -1,0 +1,2 @@
+-- The history that a reservation stands for.
+pub mod History

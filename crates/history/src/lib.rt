@@ -1,0 +1,1 @@
+// Theorems only: what the history of events says of a reservation.

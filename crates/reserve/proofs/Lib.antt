@@ -1,0 +1,2 @@
+-- The laws of ranges of bytes.
+pub mod RangeLaws
