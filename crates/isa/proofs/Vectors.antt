@@ -6,7 +6,6 @@ use Rattle.isa.specs.Decode.{decodeOf, classOf, atomicOf, sizedOf, lrOf,
 use Rattle.isa.specs.declared.AtomicOp.the-variants.{Lr, Sc}
 use Rattle.isa.specs.declared.Width.the-variants.{Word}
 use Rattle.isa.specs.declared.BranchOp.the-variants.{Ne}
-use Rattle.isa.specs.declared.Instr.{Instr}
 use Rattle.isa.specs.declared.Instr.the-variants.{Illegal, Amo, Branch}
 
 -- lr.w x6,(x5)

@@ -85,11 +85,12 @@ classes =
     28 ⇒ SYSTEM ∷
     []
 
-abbrev pub itself : ℕ → ℕ
-itself n = n
+-- of a table whose rows are the answers
+abbrev pub same : {A : Type 0} → A → A
+same a = a
 
 abbrev pub classAt : ℕ → ℕ
-classAt n = select n classes itself 0
+classAt n = select n classes same 0
 
 -- 01: "The classes of the 32 values of bits 6 to 2 are one table; bits 1 and 0 are both 1"
 unfoldable pub classOf : ℕ → ℕ
@@ -234,9 +235,6 @@ miscMemOf w = cond (eqb (funct3Of w) 0) (Fence (rdOf w) (rs1Of w) (bits 31 20 w)
 -- SYSTEM: two whole words, 01: "ECALL (0x00000073), EBREAK (0x00100073)"; the CSR instructions, which 01 leaves out, are the rest
 abbrev pub systems : List (Row Instr)
 systems = 0x00000073 ⇒ Ecall ∷ 0x00100073 ⇒ Ebreak ∷ []
-
-abbrev pub same : Instr → Instr
-same i = i
 
 unfoldable pub systemOf : ℕ → Instr
 systemOf w = select w systems same Illegal

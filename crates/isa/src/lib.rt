@@ -180,6 +180,7 @@ pub fn bytes_of(w: Width) -> usize
     }
 }
 
+// What a word is; Illegal is every word that document 01 gives cause 2.
 pub fn decode(word: u32) -> Instr
     ensures { λ r. ⌜ r ≡ decodeOf word ⌝ }
 {
