@@ -2,3 +2,4 @@
 pub mod Act
 pub mod Perform
 pub mod Run
+pub mod Valid

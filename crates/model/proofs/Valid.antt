@@ -1,0 +1,197 @@
+-- Every event keeps a machine that refusals 1 and 2 don't refuse one of that kind. Assumes nothing.
+use mathlib.Core.Path.{_≡_, refl, sym, ap, _∙_, subst}
+use mathlib.Core.Logic.{⊎-elim}
+use mathlib.Core.Bool.{Bool, true, false, cond, _&&_}
+use mathlib.Core.List.{List, [], _∷_}
+use Prim.Native.Nat.{ℕ, zero, suc, _+_, _-_, _*_, _%_, _≤_, _<_}
+use native.Mathlib.Omega.{arith}
+use lib.Dec.{eqb, ltb, leb}
+use lib.ListN.{length, getD, set, List·getD-eq-default}
+use lib.Seq.{getD-set-other}
+use borrow.Author.Tests.{eqb-true, eqb-false, ltb-true, eq-eqb}
+use Rattle.word.specs.Bytes.{toLe}
+use Rattle.word.specs.Memory.{splice}
+use Rattle.word.specs.Each.{each}
+use Rattle.word.proofs.BytesLaws.{length-toLe}
+use Rattle.word.proofs.MemoryLaws.{length-splice}
+use Rattle.word.proofs.WordLaws.{split-lt}
+use Rattle.word.proofs.ChooseLaws.{cond-all}
+use Rattle.word.proofs.TestLaws.{bool-cases, and-both}
+use Rattle.word.proofs.EachLaws.{each-at, length-each}
+use Rattle.reserve.specs.Range.{Inside, insideOf}
+use Rattle.reserve.specs.Reserve.{slot, coversOf, breaksOf, ownOf, observeOf, observeSlot, observeAllOf}
+use Rattle.reserve.specs.declared.Reservation.{Reservation}
+use Rattle.reserve.specs.declared.Reservation.the-variants.{None, Held}
+use Rattle.reserve.specs.declared.Slot.{Slot}
+use Rattle.reserve.specs.declared.Notice.{Notice}
+use Rattle.reserve.specs.declared.Notice.the-variants.{Quiet, LoadReserved, ScDone, ScFailed, Write, DeviceWrite, Yield}
+use Rattle.reserve.proofs.RangeLaws.{inside-of, cover-inside, none-covers}
+use Rattle.machine.specs.Rules.{MemoryRules, ReservationRules, HartRules, StateRules}
+use Rattle.machine.specs.State.{refusalOf}
+use Rattle.machine.specs.declared.State.{State}
+use Rattle.machine.proofs.StateLaws.{refusal-0}
+use Rattle.effect.specs.Effect.{Writes, none, one, pair, Touch, nothing, reserve, store, scStore, scLose, Exec, trap, effect, stored, noticeOf}
+use Rattle.effect.specs.Atomic as A
+use Rattle.effect.specs.Execute.{regAt}
+use Rattle.effect.specs.Memory.{valueAt}
+use Rattle.effect.specs.Sound.{TouchOk, Sound}
+use Rattle.effect.proofs.Sound.{sound}
+use Rattle.events.specs.declared.Event.{Event}
+use Rattle.events.specs.declared.Event.the-variants.{Step, Device, Yield as YieldOf}
+use Rattle.model.specs.Act.{Act, refuse, fault, change, put, release, setReg, written, noticed, apply, leaves}
+use Rattle.model.specs.Perform.{Machine, reservationOf, fetchOf, stepOf, ofExec, actOn, actOf, answerOf, memoryOf, nextOf, runOf}
+use Rattle.model.specs.Valid.{Valid, ActOk}
+
+-- what holds of the value set and of the element before holds of the element after
+set-all : {A : Type 0} (P : A → Type 0) (l : List A) (i k : ℕ) (v d : A) → P v → P (getD l k d) → P (getD (set l i v) k d)
+set-all P [] i k v d p q = q
+set-all P (a ∷ l) zero zero v d p q = p
+set-all P (a ∷ l) zero (suc k) v d p q = q
+set-all P (a ∷ l) (suc i) zero v d p q = q
+set-all P (a ∷ l) (suc i) (suc k) v d p q = set-all P l i k v d p q
+
+-- x0 of every hart stays
+x0-set : (h r v k : ℕ) (x : List ℕ) → getD (setReg h r v x) (k * 32) 0 ≡ getD x (k * 32) 0
+unfolding setReg
+x0-set h r v k x =
+    bool-cases (eqb (r % 32) 0) (λ t. rw t)
+    (λ f. rw f (getD-set-other x (h * 32 + r % 32) (k * 32) v 0 (λ e. eqb-false (r % 32) 0 f (omega arith))))
+
+x0-written : (h : ℕ) (ws : Writes) (k : ℕ) (x : List ℕ) → getD (written h ws x) (k * 32) 0 ≡ getD x (k * 32) 0
+x0-written h none k x = refl
+x0-written h (one r v) k x = x0-set h r v k x
+x0-written h (pair r v r2 v2) k x = x0-set h r2 v2 k (setReg h r v x) ∙ x0-set h r v k x
+
+module _ (base len : ℕ) where
+  -- the reservation that a notice makes is well formed
+  NoticeOk : Notice → Type 0
+  NoticeOk Quiet = Unit {0}
+  NoticeOk (LoadReserved g a w) = ReservationRules base len (Held a w)
+  NoticeOk (ScDone g b n) = Unit {0}
+  NoticeOk (ScFailed g) = Unit {0}
+  NoticeOk (Write g b n) = Unit {0}
+  NoticeOk (DeviceWrite b n) = Unit {0}
+  NoticeOk (Yield g) = Unit {0}
+
+  own-ok : (h : ℕ) (n : Notice) (r : Reservation) → NoticeOk n → ReservationRules base len r → ReservationRules base len (ownOf h n r)
+  unfolding ownOf NoticeOk
+  own-ok h Quiet r o k = k
+  own-ok h (LoadReserved g a w) r o k = cond-all (ReservationRules base len) (eqb g h) (Held a w) r o k
+  own-ok h (ScDone g b n) r o k = cond-all (ReservationRules base len) (eqb g h) None r tt k
+  own-ok h (ScFailed g) r o k = cond-all (ReservationRules base len) (eqb g h) None r tt k
+  own-ok h (Write g b n) r o k = k
+  own-ok h (DeviceWrite b n) r o k = k
+  own-ok h (Yield g) r o k = cond-all (ReservationRules base len) (eqb g h) None r tt k
+
+  observed-ok : (size h : ℕ) (n : Notice) (r : Reservation) → NoticeOk n → ReservationRules base len r → ReservationRules base len (observeOf size h n r)
+  unfolding observeOf
+  observed-ok size h n r o k = cond-all (ReservationRules base len) (breaksOf size h n r) None (ownOf h n r) tt (own-ok h n r o k)
+
+  noticed-ok : (size : ℕ) (s : State) (n : Notice) (k : ℕ) → NoticeOk n → k < s .count → ReservationRules base len (reservationOf s k)
+      → ReservationRules base len (getD (noticed size s n) k (slot None) .reservation)
+  unfolding observeAllOf
+  noticed-ok size s n k o h r =
+      ⊎-elim
+      (λ (l : k < length (s .res)). rw (each-at (observeSlot size n) (s .count) k (s .res) (slot None) h l) (observed-ok size k n (reservationOf s k) o r))
+      (λ (g : length (s .res) ≤ k).
+      rw (List·getD-eq-default (each (observeSlot size n) (s .count) (s .res)) (slot None) {n = k} (rw (length-each (observeSlot size n) (s .count) (s .res)) g)) tt)
+      (split-lt k (length (s .res)))
+
+  touch-notice : (h : ℕ) (t : Touch) → TouchOk base len t → NoticeOk (noticeOf h t)
+  unfolding NoticeOk
+  touch-notice h nothing o = tt
+  touch-notice h (reserve a w) o = (o .0, o .1 .0, o .1 .1)
+  touch-notice h (store a bs) o = tt
+  touch-notice h (scStore a bs) o = tt
+  touch-notice h scLose o = tt
+
+  -- an act keeps the rules of the state
+  pub apply-rules : (size : ℕ) (s : State) (act : Act) → ActOk base len act → StateRules base len s → StateRules base len (apply size s act)
+  unfolding apply NoticeOk
+  apply-rules size s (refuse number) o r = r
+  apply-rules size s (fault cause value) o r = r
+  apply-rules size s (change h ws to t) o r = (
+    r .0,
+    r .1,
+    λ k l. (
+      x0-written h ws k (s .x) ∙ r .2 k l .0,
+      set-all (λ (p : ℕ). p % 4 ≡ 0) (s .pc) h k to 0 (o .0) (r .2 k l .1),
+      noticed-ok size s (noticeOf h t) k (touch-notice h t (o .1)) l (r .2 k l .2),
+    ),
+  )
+  apply-rules size s (put a bs) o r =
+      (r .0, r .1, λ k l. (r .2 k l .0, r .2 k l .1, noticed-ok size s (DeviceWrite a (length bs)) k tt l (r .2 k l .2)))
+  apply-rules size s (release h) o r = (r .0, r .1, λ k l. (r .2 k l .0, r .2 k l .1, noticed-ok size s (Yield h) k tt l (r .2 k l .2)))
+
+-- and the memory's length
+stored-length : (base : ℕ) (mem : List ℕ) (t : Touch) → TouchOk base (length mem) t → length (stored base mem t) ≡ length mem
+stored-length base mem nothing o = refl
+stored-length base mem (reserve a w) o = refl
+stored-length base mem (store a bs) o = length-splice mem (a - base) bs (omega arith)
+stored-length base mem (scStore a bs) o = length-splice mem (a - base) bs (omega arith)
+stored-length base mem scLose o = refl
+
+pub length-leaves : (base : ℕ) (mem : List ℕ) (act : Act) → ActOk base (length mem) act → length (leaves base mem act) ≡ length mem
+unfolding leaves
+length-leaves base mem (refuse number) o = refl
+length-leaves base mem (fault cause value) o = refl
+length-leaves base mem (change h ws to t) o = stored-length base mem t (o .1)
+length-leaves base mem (put a bs) o = length-splice mem (a - base) bs (omega arith)
+length-leaves base mem (release h) o = refl
+
+-- what a reservation covers lies in memory
+pub held-rules : (base len : ℕ) (r : Reservation) → MemoryRules base len → ReservationRules base len r → A.Held base len (coversOf 64 r)
+held-rules base len None m o a n e = absurd (let z : _≡_ {A = ℕ} 0 1 = cc (none-covers 64 a n) in omega arith)
+held-rules base len (Held b w) m o a n e =
+    cover-inside 64 base len b w (omega arith) (m .3) (m .2)
+    (⊎-elim (λ (q : w ≡ 4). omega arith) (λ (q : w ≡ 8). omega arith) (o .0)) (o .2) a n e
+
+module _ (base : ℕ) (mem : List ℕ) (s : State) (mr : MemoryRules base (length mem)) (sr : StateRules base (length mem) s) where
+  of-exec : (h : ℕ) (e : Exec) → Sound base (length mem) e → ActOk base (length mem) (ofExec h e)
+  of-exec h (trap cause value) o = tt
+  of-exec h (effect ws to t) o = o
+
+  fetch-sound : (h : ℕ) → h < s .count → Sound base (length mem) (stepOf base mem s h)
+  unfolding fetchOf
+  fetch-sound h l =
+      cond-all (Sound base (length mem)) (insideOf base (length mem) (getD (s .pc) h 0) 4) _ (trap 1 (getD (s .pc) h 0))
+      (sound (valueAt base mem (getD (s .pc) h 0) 4) (regAt (s .x) h) (getD (s .pc) h 0) base mem (coversOf 64 (reservationOf s h)) (sr .2 h l .1)
+      (held-rules base (length mem) (reservationOf s h) mr (sr .2 h l .2))) tt
+
+  choose : (t : Bool) (a b : Act) → (t ≡ true → ActOk base (length mem) a) → (t ≡ false → ActOk base (length mem) b) → ActOk base (length mem) (cond t a b)
+  choose true a b f g = f refl
+  choose false a b f g = g refl
+
+  pub act-ok : (e : Event) → ActOk base (length mem) (actOn base mem s e)
+  unfolding actOn
+  act-ok (Step h) =
+      choose (ltb h (s .count)) (ofExec h (stepOf base mem s h)) (refuse 3) (λ t. of-exec h (stepOf base mem s h) (fetch-sound h (ltb-true h (s .count) t))) (λ f. tt)
+  act-ok (Device a n v) =
+      choose (leb 1 n && leb n 8) (cond (insideOf base (length mem) a n) (put a (toLe n v)) (refuse 5)) (refuse 4)
+      (λ t. choose (insideOf base (length mem) a n) (put a (toLe n v)) (refuse 5)
+      (λ i. subst (λ (k : ℕ). Inside base (length mem) a k) (sym (length-toLe n v)) (inside-of base (length mem) a n i)) (λ f. tt)) (λ f. tt)
+  act-ok (YieldOf h) = choose (ltb h (s .count)) (release h) (refuse 3) (λ t. tt) (λ f. tt)
+
+module _ (base : ℕ) (m : Machine) (v : Valid base m) (e : Event) where
+  -- a machine that isn't refused by 1 or 2: the act is the event's own
+  pub act-valid : actOf base (m .mem) (m .state) e ≡ actOn base (m .mem) (m .state) e
+  unfolding actOf
+  act-valid = rw (eq-eqb _ _ (refusal-0 base (length (m .mem)) (m .state) .1 v))
+
+  ok : ActOk base (length (m .mem)) (actOf base (m .mem) (m .state) e)
+  ok = rw act-valid (act-ok base (m .mem) (m .state) (v .0) (v .1) e)
+
+  pub length-next : length (nextOf base m e .mem) ≡ length (m .mem)
+  unfolding nextOf memoryOf
+  length-next = length-leaves base (m .mem) (actOf base (m .mem) (m .state) e) ok
+
+  -- 01: from a state that 1 and 2 don't refuse, no event leads to one that they refuse
+  pub valid-next : Valid base (nextOf base m e)
+  unfolding nextOf answerOf
+  valid-next =
+      rw length-next (v .0, apply-rules base (length (m .mem)) 64 (m .state) (actOf base (m .mem) (m .state) e) ok (v .1))
+
+pub valid-run : (base : ℕ) (m : Machine) → Valid base m → (es : List Event) → Valid base (runOf base m es)
+unfolding runOf
+valid-run base m v [] = v
+valid-run base m v (e ∷ es) = valid-run base (nextOf base m e) (valid-next base m v e) es

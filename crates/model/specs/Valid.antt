@@ -1,0 +1,21 @@
+-- What keeps a machine one that refusals 1 and 2 don't refuse.
+use mathlib.Core.Path.{_≡_}
+use Prim.Native.Nat.{ℕ, _%_}
+use lib.ListN.{length}
+use Rattle.reserve.specs.Range.{Inside}
+use Rattle.machine.specs.Rules.{MemoryRules, StateRules}
+use Rattle.effect.specs.Sound.{TouchOk}
+use Rattle.model.specs.Act.{Act, refuse, fault, change, put, release}
+use Rattle.model.specs.Perform.{Machine}
+
+-- neither 1 nor 2 refuses the machine
+abbrev pub Valid : ℕ → Machine → Type 0
+Valid base m = MemoryRules base (length (m .mem)) × StateRules base (length (m .mem)) (m .state)
+
+-- an act whose next pc is aligned, whose reservation is well formed and whose bytes lie in the len bytes at base
+abbrev pub ActOk : ℕ → ℕ → Act → Type 0
+ActOk base len (refuse number) = Unit {0}
+ActOk base len (fault cause value) = Unit {0}
+ActOk base len (change h ws to t) = (to % 4 ≡ 0) × TouchOk base len t
+ActOk base len (put a bs) = Inside base len a (length bs)
+ActOk base len (release h) = Unit {0}
