@@ -1,7 +1,7 @@
 // LR, SC, AMO and AMOCAS of hart h. Those that write lend on only the bytes that they name.
-use alu::swap::Pair;
 use crate::memory::fault;
 use crate::retire;
+use alu::swap::Pair;
 use effect::Done;
 use effect::Effect;
 use isa::AmoOp;
@@ -46,7 +46,17 @@ pub fn lr(w: Width, rd: usize, a: u64, pc: u64, base: u64, h: usize, mem: &[u8])
 }
 
 // res is the hart's reservation. What it covers is in memory, so that no bytes need be looked at before it is.
-pub fn sc(w: Width, rd: usize, a: u64, v: u64, pc: u64, base: u64, h: usize, res: Reservation, mem: &mut [u8]) -> Done
+pub fn sc(
+    w: Width,
+    rd: usize,
+    a: u64,
+    v: u64,
+    pc: u64,
+    base: u64,
+    h: usize,
+    res: Reservation,
+    mem: &mut [u8],
+) -> Done
     requires { ⌜ Held base (length (now mem)) (coversOf 64 res) ⌝ }
     ensures { λ r. ⌜ Meets h (execSc 64 w rd a v pc (coversOf 64 res)) base (now (mem .entry)) r (now (mem .exit)) ⌝ }
 {
@@ -70,7 +80,17 @@ pub fn sc(w: Width, rd: usize, a: u64, v: u64, pc: u64, base: u64, h: usize, res
     retire(rd, 1, pc, Notice::ScFailed { hart: h })
 }
 
-pub fn amo(op: AmoOp, w: Width, rd: usize, a: u64, v: u64, pc: u64, base: u64, h: usize, mem: &mut [u8]) -> Done
+pub fn amo(
+    op: AmoOp,
+    w: Width,
+    rd: usize,
+    a: u64,
+    v: u64,
+    pc: u64,
+    base: u64,
+    h: usize,
+    mem: &mut [u8],
+) -> Done
     ensures { λ r. ⌜ Meets h (execAmo 64 op w rd a v pc base (now (mem .entry))) base (now (mem .entry)) r (now (mem .exit)) ⌝ }
 {
     let n = bytes_of(w);
@@ -108,7 +128,17 @@ fn swap_notice(equal: bool, h: usize, a: u64, n: usize) -> Notice
 }
 
 // AMOCAS.W and AMOCAS.D. W compares with the low half of want.
-pub fn cas(w: Width, rd: usize, a: u64, want: u64, new: u64, pc: u64, base: u64, h: usize, mem: &mut [u8]) -> Done
+pub fn cas(
+    w: Width,
+    rd: usize,
+    a: u64,
+    want: u64,
+    new: u64,
+    pc: u64,
+    base: u64,
+    h: usize,
+    mem: &mut [u8],
+) -> Done
     ensures { λ r. ⌜ Meets h (execCas 64 w rd a want new pc base (now (mem .entry))) base (now (mem .entry)) r (now (mem .exit)) ⌝ }
 {
     let n = bytes_of(w);
@@ -142,7 +172,16 @@ fn retire_pair(rd: usize, old: Pair, pc: u64, notice: Notice) -> Done
 }
 
 // AMOCAS.Q.
-pub fn cas_pair(rd: usize, a: u64, want: Pair, new: Pair, pc: u64, base: u64, h: usize, mem: &mut [u8]) -> Done
+pub fn cas_pair(
+    rd: usize,
+    a: u64,
+    want: Pair,
+    new: Pair,
+    pc: u64,
+    base: u64,
+    h: usize,
+    mem: &mut [u8],
+) -> Done
     ensures { λ r. ⌜ Meets h (execCasPair 64 rd a (joined want) (joined new) pc base (now (mem .entry))) base (now (mem .entry)) r (now (mem .exit)) ⌝ }
 {
     let cause = fault(6, 7, a, 16, base, mem.len());

@@ -56,7 +56,7 @@ fn extend(op: LoadOp, v: u64) -> u64
 
 // The answer is the same for every hart h.
 pub fn load(op: LoadOp, rd: usize, a: u64, pc: u64, base: u64, mem: &[u8]) -> Done
-    ensures { λ r. ⌜ (h : ℕ) → r ≡ told h (execLoad 64 op rd a pc base (now (mem .entry))) ⌝ }
+    ensures { λ r. ⌜ ((h : ℕ) → r ≡ told h (execLoad 64 op rd a pc base (now (mem .entry)))) ⌝ }
 {
     let n = load_bytes(op);
     let cause = fault(4, 5, a, n, base, mem.len());
