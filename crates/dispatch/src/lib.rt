@@ -2,21 +2,25 @@
 use alu::swap::Pair;
 use effect::Done;
 use exec::atomic;
-use exec::integer;
-use exec::memory;
+use exec::integer::compute;
+use exec::integer::jump;
+use exec::memory::load;
 use exec::retire;
 use isa::Atomic;
 use isa::AtomicOp;
+use isa::BranchOp;
 use isa::Instr;
+use isa::StoreOp;
 use reserve::Notice;
 use reserve::Reservation;
-use std::num::wrapping_add_u64;
 ghost use mathlib.Core.Path.{_≡_};
 ghost use Prim.Native.Nat.{_<_};
 ghost use lib.ListN.{length};
 ghost use Rattle.reserve.specs.Reserve.{coversOf};
 ghost use Rattle.alu.specs.Pair.{joined};
-ghost use Rattle.effect.specs.Effect.{Meets};
+ghost use Rattle.effect.specs.Effect.{told, Meets, offset};
+ghost use Rattle.effect.specs.Integer.{holdsOf, execBranch};
+ghost use Rattle.effect.specs.Memory.{execStore};
 ghost use Rattle.effect.specs.Atomic.{Held};
 ghost use Rattle.effect.specs.Execute.{regAt, pairAt, execAtomic, execute, executeWord};
 
@@ -41,6 +45,13 @@ fn reg_pair(x: &[u64; 256], h: usize, r: usize) -> Pair
         low: reg(x, h, r),
         high: reg(x, h, first + 1),
     }
+}
+
+// The place at an offset.
+fn plus(a: u64, imm: u64) -> u64
+    ensures { λ r. ⌜ r ≡ offset 64 a imm ⌝ }
+{
+    std::num::wrapping_add_u64(a, imm)
 }
 
 // An atomic instruction of hart h, whose reservation is res.
@@ -80,6 +91,34 @@ pub fn atomic(
     }
 }
 
+// A branch, by the registers that it compares.
+fn branch(op: BranchOp, rs1: usize, rs2: usize, to: u64, x: &[u64; 256], h: usize, pc: u64) -> Done
+    requires { ⌜ h < 8 ⌝ }
+    ensures { λ r. ⌜ r ≡ told h (execBranch 64 (holdsOf 64 op (regAt (now (x .entry)) h rs1) (regAt (now (x .entry)) h rs2)) to pc) ⌝ }
+{
+    let taken = exec::integer::holds(op, reg(x, h, rs1), reg(x, h, rs2));
+    exec::integer::branch(taken, to, pc)
+}
+
+// A store, by its registers.
+fn store(
+    op: StoreOp,
+    rs1: usize,
+    rs2: usize,
+    imm: u64,
+    x: &[u64; 256],
+    h: usize,
+    pc: u64,
+    base: u64,
+    mem: &mut [u8],
+) -> Done
+    requires { ⌜ h < 8 ⌝ }
+    ensures { λ r. ⌜ Meets h (execStore 64 op (offset 64 (regAt (now (x .entry)) h rs1) imm) (regAt (now (x .entry)) h rs2) pc base (now (mem .entry))) base (now (mem .entry)) r (now (mem .exit)) ⌝ }
+{
+    let a = plus(reg(x, h, rs1), imm);
+    exec::memory::store(op, a, reg(x, h, rs2), pc, base, h, mem)
+}
+
 // An instruction of hart h, whose reservation is res. The word is the value of cause 2.
 pub fn execute(
     i: Instr,
@@ -95,71 +134,21 @@ pub fn execute(
     requires { ⌜ Held base (length (now mem)) (coversOf 64 res) ⌝ }
     ensures { λ r. ⌜ Meets h (execute 64 i word (regAt (now (x .entry)) h) pc base (now (mem .entry)) (coversOf 64 res)) base (now (mem .entry)) r (now (mem .exit)) ⌝ }
 {
+    let value = word as u64;
     match i {
-        Instr::Illegal => Done::Trap {
-            cause: 2,
-            value: word as u64,
-        },
+        Instr::Illegal => Done::Trap { cause: 2, value },
         Instr::Lui { rd, imm } => retire(rd, imm, pc, Notice::Quiet),
-        Instr::Auipc { rd, imm } => retire(rd, wrapping_add_u64(pc, imm), pc, Notice::Quiet),
-        Instr::Jal { rd, imm } => integer::jump(rd, wrapping_add_u64(pc, imm), pc),
-        Instr::Jalr { rd, rs1, imm } => integer::jump(
-            rd,
-            wrapping_add_u64(reg(x, h, rs1), imm) / 2 * 2,
-            pc,
-        ),
-        Instr::Branch { op, rs1, rs2, imm } => integer::branch(
-            integer::holds(op, reg(x, h, rs1), reg(x, h, rs2)),
-            wrapping_add_u64(pc, imm),
-            pc,
-        ),
-        Instr::Load { op, rd, rs1, imm } => memory::load(
-            op,
-            rd,
-            wrapping_add_u64(reg(x, h, rs1), imm),
-            pc,
-            base,
-            mem,
-        ),
-        Instr::Store { op, rs1, rs2, imm } => memory::store(
-            op,
-            wrapping_add_u64(reg(x, h, rs1), imm),
-            reg(x, h, rs2),
-            pc,
-            base,
-            h,
-            mem,
-        ),
-        Instr::OpImm { op, rd, rs1, imm } => integer::compute(op, 64, rd, reg(x, h, rs1), imm, pc),
-        Instr::OpImm32 { op, rd, rs1, imm } => integer::compute(
-            op,
-            32,
-            rd,
-            reg(x, h, rs1),
-            imm,
-            pc,
-        ),
-        Instr::Op { op, rd, rs1, rs2 } => integer::compute(
-            op,
-            64,
-            rd,
-            reg(x, h, rs1),
-            reg(x, h, rs2),
-            pc,
-        ),
-        Instr::Op32 { op, rd, rs1, rs2 } => integer::compute(
-            op,
-            32,
-            rd,
-            reg(x, h, rs1),
-            reg(x, h, rs2),
-            pc,
-        ),
-        Instr::Fence {
-            rd: _,
-            rs1: _,
-            imm: _,
-        } => retire(0, 0, pc, Notice::Quiet),
+        Instr::Auipc { rd, imm } => retire(rd, plus(pc, imm), pc, Notice::Quiet),
+        Instr::Jal { rd, imm } => jump(rd, plus(pc, imm), pc),
+        Instr::Jalr { rd, rs1, imm } => jump(rd, plus(reg(x, h, rs1), imm) / 2 * 2, pc),
+        Instr::Branch { op, rs1, rs2, imm } => branch(op, rs1, rs2, plus(pc, imm), x, h, pc),
+        Instr::Load { op, rd, rs1, imm } => load(op, rd, plus(reg(x, h, rs1), imm), pc, base, mem),
+        Instr::Store { op, rs1, rs2, imm } => store(op, rs1, rs2, imm, x, h, pc, base, mem),
+        Instr::OpImm { op, rd, rs1, imm } => compute(op, 64, rd, reg(x, h, rs1), imm, pc),
+        Instr::OpImm32 { op, rd, rs1, imm } => compute(op, 32, rd, reg(x, h, rs1), imm, pc),
+        Instr::Op { op, rd, rs1, rs2 } => compute(op, 64, rd, reg(x, h, rs1), reg(x, h, rs2), pc),
+        Instr::Op32 { op, rd, rs1, rs2 } => compute(op, 32, rd, reg(x, h, rs1), reg(x, h, rs2), pc),
+        Instr::Fence { .. } => retire(0, 0, pc, Notice::Quiet),
         Instr::Ecall => Done::Trap { cause: 8, value: 0 },
         Instr::Ebreak => Done::Trap { cause: 3, value: 0 },
         Instr::Amo(m) => atomic(m, x, h, pc, base, res, mem),

@@ -17,8 +17,8 @@ retire-requires c κs = search needs
 enum-known-i-2 : tie.Need-enum-known-i-2
 enum-known-i-2 c = search needs
 
-wrapping-add-u64-requires : tie.Need-wrapping-add-u64-requires
-wrapping-add-u64-requires c κs = search needs
+plus-requires : tie.Need-plus-requires
+plus-requires c κs = search needs
 
 retire-requires-2 : tie.Need-retire-requires-2
 retire-requires-2 c κs = search needs
@@ -26,8 +26,8 @@ retire-requires-2 c κs = search needs
 enum-known-i-3 : tie.Need-enum-known-i-3
 enum-known-i-3 c = search needs
 
-wrapping-add-u64-requires-2 : tie.Need-wrapping-add-u64-requires-2
-wrapping-add-u64-requires-2 c κs = search needs
+plus-requires-2 : tie.Need-plus-requires-2
+plus-requires-2 c κs = search needs
 
 jump-requires : tie.Need-jump-requires
 jump-requires c κs = search needs
@@ -38,8 +38,8 @@ enum-known-i-4 c = search needs
 reg-requires : tie.Need-reg-requires
 reg-requires c κs = search needs
 
-wrapping-add-u64-requires-3 : tie.Need-wrapping-add-u64-requires-3
-wrapping-add-u64-requires-3 c κs = search needs
+plus-requires-3 : tie.Need-plus-requires-3
+plus-requires-3 c κs = search needs
 
 mul-jump : tie.Need-mul-jump
 mul-jump c = search needs
@@ -50,17 +50,8 @@ jump-requires-2 c κs = search needs
 enum-known-i-5 : tie.Need-enum-known-i-5
 enum-known-i-5 c = search needs
 
-reg-requires-2 : tie.Need-reg-requires-2
-reg-requires-2 c κs = search needs
-
-reg-requires-3 : tie.Need-reg-requires-3
-reg-requires-3 c κs = search needs
-
-holds-requires : tie.Need-holds-requires
-holds-requires c κs = search needs
-
-wrapping-add-u64-requires-4 : tie.Need-wrapping-add-u64-requires-4
-wrapping-add-u64-requires-4 c κs = search needs
+plus-requires-4 : tie.Need-plus-requires-4
+plus-requires-4 c κs = search needs
 
 branch-requires : tie.Need-branch-requires
 branch-requires c κs = search needs
@@ -68,11 +59,11 @@ branch-requires c κs = search needs
 enum-known-i-6 : tie.Need-enum-known-i-6
 enum-known-i-6 c = search needs
 
-reg-requires-4 : tie.Need-reg-requires-4
-reg-requires-4 c κs = search needs
+reg-requires-2 : tie.Need-reg-requires-2
+reg-requires-2 c κs = search needs
 
-wrapping-add-u64-requires-5 : tie.Need-wrapping-add-u64-requires-5
-wrapping-add-u64-requires-5 c κs = search needs
+plus-requires-5 : tie.Need-plus-requires-5
+plus-requires-5 c κs = search needs
 
 load-requires : tie.Need-load-requires
 load-requires c κs = search needs
@@ -80,23 +71,14 @@ load-requires c κs = search needs
 enum-known-i-7 : tie.Need-enum-known-i-7
 enum-known-i-7 c = search needs
 
-reg-requires-5 : tie.Need-reg-requires-5
-reg-requires-5 c κs = search needs
-
-wrapping-add-u64-requires-6 : tie.Need-wrapping-add-u64-requires-6
-wrapping-add-u64-requires-6 c κs = search needs
-
-reg-requires-6 : tie.Need-reg-requires-6
-reg-requires-6 c κs = search needs
-
 store-requires : tie.Need-store-requires
 store-requires c κs = search needs
 
 enum-known-i-8 : tie.Need-enum-known-i-8
 enum-known-i-8 c = search needs
 
-reg-requires-7 : tie.Need-reg-requires-7
-reg-requires-7 c κs = search needs
+reg-requires-3 : tie.Need-reg-requires-3
+reg-requires-3 c κs = search needs
 
 compute-requires : tie.Need-compute-requires
 compute-requires c κs = search needs
@@ -104,8 +86,8 @@ compute-requires c κs = search needs
 enum-known-i-9 : tie.Need-enum-known-i-9
 enum-known-i-9 c = search needs
 
-reg-requires-8 : tie.Need-reg-requires-8
-reg-requires-8 c κs = search needs
+reg-requires-4 : tie.Need-reg-requires-4
+reg-requires-4 c κs = search needs
 
 compute-requires-2 : tie.Need-compute-requires-2
 compute-requires-2 c κs = search needs
@@ -113,11 +95,11 @@ compute-requires-2 c κs = search needs
 enum-known-i-10 : tie.Need-enum-known-i-10
 enum-known-i-10 c = search needs
 
-reg-requires-9 : tie.Need-reg-requires-9
-reg-requires-9 c κs = search needs
+reg-requires-5 : tie.Need-reg-requires-5
+reg-requires-5 c κs = search needs
 
-reg-requires-10 : tie.Need-reg-requires-10
-reg-requires-10 c κs = search needs
+reg-requires-6 : tie.Need-reg-requires-6
+reg-requires-6 c κs = search needs
 
 compute-requires-3 : tie.Need-compute-requires-3
 compute-requires-3 c κs = search needs
@@ -125,11 +107,11 @@ compute-requires-3 c κs = search needs
 enum-known-i-11 : tie.Need-enum-known-i-11
 enum-known-i-11 c = search needs
 
-reg-requires-11 : tie.Need-reg-requires-11
-reg-requires-11 c κs = search needs
+reg-requires-7 : tie.Need-reg-requires-7
+reg-requires-7 c κs = search needs
 
-reg-requires-12 : tie.Need-reg-requires-12
-reg-requires-12 c κs = search needs
+reg-requires-8 : tie.Need-reg-requires-8
+reg-requires-8 c κs = search needs
 
 compute-requires-4 : tie.Need-compute-requires-4
 compute-requires-4 c κs = search needs
@@ -162,23 +144,23 @@ returns-2 c = rw (c .before .before .i .given .1) (record { answer = c .retire .
 
 returns-3 : tie.Need-returns-3
 unfolding execute
-returns-3 c = rw (c .before .before .before .i2 .given .1, ← c .before .wrapping-add-u64 .ensures) (record { answer = c .retire2 .ensures; memory = refl })
+returns-3 c = rw (c .before .before .before .i2 .given .1, ← c .before .plus .ensures) (record { answer = c .retire2 .ensures; memory = refl })
 
 returns-4 : tie.Need-returns-4
 unfolding execute
-returns-4 c = rw (c .before .before .before .i3 .given .1, ← c .before .wrapping-add-u642 .ensures) (record { answer = c .jump .ensures _; memory = sym (leaves-jump _ _ 64 _ _ _) })
+returns-4 c =
+    rw (c .before .before .before .i3 .given .1, ← c .before .plus2 .ensures) (record { answer = c .jump .ensures _; memory = sym (leaves-jump _ _ 64 _ _ _) })
 
 returns-5 : tie.Need-returns-5
 unfolding execute
 returns-5 c =
-    rw (c .before .before .before .before .i4 .given .1, ← c .before .before .reg .ensures, ← c .before .wrapping-add-u643 .ensures)
+    rw (c .before .before .before .before .i4 .given .1, ← c .before .before .reg .ensures, ← c .before .plus3 .ensures)
     (record { answer = c .jump2 .ensures _; memory = sym (leaves-jump _ _ 64 _ _ _) })
 
 returns-6 : tie.Need-returns-6
 unfolding execute
 returns-6 c =
-    rw (c .before .before .before .before .before .before .i5 .given .1, ← c .before .before .before .before .reg2 .ensures, ← c .before .before .before .reg3 .ensures, ← c .before .before .holds .ensures, ← c .before .wrapping-add-u644 .ensures)
-    (record { answer = c .branch .ensures _; memory = sym (leaves-branch _ _ 64 _ _ _) })
+    rw (c .before .before .before .i5 .given .1, ← c .before .plus4 .ensures) (record { answer = c .branch .ensures; memory = sym (leaves-branch _ _ 64 _ _ _) })
 
 same-length : tie.Need-same-length
 same-length c = search needs
@@ -186,7 +168,7 @@ same-length c = search needs
 returns-7 : tie.Need-returns-7
 unfolding execute
 returns-7 c =
-    rw (c .before .before .before .before .before .i6 .given .1, ← c .before .before .before .reg4 .ensures, ← c .before .before .wrapping-add-u645 .ensures)
+    rw (c .before .before .before .before .before .i6 .given .1, ← c .before .before .before .reg2 .ensures, ← c .before .before .plus5 .ensures)
     (record { answer = c .load .ensures _; memory = sym (leaves-load _ _ 64 _ _ _ _) })
 
 same-length-2 : tie.Need-same-length-2
@@ -194,26 +176,25 @@ same-length-2 c = search needs
 
 returns-8 : tie.Need-returns-8
 unfolding execute
-returns-8 c =
-    rw (c .before .before .before .before .before .before .before .before .i7 .given .1, ← c .before .before .before .before .before .before .reg5 .ensures, ← c .before .before .before .before .before .wrapping-add-u646 .ensures, ← c .before .before .before .before .reg6 .ensures) (c .before .before .store .ensures)
+returns-8 c = rw (c .before .before .before .before .before .i7 .given .1) (c .before .before .store .ensures)
 
 returns-9 : tie.Need-returns-9
 unfolding execute
-returns-9 c = rw (c .before .before .before .i8 .given .1, ← c .before .reg7 .ensures) (record { answer = c .compute .ensures 0; memory = refl })
+returns-9 c = rw (c .before .before .before .i8 .given .1, ← c .before .reg3 .ensures) (record { answer = c .compute .ensures 0; memory = refl })
 
 returns-10 : tie.Need-returns-10
 unfolding execute
-returns-10 c = rw (c .before .before .before .i9 .given .1, ← c .before .reg8 .ensures) (record { answer = c .compute2 .ensures 0; memory = refl })
+returns-10 c = rw (c .before .before .before .i9 .given .1, ← c .before .reg4 .ensures) (record { answer = c .compute2 .ensures 0; memory = refl })
 
 returns-11 : tie.Need-returns-11
 unfolding execute
 returns-11 c =
-    rw (c .before .before .before .before .i10 .given .1, ← c .before .before .reg9 .ensures, ← c .before .reg10 .ensures) (record { answer = c .compute3 .ensures 0; memory = refl })
+    rw (c .before .before .before .before .i10 .given .1, ← c .before .before .reg5 .ensures, ← c .before .reg6 .ensures) (record { answer = c .compute3 .ensures 0; memory = refl })
 
 returns-12 : tie.Need-returns-12
 unfolding execute
 returns-12 c =
-    rw (c .before .before .before .before .i11 .given .1, ← c .before .before .reg11 .ensures, ← c .before .reg12 .ensures) (record { answer = c .compute4 .ensures 0; memory = refl })
+    rw (c .before .before .before .before .i11 .given .1, ← c .before .before .reg7 .ensures, ← c .before .reg8 .ensures) (record { answer = c .compute4 .ensures 0; memory = refl })
 
 returns-13 : tie.Need-returns-13
 unfolding execute
@@ -242,44 +223,38 @@ execute-spec =
     enum-known-i
     retire-requires
     enum-known-i-2
-    wrapping-add-u64-requires
+    plus-requires
     retire-requires-2
     enum-known-i-3
-    wrapping-add-u64-requires-2
+    plus-requires-2
     jump-requires
     enum-known-i-4
     reg-requires
-    wrapping-add-u64-requires-3
+    plus-requires-3
     mul-jump
     jump-requires-2
     enum-known-i-5
-    reg-requires-2
-    reg-requires-3
-    holds-requires
-    wrapping-add-u64-requires-4
+    plus-requires-4
     branch-requires
     enum-known-i-6
-    reg-requires-4
-    wrapping-add-u64-requires-5
+    reg-requires-2
+    plus-requires-5
     load-requires
     enum-known-i-7
-    reg-requires-5
-    wrapping-add-u64-requires-6
-    reg-requires-6
     store-requires
     enum-known-i-8
-    reg-requires-7
+    reg-requires-3
     compute-requires
     enum-known-i-9
-    reg-requires-8
+    reg-requires-4
     compute-requires-2
     enum-known-i-10
-    reg-requires-9
-    reg-requires-10
+    reg-requires-5
+    reg-requires-6
     compute-requires-3
     enum-known-i-11
-    reg-requires-11
-    reg-requires-12
+    reg-requires-7
+    reg-requires-8
     compute-requires-4
     enum-told-2
     retire-requires-3
