@@ -1,0 +1,57 @@
+use native.Mathlib.Omega.{arith}
+use Rattle.alu.specs.Pair.{joined}
+use Rattle.effect.specs.Memory.{valueAt}
+use Rattle.effect.specs.Atomic.{execCasPair}
+use Rattle.exec.proofs.AccessLaws.{room, met-trap, met-done, met-swap}
+use borrow.Author.Needs.{needs}
+use Rattle.exec.proofs.atomic.cas_pair.Statement.{statement}
+use Rattle.exec.proofs.atomic.cas_pair.Tie as tie
+
+fault-requires : tie.Need-fault-requires
+fault-requires c κs = search needs
+
+returns : tie.Need-returns
+unfolding execCasPair
+returns c = met-trap 6 7 _ _ _ _ _ (c .before .fault .ensures) _ (c .if1 .taken)
+
+sub-compare-swap-pair-at : tie.Need-sub-compare-swap-pair-at
+sub-compare-swap-pair-at c = let i = room 6 7 _ _ _ _ _ (c .before .before .fault .ensures) (omega arith) (omega arith) (c .before .if1 .left) in omega arith
+
+compare-swap-pair-at-requires : tie.Need-compare-swap-pair-at-requires
+compare-swap-pair-at-requires c κs = let i = room 6 7 _ _ _ _ _ (c .before .before .fault .ensures) (omega arith) (omega arith) (c .before .if1 .left) in omega arith
+
+same-requires : tie.Need-same-requires
+same-requires c κs = search needs
+
+swap-notice-requires : tie.Need-swap-notice-requires
+swap-notice-requires c κs = search needs
+
+retire-pair-requires : tie.Need-retire-pair-requires
+retire-pair-requires c κs = search needs
+
+same-length : tie.Need-same-length
+same-length c = search needs
+
+returns-2 : tie.Need-returns-2
+unfolding execCasPair valueAt
+returns-2 c =
+    let x = c .before .before .before .before .before .before .before .before .before .before .args in
+    let swap = c .before .before .before .before .before .compare-swap-pair-at in
+    met-done 6 7 _ _ _ _ _ (c .before .before .before .before .before .before .before .before .fault .ensures) _ (c .before .before .before .before .before .before .before .if1 .left)
+    (met-swap _ _ _ _ 16 (valueAt (x .base) (x .mem .now) (x .a) 16) (joined (x .want)) (joined (x .new)) (x .base) (x .mem .now) _ _
+    (rw (← swap .ensures .0, ← c .before .before .same .ensures, ← c .before .swap-notice .ensures) (c .retire-pair .ensures))
+    (swap .ensures .1))
+
+pub cas-pair-spec : {M : Type 1} → statement M
+cas-pair-spec =
+    tie.close
+    (tie.spec
+    fault-requires
+    returns
+    sub-compare-swap-pair-at
+    compare-swap-pair-at-requires
+    same-requires
+    swap-notice-requires
+    retire-pair-requires
+    same-length
+    returns-2)

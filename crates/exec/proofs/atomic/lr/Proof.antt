@@ -1,0 +1,56 @@
+use mathlib.Core.Path.{ap, _∙_}
+use native.Mathlib.Omega.{arith}
+use Rattle.effect.specs.Effect.{told}
+use Rattle.effect.specs.Memory.{valueAt}
+use Rattle.effect.specs.Atomic.{execLr}
+use Rattle.exec.proofs.AccessLaws.{trapped, passed, room}
+use borrow.Author.Needs.{needs}
+use Rattle.exec.proofs.atomic.lr.Statement.{statement}
+use Rattle.exec.proofs.atomic.lr.Tie as tie
+
+bytes-of-requires : tie.Need-bytes-of-requires
+bytes-of-requires c κs = search needs
+
+fault-requires : tie.Need-fault-requires
+fault-requires c κs = search needs
+
+returns : tie.Need-returns
+unfolding execLr
+returns c = rw (← c .before .before .bytes-of .ensures .0) (ap (told _) (trapped 4 5 _ _ _ _ _ (c .before .fault .ensures) _ (c .if1 .taken)))
+
+sub-load-at : tie.Need-sub-load-at
+sub-load-at c = let i = room 4 5 _ _ _ _ _ (c .before .fault .ensures) (omega arith) (omega arith) (c .if1 .left) in omega arith
+
+load-at-requires : tie.Need-load-at-requires
+load-at-requires c κs =
+    let i = room 4 5 _ _ _ _ _ (c .before .fault .ensures) (omega arith) (omega arith) (c .if1 .left) in
+    (omega arith, c .before .before .bytes-of .ensures .2)
+
+bits-of-requires : tie.Need-bits-of-requires
+bits-of-requires c κs = search needs
+
+sign-extend-requires : tie.Need-sign-extend-requires
+sign-extend-requires c κs = search needs
+
+retire-requires : tie.Need-retire-requires
+retire-requires c κs = search needs
+
+returns-2 : tie.Need-returns-2
+unfolding execLr valueAt
+returns-2 c =
+    rw (← c .before .before .before .before .before .before .bytes-of .ensures .0, ← c .before .before .bits-of .ensures .0, ← c .before .before .before .load-at .ensures, ← c .before .sign-extend .ensures)
+    (c .retire .ensures ∙ ap (told _) (passed 4 5 _ _ _ _ _ (c .before .before .before .before .before .fault .ensures) _ (c .before .before .before .before .if1 .left)))
+
+pub lr-spec : {M : Type 1} → statement M
+lr-spec =
+    tie.close
+    (tie.spec
+    bytes-of-requires
+    fault-requires
+    returns
+    sub-load-at
+    load-at-requires
+    bits-of-requires
+    sign-extend-requires
+    retire-requires
+    returns-2)

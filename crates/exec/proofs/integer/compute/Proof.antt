@@ -1,0 +1,35 @@
+use Rattle.word.proofs.WordLaws.{low-lt}
+use Rattle.effect.specs.Integer.{computed}
+use borrow.Author.Needs.{needs}
+use Rattle.exec.proofs.integer.compute.Statement.{statement}
+use Rattle.exec.proofs.integer.compute.Tie as tie
+
+wrap-requires : tie.Need-wrap-requires
+wrap-requires c κs = search needs
+
+wrap-requires-2 : tie.Need-wrap-requires-2
+wrap-requires-2 c κs = search needs
+
+operate-requires : tie.Need-operate-requires
+operate-requires c κs = (c .before .before .pre, (rw (c .before .wrap .ensures) (low-lt _ _), rw (c .wrap2 .ensures) (low-lt _ _)))
+
+sign-extend-requires : tie.Need-sign-extend-requires
+sign-extend-requires c κs = search needs
+
+retire-requires : tie.Need-retire-requires
+retire-requires c κs = search needs
+
+returns : tie.Need-returns
+unfolding computed
+returns c = λ h. rw (← c .before .before .before .before .wrap .ensures, ← c .before .before .before .wrap2 .ensures, ← c .before .before .operate .ensures, ← c .before .sign-extend .ensures) (c .retire .ensures)
+
+pub compute-spec : {M : Type 1} → statement M
+compute-spec =
+    tie.close
+    (tie.spec
+    wrap-requires
+    wrap-requires-2
+    operate-requires
+    sign-extend-requires
+    retire-requires
+    returns)
