@@ -45,7 +45,7 @@ pub fn lr(w: Width, rd: usize, a: u64, pc: u64, base: u64, h: usize, mem: &[u8])
     )
 }
 
-// res is the hart's reservation. What it covers is in memory, so that no bytes need be looked at before it is.
+// res is the hart's reservation. All that it covers lies in memory, so that SC needs no check of its own for bytes outside (it has no cause 7).
 pub fn sc(
     w: Width,
     rd: usize,
