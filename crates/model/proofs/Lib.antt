@@ -1,2 +1,3 @@
 -- The laws of the machine.
 pub mod Valid
+pub mod AdvanceLaws

@@ -38,8 +38,8 @@ use Rattle.effect.specs.Sound.{TouchOk, Sound}
 use Rattle.effect.proofs.Sound.{sound}
 use Rattle.events.specs.declared.Event.{Event}
 use Rattle.events.specs.declared.Event.the-variants.{Step, Device, Yield as YieldOf}
-use Rattle.model.specs.Act.{Act, refuse, fault, change, put, release, setReg, written, noticed, apply, leaves}
-use Rattle.model.specs.Perform.{Machine, reservationOf, fetchOf, stepOf, ofExec, actOn, actOf, answerOf, memoryOf, nextOf, runOf}
+use Rattle.model.specs.Act.{Act, refuse, fault, change, put, release, setReg, written, slotsAfter, apply, leaves}
+use Rattle.model.specs.Perform.{Machine, reservationOf, fetchOf, stepOf, ofExec, deviceOf, actOn, actOf, answerOf, memoryOf, nextOf, runOf}
 use Rattle.model.specs.Valid.{Valid, ActOk}
 
 -- what holds of the value set and of the element before holds of the element after
@@ -88,7 +88,7 @@ module _ (base len : ℕ) where
   observed-ok size h n r o k = cond-all (ReservationRules base len) (breaksOf size h n r) None (ownOf h n r) tt (own-ok h n r o k)
 
   noticed-ok : (size : ℕ) (s : State) (n : Notice) (k : ℕ) → NoticeOk n → k < s .count → ReservationRules base len (reservationOf s k)
-      → ReservationRules base len (getD (noticed size s n) k (slot None) .reservation)
+      → ReservationRules base len (getD (observeAllOf size (s .count) n (s .res) .slots) k (slot None) .reservation)
   unfolding observeAllOf
   noticed-ok size s n k o h r =
       ⊎-elim
@@ -163,7 +163,7 @@ module _ (base : ℕ) (mem : List ℕ) (s : State) (mr : MemoryRules base (lengt
   choose false a b f g = g refl
 
   pub act-ok : (e : Event) → ActOk base (length mem) (actOn base mem s e)
-  unfolding actOn
+  unfolding actOn deviceOf
   act-ok (Step h) =
       choose (ltb h (s .count)) (ofExec h (stepOf base mem s h)) (refuse 3) (λ t. of-exec h (stepOf base mem s h) (fetch-sound h (ltb-true h (s .count) t))) (λ f. tt)
   act-ok (Device a n v) =

@@ -56,23 +56,42 @@ written h none x = x
 written h (one r v) x = setReg h r v x
 written h (pair r v r2 v2) x = setReg h r2 v2 (setReg h r v x)
 
--- the reservations after a notice, at a set size
-abbrev pub noticed : ℕ → State → Notice → List Slot
-noticed size s n = observeAllOf size (s .count) n (s .res) .slots
+-- What is afterwards, part by part. A refusal and a trap leave all as it was.
+abbrev pub registersAfter : Act → List ℕ → List ℕ
+registersAfter (refuse number) x = x
+registersAfter (fault cause value) x = x
+registersAfter (change h ws to t) x = written h ws x
+registersAfter (put a bs) x = x
+registersAfter (release h) x = x
 
--- the state afterwards: a refusal and a trap leave it as it was
-unfoldable pub apply : ℕ → State → Act → State
-apply size s (refuse number) = s
-apply size s (fault cause value) = s
-apply size s (change h ws to t) =
-    record { count = s .count; x = written h ws (s .x); pc = set (s .pc) h to; res = noticed size s (noticeOf h t) }
-apply size s (put a bs) = record { count = s .count; x = s .x; pc = s .pc; res = noticed size s (DeviceWrite a (length bs)) }
-apply size s (release h) = record { count = s .count; x = s .x; pc = s .pc; res = noticed size s (Yield h) }
+abbrev pub countersAfter : Act → List ℕ → List ℕ
+countersAfter (refuse number) pc = pc
+countersAfter (fault cause value) pc = pc
+countersAfter (change h ws to t) pc = set pc h to
+countersAfter (put a bs) pc = pc
+countersAfter (release h) pc = pc
 
--- and the memory
+-- the reservations of the first count harts follow the notice, at a set size
+abbrev pub slotsAfter : ℕ → ℕ → Act → List Slot → List Slot
+slotsAfter size count (refuse number) l = l
+slotsAfter size count (fault cause value) l = l
+slotsAfter size count (change h ws to t) l = observeAllOf size count (noticeOf h t) l .slots
+slotsAfter size count (put a bs) l = observeAllOf size count (DeviceWrite a (length bs)) l .slots
+slotsAfter size count (release h) l = observeAllOf size count (Yield h) l .slots
+
 unfoldable pub leaves : ℕ → List ℕ → Act → List ℕ
 leaves base mem (refuse number) = mem
 leaves base mem (fault cause value) = mem
 leaves base mem (change h ws to t) = stored base mem t
 leaves base mem (put a bs) = splice mem (a - base) bs
 leaves base mem (release h) = mem
+
+-- the state afterwards
+unfoldable pub apply : ℕ → State → Act → State
+apply size s act =
+    record {
+      count = s .count;
+      x = registersAfter act (s .x);
+      pc = countersAfter act (s .pc);
+      res = slotsAfter size (s .count) act (s .res);
+    }

@@ -3,3 +3,4 @@ pub mod Act
 pub mod Perform
 pub mod Run
 pub mod Valid
+pub mod Advance

@@ -38,11 +38,15 @@ abbrev pub ofExec : ℕ → Exec → Act
 ofExec h (trap cause value) = fault cause value
 ofExec h (effect ws to t) = change h ws to t
 
--- 01: refusals 3, "hart number not below the count", 4, "device write of 0 or more than 8 bytes", and 5, "device write not wholly inside memory"
+-- 01: refusals 4, "device write of 0 or more than 8 bytes", and 5, "device write not wholly inside memory": the n lowest bytes of v at a
+unfoldable pub deviceOf : ℕ → List ℕ → ℕ → ℕ → ℕ → Act
+deviceOf base mem a n v =
+    cond (leb 1 n && leb n 8) (cond (insideOf base (length mem) a n) (put a (toLe n v)) (refuse 5)) (refuse 4)
+
+-- 01: refusal 3, "hart number not below the count"
 unfoldable pub actOn : ℕ → List ℕ → State → Event → Act
 actOn base mem s (Step h) = cond (ltb h (s .count)) (ofExec h (stepOf base mem s h)) (refuse 3)
-actOn base mem s (Device a n v) =
-    cond (leb 1 n && leb n 8) (cond (insideOf base (length mem) a n) (put a (toLe n v)) (refuse 5)) (refuse 4)
+actOn base mem s (Device a n v) = deviceOf base mem a n v
 actOn base mem s (Yield h) = cond (ltb h (s .count)) (release h) (refuse 3)
 
 -- refusals 1 and 2 first

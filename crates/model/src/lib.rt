@@ -1,4 +1,6 @@
 // The machine: events and runs of events on a state and a lent memory.
+pub mod advance;
+
 use machine::State;
 use reserve::Slot;
 

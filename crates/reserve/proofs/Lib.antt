@@ -1,2 +1,3 @@
 -- The laws of ranges of bytes.
 pub mod RangeLaws
+pub mod QuietLaws

@@ -155,8 +155,8 @@ fn weight(t: bool, bit: u64) -> u64
     if t { bit } else { 0 }
 }
 
-// The reservations of the first count harts after a notice.
-pub fn observe_all(slots: [Slot; 8], count: usize, size: u64, n: Notice) -> Observed
+// The reservations of the first count harts after a notice, hart by hart.
+fn observe_all(slots: [Slot; 8], count: usize, size: u64, n: Notice) -> Observed
     requires { ⌜ (0 < size) × (count ≤ 8) ⌝ }
     ensures { λ o. ⌜ o ≡ observeAllOf size count n slots ⌝ }
 {
@@ -176,4 +176,32 @@ pub fn observe_all(slots: [Slot; 8], count: usize, size: u64, n: Notice) -> Obse
         k += 1;
     }
     Observed { slots: out, broken }
+}
+
+// The reservations of the first count harts after a notice; most events tell none.
+pub fn observe(slots: [Slot; 8], count: usize, size: u64, n: Notice) -> Observed
+    requires { ⌜ (0 < size) × (count ≤ 8) ⌝ }
+    ensures { λ o. ⌜ o ≡ observeAllOf size count n slots ⌝ }
+{
+    match n {
+        Notice::Quiet => Observed { slots, broken: 0 },
+        Notice::LoadReserved {
+            hart: _,
+            addr: _,
+            width: _,
+        } => observe_all(slots, count, size, n),
+        Notice::ScDone {
+            hart: _,
+            addr: _,
+            len: _,
+        } => observe_all(slots, count, size, n),
+        Notice::ScFailed { hart: _ } => observe_all(slots, count, size, n),
+        Notice::Write {
+            hart: _,
+            addr: _,
+            len: _,
+        } => observe_all(slots, count, size, n),
+        Notice::DeviceWrite { addr: _, len: _ } => observe_all(slots, count, size, n),
+        Notice::Yield { hart: _ } => observe_all(slots, count, size, n),
+    }
 }

@@ -1,0 +1,35 @@
+use Rattle.model.specs.Advance.{settledBy}
+use borrow.Author.Needs.{needs}
+use Rattle.model.proofs.advance.settle.Statement.{statement}
+use Rattle.model.proofs.advance.settle.Tie as tie
+
+enum-known-d : tie.Need-enum-known-d
+enum-known-d c = search needs
+
+observe-requires : tie.Need-observe-requires
+observe-requires c κs = search needs
+
+retired-as-requires : tie.Need-retired-as-requires
+retired-as-requires c κs = search needs
+
+enum-known-d-2 : tie.Need-enum-known-d-2
+enum-known-d-2 c = search needs
+
+returns : tie.Need-returns
+unfolding settledBy
+returns c = rw (c .before .before .before .before .d .given .1, ← c .before .before .observe .ensures, ← c .retired-as .ensures)
+
+returns-2 : tie.Need-returns-2
+unfolding settledBy
+returns-2 c = rw (c .before .d2 .given .1)
+
+pub settle-spec : {M : Type 1} → statement M
+settle-spec =
+    tie.close
+    (tie.spec
+    enum-known-d
+    observe-requires
+    retired-as-requires
+    enum-known-d-2
+    returns
+    returns-2)
