@@ -1,3 +1,15 @@
+use mathlib.Core.Path.{_≡_, refl, sym, ap, _∙_}
+use native.Mathlib.Omega.{arith}
+use borrow.Author.Tests.{lt-leb, le-leb, not-true, not-false}
+use Rattle.word.proofs.BytesLaws.{length-toLe}
+use Prim.Native.Nat.{ℕ}
+use Rattle.reserve.specs.Reserve.{observeAllOf}
+use Rattle.reserve.specs.declared.Observed.{Observed}
+use Rattle.reserve.specs.declared.Notice.the-variants.{DeviceWrite}
+use Rattle.reserve.proofs.RangeLaws.{inside-of}
+use Rattle.model.specs.Act.{leaves}
+use Rattle.model.specs.Perform.{deviceOf}
+use Rattle.model.specs.declared.Outcome.the-variants as O
 use borrow.Author.Needs.{needs}
 use Rattle.model.proofs.advance.write_device.Statement.{statement}
 use Rattle.model.proofs.advance.write_device.Tie as tie
@@ -6,13 +18,15 @@ refused-requires : tie.Need-refused-requires
 refused-requires c κs = search needs
 
 returns : tie.Need-returns
-returns c = ?
+unfolding deviceOf leaves
+returns c = rw (lt-leb 1 (c .before .before .before .args .size) (omega arith)) (c .refused .ensures, refl)
 
 refused-requires-2 : tie.Need-refused-requires-2
 refused-requires-2 c κs = search needs
 
 returns-2 : tie.Need-returns-2
-returns-2 c = ?
+unfolding deviceOf leaves
+returns-2 c = rw (le-leb 1 (c .before .before .before .before .args .size) (omega arith), lt-leb (c .before .before .before .before .args .size) 8 (c .before .if2 .taken)) (c .refused2 .ensures, refl)
 
 inside-requires : tie.Need-inside-requires
 inside-requires c κs = search needs
@@ -21,13 +35,15 @@ refused-requires-3 : tie.Need-refused-requires-3
 refused-requires-3 c κs = search needs
 
 returns-3 : tie.Need-returns-3
-returns-3 c = ?
+unfolding deviceOf leaves
+returns-3 c =
+    rw (le-leb 1 (c .before .before .before .before .before .before .args .size) (omega arith), le-leb (c .before .before .before .before .before .before .args .size) 8 (omega arith), sym (c .before .before .inside .ensures) ∙ not-true _ (c .before .if3 .taken)) (c .refused3 .ensures, refl)
 
 sub-store-at : tie.Need-sub-store-at
-sub-store-at c = search needs
+sub-store-at c = let i = inside-of _ _ _ _ (sym (c .before .before .inside .ensures) ∙ not-false _ (c .before .if3 .left)) in omega arith
 
 store-at-requires : tie.Need-store-at-requires
-store-at-requires c κs = search needs
+store-at-requires c κs = let i = inside-of _ _ _ _ (sym (c .before .before .inside .ensures) ∙ not-false _ (c .before .if3 .left)) in omega arith
 
 observe-requires : tie.Need-observe-requires
 observe-requires c κs = search needs
@@ -36,7 +52,12 @@ same-length : tie.Need-same-length
 same-length c = search needs
 
 returns-4 : tie.Need-returns-4
-returns-4 c = ?
+unfolding deviceOf leaves
+returns-4 c =
+    let a = c .before .before .before .before .before .before .before .before .before .before .before .args in
+    let q = c .before .observe .ensures ∙ ap (λ (k : ℕ). observeAllOf 64 (a .count) (DeviceWrite (a .addr) k) (a .res)) (sym (length-toLe (a .size) (a .value))) in
+    rw (le-leb 1 (a .size) (omega arith), le-leb (a .size) 8 (omega arith), sym (c .before .before .before .before .before .before .before .inside .ensures) ∙ not-false _ (c .before .before .before .before .before .before .if3 .left))
+    (ap (λ (o : Observed). record { outcome = O.Retired; slots = o .slots }) q, c .before .before .before .before .store-at .ensures)
 
 pub write-device-spec : {M : Type 1} → statement M
 write-device-spec =
