@@ -1,7 +1,7 @@
 -- What a step's effect does part by part is what its act does. Assumes nothing.
-use mathlib.Core.Path.{_≡_, refl, ap, ap₂, _∙_}
+use mathlib.Core.Path.{_≡_, refl, sym, ap, subst}
 use mathlib.Core.Bool.{Bool, true, false, cond, _&&_}
-use mathlib.Core.List.{List}
+use mathlib.Core.List.{List, _∷_}
 use Prim.Native.Nat.{ℕ}
 use lib.Dec.{leb}
 use lib.ListN.{length}
@@ -13,6 +13,19 @@ use Rattle.model.specs.Act.{Act, refuse, put, told, setReg, registersAft
 use Rattle.model.specs.Perform.{ofExec, deviceOf}
 use Rattle.model.specs.Advance.{registersBy, countersBy, settledBy}
 use Rattle.model.specs.declared.Advanced.{Advanced}
+use Rattle.events.specs.declared.Event.{Event}
+use Rattle.machine.specs.State.{refusalOf}
+use Rattle.machine.proofs.StateLaws.{refusal-0}
+use Rattle.model.specs.Perform.{Machine, actOn, actOf, answerOf, memoryOf, nextOf}
+use Rattle.model.specs.Valid.{Valid}
+use Rattle.model.specs.Advance.{Advances, stateFrom}
+use Rattle.model.specs.Act.{apply}
+use Rattle.model.proofs.Valid.{act-valid, valid-next}
+use Rattle.events.specs.Events.{eventOf, firstEvents}
+use lib.ListN.{take, drop}
+use lib.Seq.{drop-drop}
+use Prim.Native.Nat.{zero, suc, _+_, _*_, _-_, _≤_, _<_}
+use native.Mathlib.Omega.{arith}
 
 module _ (h : ℕ) where
   pub registers-told : (e : E.Exec) (x : List ℕ) → registersBy h (E.told h e) x ≡ registersAfter (ofExec h e) x
@@ -58,3 +71,42 @@ module _ (base : ℕ) (mem : List ℕ) (a n v : ℕ) where
 
   pub device-counters : (pc : List ℕ) → countersAfter (deviceOf base mem a n v) pc ≡ pc
   device-counters pc = either (λ (act : Act). countersAfter act pc ≡ pc) refl refl refl
+
+-- what was performed in place is the machine after the event
+module _ (base count : ℕ) (x pc mem : List ℕ) (res : List Slot) (none : refusalOf base (length mem) (stateFrom count x pc res) ≡ 0) (e : Event) where
+  here : Machine
+  here = record { state = stateFrom count x pc res; mem = mem }
+
+  valid : Valid base here
+  unfolding here
+  valid = refusal-0 base (length mem) (stateFrom count x pc res) .0 none
+
+  module _ (r : Advanced) (x′ pc′ mem′ : List ℕ) (a : Advances (actOn base mem (stateFrom count x pc res) e) base count res x pc mem r x′ pc′ mem′) where
+    pub advanced-next : record { state = stateFrom count x′ pc′ (r .slots); mem = mem′ } ≡ nextOf base (record { state = stateFrom count x pc res; mem = mem }) e
+    unfolding nextOf answerOf memoryOf apply here
+    advanced-next = rw (act-valid base here valid e, a .registers, a .counters, a .slots, a .memory)
+
+    pub advanced-valid : refusalOf base (length mem′) (stateFrom count x′ pc′ (r .slots)) ≡ 0
+    unfolding here
+    advanced-valid =
+        refusal-0 base (length mem′) (stateFrom count x′ pc′ (r .slots)) .1
+        (subst (λ (m : Machine). Valid base m) (sym advanced-next) (valid-next base here valid e))
+
+    pub advanced-answer : r .outcome ≡ told (actOf base mem (stateFrom count x pc res) e)
+    unfolding here
+    advanced-answer = rw (act-valid base here valid e) (a .outcome)
+
+pub take-events : (k n : ℕ) (body : List ℕ) → k ≤ n → take k (firstEvents n body) ≡ firstEvents k body
+unfolding firstEvents
+take-events zero n body h = refl
+take-events (suc k) zero body h = absurd (omega arith)
+take-events (suc k) (suc n) body h = ap (λ (l : List Event). eventOf (take 24 body) ∷ l) (take-events k n (drop 24 body) (omega arith))
+
+-- one event more of a body
+pub events-more : (n i : ℕ) (body : List ℕ) → i < n
+    → firstEvents (n - i) (drop (i * 24) body) ≡ eventOf (take 24 (drop (i * 24) body)) ∷ firstEvents (n - (i + 1)) (drop ((i + 1) * 24) body)
+unfolding firstEvents
+events-more n i body h =
+    let e : n - i ≡ suc (n - (i + 1)) = omega arith in
+    let f : (i + 1) * 24 ≡ i * 24 + 24 = omega arith in
+    rw (e, f, drop-drop 24 (i * 24) body)

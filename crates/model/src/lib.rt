@@ -1,8 +1,13 @@
 // The machine: events and runs of events on a state and a lent memory.
 pub mod advance;
+pub mod run;
 
+use events::Event;
 use machine::State;
 use reserve::Slot;
+ghost use mathlib.Core.Path.{_≡_};
+ghost use Rattle.events.specs.declared.Event.the-variants.{Step, Device, Yield};
+ghost use Rattle.model.specs.Perform.{answerOf, memoryOf};
 
 // The answer to an event. ScStored and ScFailed are the two ends of an SC that does not trap, whatever its rd: 0 and 1.
 pub enum Outcome {
@@ -35,4 +40,70 @@ pub struct Ran {
 pub struct Advanced {
     pub outcome: Outcome,
     pub slots: [Slot; 8],
+}
+
+// An event on a state and the memory at base: the answer with the state afterwards. A refusal and a trap change nothing.
+pub fn perform(s: State, base: u64, mem: &mut [u8], e: Event) -> Answer
+    ensures { λ r. ⌜ (r ≡ answerOf base (now (mem .entry)) s e) × (now (mem .exit) ≡ memoryOf base (now (mem .entry)) s e) ⌝ }
+{
+    let count = s.count;
+    let mut x = s.x;
+    let mut pc = s.pc;
+    let res = s.res;
+    let number = machine::refusal(base, mem.len(), count, &x, &pc, res);
+    if number != 0 {
+        return Answer {
+            outcome: Outcome::Refused { number },
+            state: s,
+        };
+    }
+    let a = advance::advance(&mut x, &mut pc, res, count, base, mem, e);
+    let outcome = a.outcome;
+    let slots = a.slots;
+    Answer {
+        outcome,
+        state: State {
+            count,
+            x,
+            pc,
+            res: slots,
+        },
+    }
+}
+
+// A step of a hart: fetches the word at its pc and performs it.
+pub fn step(s: State, base: u64, mem: &mut [u8], hart: usize) -> Answer
+    ensures { λ r. ⌜ (r ≡ answerOf base (now (mem .entry)) s (Step hart)) × (now (mem .exit) ≡ memoryOf base (now (mem .entry)) s (Step hart)) ⌝ }
+{
+    perform(s, base, mem, Event::Step { hart })
+}
+
+// A device write of the size lowest bytes of value, the first byte lowest.
+pub fn device_write(
+    s: State,
+    base: u64,
+    mem: &mut [u8],
+    addr: u64,
+    size: usize,
+    value: u64,
+) -> Answer
+    ensures { λ r. ⌜ (r ≡ answerOf base (now (mem .entry)) s (Device addr size value)) × (now (mem .exit) ≡ memoryOf base (now (mem .entry)) s (Device addr size value)) ⌝ }
+{
+    perform(
+        s,
+        base,
+        mem,
+        Event::Device {
+            addr,
+            size,
+            data: value,
+        },
+    )
+}
+
+// A yield: drops a hart's reservation.
+pub fn yield_hart(s: State, base: u64, mem: &mut [u8], hart: usize) -> Answer
+    ensures { λ r. ⌜ (r ≡ answerOf base (now (mem .entry)) s (Yield hart)) × (now (mem .exit) ≡ memoryOf base (now (mem .entry)) s (Yield hart)) ⌝ }
+{
+    perform(s, base, mem, Event::Yield { hart })
 }

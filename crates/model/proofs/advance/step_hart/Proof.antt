@@ -18,9 +18,8 @@ use Rattle.model.proofs.advance.step_hart.Tie as tie
 -- helpers
 rules : (c : tie.Start) → MemoryRules (c .args .base) (length (c .args .mem .now)) × StateRules (c .args .base) (length (c .args .mem .now)) (stateFrom (c .args .count) (c .args .x .now) (c .args .pc .now) (c .args .t3))
 rules c = refusal-0 _ _ _ .0 (c .pre .0)
+
 -- end of helpers
-
-
 
 mul-s : tie.Need-mul-s
 mul-s c = omega (arith, rules (c .before) .1 .1)
@@ -37,9 +36,10 @@ element-copy-out-at c = omega (arith, rules (c .before .before) .1 .1)
 fetch-requires : tie.Need-fetch-requires
 fetch-requires c κs =
     let a = c .before .before .before .before .before .args in
-    let r = rules (c .before .before .before .before .before) in
-    (omega (arith, r .1 .1),
-    held-rules (a .base) (length (a .mem .now)) (reservationOf (stateFrom (a .count) (a .x .now) (a .pc .now) (a .t3)) (a .h)) (r .0) (r .1 .2 (a .h) (c .before .before .before .before .before .pre .1) .2))
+    let r = rules (c .before .before .before .before .before) in (
+      omega (arith, r .1 .1),
+      held-rules (a .base) (length (a .mem .now)) (reservationOf (stateFrom (a .count) (a .x .now) (a .pc .now) (a .t3)) (a .h)) (r .0) (r .1 .2 (a .h) (c .before .before .before .before .before .pre .1) .2),
+    )
 
 move-hart-requires : tie.Need-move-hart-requires
 move-hart-requires c κs = omega (arith, rules (c .before .before .before .before .before .before .before .before .before .before) .1 .1)
