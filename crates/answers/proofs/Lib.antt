@@ -1,0 +1,2 @@
+-- What each event is answered with, by the tables of 01.
+pub mod Refused
