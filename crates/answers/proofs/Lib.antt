@@ -1,2 +1,3 @@
 -- What each event is answered with, by the tables of 01.
 pub mod Refused
+pub mod Trapped
