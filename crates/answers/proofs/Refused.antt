@@ -23,7 +23,7 @@ use Rattle.model.specs.Act.{Act, refuse, fault, change, put, release, told, app
 use Rattle.model.specs.Perform.{stepOf, ofExec, actOn, actOf, answerOf, memoryOf}
 use Rattle.model.specs.declared.Outcome.{Outcome}
 use Rattle.model.specs.declared.Outcome.the-variants as O
-use Rattle.answers.specs.Refusals.{NoHart, BadSize, Beyond, RefusalRow, badMemory, badState, noHart, badSize, beyond, FirstRefusal}
+use Rattle.answers.specs.Refusals.{NoHart, BadSize, Beyond, RefusalRow, badMemory, badState, noHart, badSize, beyond, FirstRefusal, Unrefused}
 
 -- ---- the answers apart
 
@@ -109,7 +109,7 @@ module _ (base : ℕ) (mem : List ℕ) (s : State) where
   -- refused by the first row that applies, or let pass
   pub data Decided (e : Event) : Type 0 where
     refuses : (n : ℕ) → actOf base mem s e ≡ refuse n → FirstRefusal base mem s e n → Decided e
-    passes : actOf base mem s e ≡ passed base mem s e → ((k : ℕ) → RefusalRow base mem s e k → ⊥) → Decided e
+    passes : actOf base mem s e ≡ passed base mem s e → Unrefused base mem s e → Decided e
 
   -- of a good memory and state
   module _ (m : MemoryRules base (length mem)) (r : StateRules base (length mem) s) where
@@ -117,8 +117,12 @@ module _ (base : ℕ) (mem : List ℕ) (s : State) where
         → (k : ℕ) → k < n → RefusalRow base mem s e k → ⊥
     clear e n = none-below e n (λ l. m) (λ l. r)
 
-    free : (e : Event) → (NoHart s e → ⊥) → (BadSize e → ⊥) → (Beyond base (length mem) e → ⊥) → (k : ℕ) → RefusalRow base mem s e k → ⊥
+    free : (e : Event) → (NoHart s e → ⊥) → (BadSize e → ⊥) → (Beyond base (length mem) e → ⊥) → Unrefused base mem s e
     free e a b c k q = let l = numbered e k q in clear e 6 (λ z. a) (λ z. b) (λ z. c) k (omega arith) q
+
+    -- of a hart below the count
+    pub step-unrefused : (h : ℕ) → h < s .count → Unrefused base mem s (Step h)
+    step-unrefused h l = free (Step h) (λ z. z l) (λ z. z) (λ z. z)
 
     good : (e : Event) → actOf base mem s e ≡ actOn base mem s e
     unfolding actOf

@@ -27,7 +27,7 @@ use Rattle.effect.specs.Atomic.{execLr, execSc, execAmo, execCas, execCasPair}
 use Rattle.effect.specs.Execute.{atomicBy, execAtomic, execute, executeWord}
 use Rattle.effect.proofs.TrapLaws.{misaligned-traps, outside-traps, access-retires, jump-traps, jump-retires, branch-traps, branch-taken, branch-passed, sc-traps, sc-succeeds, sc-fails}
 use Rattle.model.specs.Perform.{fetchOf}
-use Rattle.answers.specs.Causes.{Reach, nowhere, jumps, reads, writes, writesIf, reachOf, TrapRow, unfetched, unknown, called, halted, astray, crookedRead, crookedWrite, outsideRead, outsideWrite, StepRow, FirstTrap}
+use Rattle.answers.specs.Causes.{Reach, nowhere, jumps, reads, writes, writesIf, reachOf, TrapRow, unfetched, unknown, called, halted, astray, crookedRead, crookedWrite, outsideRead, outsideWrite, StepRow, FirstTrap, Untrapped}
 use Rattle.answers.proofs.Refused.{first-same}
 
 -- ---- traps apart
@@ -149,7 +149,11 @@ module _ (word : ℕ) (x : ℕ → ℕ) (pc base : ℕ) (mem : List ℕ) where
   placed i k c v (outsideRead q r n w z) = (omega arith, omega arith, omega arith, rw (q, w) r, rw (q, w) refl)
   placed i k c v (outsideWrite q r n w z) = (omega arith, omega arith, omega arith, rw (q, w) r, rw (q, w) refl)
 
-  first-equal : (i : Instr) (c v d w : ℕ) → FirstTrap (TrapRow i word x pc base mem) c v → FirstTrap (TrapRow i word x pc base mem) d w
+  pub cause-most : (i : Instr) (k c v : ℕ) → TrapRow i word x pc base mem k c v → c ≤ 8
+  cause-most i k c v r = placed i k c v r .2
+
+  -- so there is one first row, with one cause and value
+  pub first-equal : (i : Instr) (c v d w : ℕ) → FirstTrap (TrapRow i word x pc base mem) c v → FirstTrap (TrapRow i word x pc base mem) d w
       → (c ≡ d) × (v ≡ w)
   first-equal i c v d w f g =
       let R : ℕ → Type 0 = λ k. (c : ℕ) × (v : ℕ) × TrapRow i word x pc base mem k c v in
@@ -163,7 +167,7 @@ module _ (word : ℕ) (x : ℕ → ℕ) (pc base : ℕ) (mem : List ℕ) where
   -- the first row that applies is what it comes to, or no row applies and it comes to an effect
   pub data Decided (i : Instr) (e : Exec) : Type 0 where
     traps : (c v : ℕ) → e ≡ trap c v → FirstTrap (TrapRow i word x pc base mem) c v → Decided i e
-    retires : (ws : Writes) (to : ℕ) (t : Touch) → e ≡ effect ws to t → ((k c v : ℕ) → TrapRow i word x pc base mem k c v → ⊥) → Decided i e
+    retires : (ws : Writes) (to : ℕ) (t : Touch) → e ≡ effect ws to t → Untrapped (TrapRow i word x pc base mem) → Decided i e
 
   -- ---- a word that is in memory
   module _ (inside : Inside base (length mem) pc 4) where

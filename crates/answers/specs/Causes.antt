@@ -92,3 +92,6 @@ pub record FirstTrap (R : ℕ → ℕ → ℕ → Type 0) (cause value : ℕ) : 
   pub place : ℕ
   pub applies : R place cause value
   pub first : (k c v : ℕ) → k < place → R k c v → ⊥
+
+abbrev pub Untrapped : (ℕ → ℕ → ℕ → Type 0) → Type 0
+Untrapped R = (place cause value : ℕ) → R place cause value → ⊥

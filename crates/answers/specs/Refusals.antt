@@ -41,3 +41,6 @@ pub data RefusalRow (base : ℕ) (mem : List ℕ) (s : State) (e : Event) (numbe
 pub record FirstRefusal (base : ℕ) (mem : List ℕ) (s : State) (e : Event) (number : ℕ) : Type 0 where
   pub applies : RefusalRow base mem s e number
   pub first : (k : ℕ) → k < number → RefusalRow base mem s e k → ⊥
+
+abbrev pub Unrefused : ℕ → List ℕ → State → Event → Type 0
+Unrefused base mem s e = (number : ℕ) → RefusalRow base mem s e number → ⊥
