@@ -1,5 +1,5 @@
 -- Every event has an answer: the first refusal that applies, else the first trap that applies, else it is retired. Assumes nothing.
-use Prim.Native.Nat.{ℕ, _≤_, _<_}
+use Prim.Native.Nat.{ℕ, _≤_}
 use mathlib.Core.Path.{_≡_, refl, sym, _∙_, ap, subst}
 use mathlib.Core.Logic.{_↔_}
 use mathlib.Core.Bool.{Bool}
@@ -15,7 +15,7 @@ use Rattle.effect.specs.Effect.{nothing, reserve, store, scStore, scLose, Exec,
 use Rattle.effect.specs.Memory.{valueAt}
 use Rattle.effect.specs.Execute.{regAt}
 use Rattle.model.specs.Act.{told}
-use Rattle.model.specs.Perform.{reservationOf, stepOf, ofExec, actOf, answerOf, memoryOf}
+use Rattle.model.specs.Perform.{reservationOf, stepOf, ofExec, answerOf, memoryOf}
 use Rattle.model.specs.declared.Outcome.{Outcome}
 use Rattle.model.specs.declared.Outcome.the-variants as O
 use Rattle.answers.specs.Refusals.{FirstRefusal, Unrefused}

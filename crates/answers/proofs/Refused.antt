@@ -1,16 +1,16 @@
 -- A refusal is given exactly by the table of refusals, and changes nothing. Assumes nothing.
 use Prim.Native.Nat.{ℕ, _≤_, _<_}
 use mathlib.Core.Path.{_≡_, refl, sym, _∙_, ap, subst}
-use mathlib.Core.Logic.{_⊎_, inl, inr, ⊎-elim, _↔_}
-use mathlib.Core.Bool.{Bool, true, false, cond, _&&_}
+use mathlib.Core.Logic.{inl, inr, ⊎-elim, _↔_}
+use mathlib.Core.Bool.{Bool, false, cond, _&&_}
 use mathlib.Core.List.{List}
 use native.Mathlib.Omega.{arith}
 use lib.ListN.{length}
-use lib.Dec.{ltb, leb, eqb}
-use borrow.Author.Tests.{ltb-true, ltb-false, leb-true, leb-false, lt-ltb, le-leb, ne-eqb}
+use lib.Dec.{ltb, leb}
+use borrow.Author.Tests.{ltb-true, ltb-false, leb-true, leb-false, le-leb, ne-eqb}
 use Rattle.word.specs.Bytes.{toLe}
 use Rattle.word.proofs.TestLaws.{bool-cases, contrary}
-use Rattle.reserve.specs.Range.{Inside, insideOf}
+use Rattle.reserve.specs.Range.{insideOf}
 use Rattle.reserve.proofs.RangeLaws.{inside-of, of-inside}
 use Rattle.machine.specs.State.{memoryOk, stateOk, refusalOf}
 use Rattle.machine.specs.Rules.{MemoryRules, StateRules}

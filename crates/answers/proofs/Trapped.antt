@@ -1,7 +1,7 @@
 -- What a hart fetches traps exactly by the table of traps. Assumes nothing.
 use Prim.Native.Nat.{ℕ, _%_, _≤_, _<_}
 use mathlib.Core.Path.{_≡_, refl, sym, _∙_, ap, subst}
-use mathlib.Core.Logic.{_⊎_, inl, inr, ⊎-elim, _↔_}
+use mathlib.Core.Logic.{inl, inr, ⊎-elim, _↔_}
 use mathlib.Core.Bool.{Bool, true, false, cond}
 use mathlib.Core.List.{List}
 use native.Mathlib.Omega.{arith}
@@ -20,9 +20,9 @@ use Rattle.isa.specs.declared.Width.{Width}
 use Rattle.isa.specs.declared.BranchOp.{BranchOp}
 use Rattle.isa.specs.declared.Instr.{Instr}
 use Rattle.isa.specs.declared.Instr.the-variants.{Illegal, Lui, Auipc, Jal, Jalr, Branch, Load, Store, OpImm, OpImm32, Op, Op32, Fence, Ecall, Ebreak, Amo}
-use Rattle.effect.specs.Effect.{Writes, none, one, Touch, nothing, scLose, scStore, Exec, trap, effect, offset, nextOf}
-use Rattle.effect.specs.Integer.{execJump, even, holdsOf, execBranch}
-use Rattle.effect.specs.Memory.{checked, valueAt, loadBytes, storeBytes, execLoad, execStore}
+use Rattle.effect.specs.Effect.{Writes, none, one, Touch, nothing, Exec, trap, effect, offset, nextOf}
+use Rattle.effect.specs.Integer.{even, holdsOf, execBranch}
+use Rattle.effect.specs.Memory.{checked, valueAt, execLoad, execStore}
 use Rattle.effect.specs.Atomic.{execLr, execSc, execAmo, execCas, execCasPair}
 use Rattle.effect.specs.Execute.{atomicBy, execAtomic, execute, executeWord}
 use Rattle.effect.proofs.TrapLaws.{misaligned-traps, outside-traps, access-retires, jump-traps, jump-retires, branch-traps, branch-taken, branch-passed, sc-traps, sc-succeeds, sc-fails}

@@ -36,7 +36,7 @@ atomicReach Cas w a = writes a (bytesOf w)
 atomicReach CasPair w a = writes a 16
 atomicReach (Rmw op) w a = writes a (bytesOf w)
 
--- x gives the hart's registers
+-- x gives the hart's registers; holdsOf says whether a branch is taken, and even clears the lowest bit of JALR's target
 abbrev pub reachOf : Instr → (ℕ → ℕ) → ℕ → Reach
 reachOf (Jal rd imm) x pc = jumps (offset 64 pc imm)
 reachOf (Jalr rd rs1 imm) x pc = jumps (even (offset 64 (x rs1) imm))
@@ -93,5 +93,6 @@ pub record FirstTrap (R : ℕ → ℕ → ℕ → Type 0) (cause value : ℕ) : 
   pub applies : R place cause value
   pub first : (k c v : ℕ) → k < place → R k c v → ⊥
 
+-- no row applies
 abbrev pub Untrapped : (ℕ → ℕ → ℕ → Type 0) → Type 0
 Untrapped R = (place cause value : ℕ) → R place cause value → ⊥

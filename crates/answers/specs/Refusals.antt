@@ -28,7 +28,7 @@ Beyond base len (Step h) = ⊥
 Beyond base len (Device a n v) = Inside base len a n → ⊥
 Beyond base len (Yield h) = ⊥
 
--- Row number applies. MemoryRules and StateRules are the rules of 01, "The machine": "memory length or base breaks the rules above"; "state
+-- The row of this number applies. MemoryRules and StateRules are the rules of 01, "The machine": "memory length or base breaks the rules above"; "state
 -- malformed".
 pub data RefusalRow (base : ℕ) (mem : List ℕ) (s : State) (e : Event) (number : ℕ) : Type 0 where
   badMemory : number ≡ 1 → (MemoryRules base (length mem) → ⊥) → RefusalRow base mem s e number
@@ -42,5 +42,6 @@ pub record FirstRefusal (base : ℕ) (mem : List ℕ) (s : State) (e : Event) (n
   pub applies : RefusalRow base mem s e number
   pub first : (k : ℕ) → k < number → RefusalRow base mem s e k → ⊥
 
+-- no row applies
 abbrev pub Unrefused : ℕ → List ℕ → State → Event → Type 0
 Unrefused base mem s e = (number : ℕ) → RefusalRow base mem s e number → ⊥
