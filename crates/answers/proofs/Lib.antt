@@ -1,0 +1,4 @@
+-- What each event is answered with, by the tables of 01.
+pub mod Refused
+pub mod Trapped
+pub mod Answers
