@@ -20,7 +20,7 @@ use Rattle.events.specs.declared.Event.{Event}
 use Rattle.events.specs.declared.Event.the-variants.{Step, Device, Yield}
 use Rattle.effect.specs.Effect.{nothing, reserve, store, scStore, scLose, Exec, trap, effect}
 use Rattle.model.specs.Act.{Act, refuse, fault, change, put, release, told, apply, leaves}
-use Rattle.model.specs.Perform.{stepOf, ofExec, actOn, actOf, answerOf, memoryOf}
+use Rattle.model.specs.Perform.{stepOf, ofExec, deviceOf, actOn, actOf, answerOf, memoryOf}
 use Rattle.model.specs.declared.Outcome.{Outcome}
 use Rattle.model.specs.declared.Outcome.the-variants as O
 use Rattle.answers.specs.Refusals.{NoHart, BadSize, Beyond, RefusalRow, badMemory, badState, noHart, badSize, beyond, FirstRefusal, Unrefused}
@@ -139,13 +139,13 @@ module _ (base : ℕ) (mem : List ℕ) (s : State) where
         (record { applies = noHart refl (is (λ l. omega (arith, ltb-false h (s .count) t, l))); first = clear e 3 (λ l. absurd (omega arith)) (λ l. absurd (omega arith)) (λ l. absurd (omega arith)) }))
 
     refuse-size : (a n v : ℕ) → BadSize (Device a n v) → (leb 1 n && leb n 8) ≡ false → Decided (Device a n v)
-    unfolding actOn
+    unfolding actOn deviceOf
     refuse-size a n v bad t =
         refuses 4 (good (Device a n v) ∙ rw t)
         (record { applies = badSize refl bad; first = clear (Device a n v) 4 (λ l z. z) (λ l. absurd (omega arith)) (λ l. absurd (omega arith)) })
 
     device-sized : (a n v : ℕ) → 1 ≤ n → n ≤ 8 → Decided (Device a n v)
-    unfolding actOn
+    unfolding actOn deviceOf
     device-sized a n v lo hi =
         let sized : BadSize (Device a n v) → ⊥ = λ z. ⊎-elim (λ (q : n ≡ 0). omega arith) (λ (q : 8 < n). omega arith) z in
         bool-cases (insideOf base (length mem) a n)
@@ -157,7 +157,7 @@ module _ (base : ℕ) (mem : List ℕ) (s : State) where
         (record { applies = beyond refl (λ i. contrary (of-inside base (length mem) a n i) t); first = clear (Device a n v) 5 (λ l z. z) (λ l. sized) (λ l. absurd (omega arith)) }))
 
     decided-on : (e : Event) → Decided e
-    unfolding actOn
+    unfolding actOn deviceOf
     decided-on (Step h) = by-hart (Step h) h (ofExec h (stepOf base mem s h)) (λ z. z) (λ z. z) (λ z. z) (λ z. z) refl refl
     decided-on (Device a n v) =
         bool-cases (leb 1 n)
