@@ -63,24 +63,12 @@ fn retired_as(n: Notice) -> Outcome
 {
     match n {
         Notice::Quiet => Outcome::Retired,
-        Notice::LoadReserved {
-            hart: _,
-            addr: _,
-            width: _,
-        } => Outcome::Retired,
-        Notice::ScDone {
-            hart: _,
-            addr: _,
-            len: _,
-        } => Outcome::ScStored,
-        Notice::ScFailed { hart: _ } => Outcome::ScFailed,
-        Notice::Write {
-            hart: _,
-            addr: _,
-            len: _,
-        } => Outcome::Retired,
-        Notice::DeviceWrite { addr: _, len: _ } => Outcome::Retired,
-        Notice::Yield { hart: _ } => Outcome::Retired,
+        Notice::LoadReserved { .. } => Outcome::Retired,
+        Notice::ScDone { .. } => Outcome::ScStored,
+        Notice::ScFailed { .. } => Outcome::ScFailed,
+        Notice::Write { .. } => Outcome::Retired,
+        Notice::DeviceWrite { .. } => Outcome::Retired,
+        Notice::Yield { .. } => Outcome::Retired,
     }
 }
 

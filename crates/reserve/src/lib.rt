@@ -77,7 +77,7 @@ pub fn covers(size: u64, r: Reservation, b: u64, n: u64) -> bool
 {
     match r {
         Reservation::None => false,
-        Reservation::Held { addr, width: _ } => inside(set_of(size, addr), size, b, n),
+        Reservation::Held { addr, .. } => inside(set_of(size, addr), size, b, n),
     }
 }
 
@@ -88,18 +88,14 @@ fn reached(size: u64, h: usize, n: Notice, addr: u64, width: u64) -> bool
 {
     match n {
         Notice::Quiet => false,
-        Notice::LoadReserved {
-            hart: _,
-            addr: _,
-            width: _,
-        } => false,
+        Notice::LoadReserved { .. } => false,
         Notice::ScDone { hart, addr: b, len } => hart != h
             && touch(b, len, set_of(size, addr), size),
-        Notice::ScFailed { hart: _ } => false,
+        Notice::ScFailed { .. } => false,
         Notice::Write { hart, addr: b, len } => hart != h
             && touch(b, len, set_of(size, addr), size),
         Notice::DeviceWrite { addr: b, len } => touch(b, len, addr, width),
-        Notice::Yield { hart: _ } => false,
+        Notice::Yield { .. } => false,
     }
 }
 
@@ -132,18 +128,10 @@ fn own(h: usize, n: Notice, r: Reservation) -> Reservation
             }
             r
         }
-        Notice::ScDone {
-            hart,
-            addr: _,
-            len: _,
-        } => unless(hart == h, r),
+        Notice::ScDone { hart, .. } => unless(hart == h, r),
         Notice::ScFailed { hart } => unless(hart == h, r),
-        Notice::Write {
-            hart: _,
-            addr: _,
-            len: _,
-        } => r,
-        Notice::DeviceWrite { addr: _, len: _ } => r,
+        Notice::Write { .. } => r,
+        Notice::DeviceWrite { .. } => r,
         Notice::Yield { hart } => unless(hart == h, r),
     }
 }
@@ -185,23 +173,11 @@ pub fn observe(slots: [Slot; 8], count: usize, size: u64, n: Notice) -> Observed
 {
     match n {
         Notice::Quiet => Observed { slots, broken: 0 },
-        Notice::LoadReserved {
-            hart: _,
-            addr: _,
-            width: _,
-        } => observe_all(slots, count, size, n),
-        Notice::ScDone {
-            hart: _,
-            addr: _,
-            len: _,
-        } => observe_all(slots, count, size, n),
-        Notice::ScFailed { hart: _ } => observe_all(slots, count, size, n),
-        Notice::Write {
-            hart: _,
-            addr: _,
-            len: _,
-        } => observe_all(slots, count, size, n),
-        Notice::DeviceWrite { addr: _, len: _ } => observe_all(slots, count, size, n),
-        Notice::Yield { hart: _ } => observe_all(slots, count, size, n),
+        Notice::LoadReserved { .. } => observe_all(slots, count, size, n),
+        Notice::ScDone { .. } => observe_all(slots, count, size, n),
+        Notice::ScFailed { .. } => observe_all(slots, count, size, n),
+        Notice::Write { .. } => observe_all(slots, count, size, n),
+        Notice::DeviceWrite { .. } => observe_all(slots, count, size, n),
+        Notice::Yield { .. } => observe_all(slots, count, size, n),
     }
 }
