@@ -1,0 +1,43 @@
+use native.Mathlib.Omega.{arith}
+use Rattle.text.proofs.PutLaws.{then}
+use Rattle.lines.specs.Lines.{lineOf}
+use borrow.Author.Needs.{needs}
+use Rattle.lines.proofs.put_line.Statement.{statement}
+use Rattle.lines.proofs.put_line.Tie as tie
+
+put-decimal-requires : tie.Need-put-decimal-requires
+put-decimal-requires c κs = search needs
+
+put-byte-requires : tie.Need-put-byte-requires
+put-byte-requires c κs = search needs
+
+put-who-requires : tie.Need-put-who-requires
+put-who-requires c κs = search needs
+
+put-said-requires : tie.Need-put-said-requires
+put-said-requires c κs = search needs
+
+put-byte-requires-2 : tie.Need-put-byte-requires-2
+put-byte-requires-2 c κs = search needs
+
+same-length : tie.Need-same-length
+same-length c = search needs
+
+returns : tie.Need-returns
+unfolding lineOf
+returns c = (
+  then (c .before .before .before .before .before .before .before .before .before .before .before .before .before .before .before .before .before .before .put-decimal .ensures .0) (then (c .before .before .before .before .before .before .before .before .before .before .before .before .before .before .put-byte .ensures) (then (c .before .before .before .before .before .before .before .before .before .before .put-who .ensures .0) (then (c .before .before .before .before .before .before .put-said .ensures .0) (c .before .before .put-byte2 .ensures)))),
+  omega (arith, c .before .before .before .before .before .before .before .before .before .before .before .before .before .before .before .before .before .before .put-decimal .ensures .1, c .before .before .before .before .before .before .before .before .before .before .before .before .before .before .put-byte .ensures .end, c .before .before .before .before .before .before .before .before .before .before .put-who .ensures .1, c .before .before .before .before .before .before .put-said .ensures .1, c .before .before .put-byte2 .ensures .end),
+)
+
+pub put-line-spec : {M : Type 1} → statement M
+put-line-spec =
+    tie.close
+    (tie.spec
+    put-decimal-requires
+    put-byte-requires
+    put-who-requires
+    put-said-requires
+    put-byte-requires-2
+    same-length
+    returns)

@@ -1,0 +1,41 @@
+use native.Mathlib.Omega.{arith}
+use Rattle.text.proofs.PutLaws.{then}
+use borrow.Author.Needs.{needs}
+use Rattle.lines.proofs.put_trap.Statement.{statement}
+use Rattle.lines.proofs.put_trap.Tie as tie
+
+slice-aggregate-put-bytes : tie.Need-slice-aggregate-put-bytes
+slice-aggregate-put-bytes c = search needs
+
+put-bytes-requires : tie.Need-put-bytes-requires
+put-bytes-requires c κs = search needs
+
+put-decimal-requires : tie.Need-put-decimal-requires
+put-decimal-requires c κs = search needs
+
+put-byte-requires : tie.Need-put-byte-requires
+put-byte-requires c κs = search needs
+
+put-hex16-requires : tie.Need-put-hex16-requires
+put-hex16-requires c κs = search needs
+
+same-length : tie.Need-same-length
+same-length c = search needs
+
+returns : tie.Need-returns
+returns c = (
+  then (c .before .before .before .before .before .before .before .before .before .before .before .before .before .before .put-bytes .ensures) (then (c .before .before .before .before .before .before .before .before .before .before .put-decimal .ensures .0) (then (c .before .before .before .before .before .before .put-byte .ensures) (c .before .before .put-hex16 .ensures .0))),
+  omega (arith, c .before .before .before .before .before .before .before .before .before .before .before .before .before .before .put-bytes .ensures .end, c .before .before .before .before .before .before .before .before .before .before .put-decimal .ensures .1, c .before .before .before .before .before .before .put-byte .ensures .end, c .before .before .put-hex16 .ensures .1),
+)
+
+pub put-trap-spec : {M : Type 1} → statement M
+put-trap-spec =
+    tie.close
+    (tie.spec
+    slice-aggregate-put-bytes
+    put-bytes-requires
+    put-decimal-requires
+    put-byte-requires
+    put-hex16-requires
+    same-length
+    returns)

@@ -1,0 +1,2 @@
+-- The lines of a run.
+pub mod Lines

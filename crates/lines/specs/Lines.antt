@@ -1,0 +1,33 @@
+-- The lines of a run (01: "The program reads a case from standard input and writes lines, compared byte for byte").
+use Prim.Native.Nat.{ℕ, suc}
+use mathlib.Core.List.{List, [], _∷_, _++_}
+use Rattle.text.specs.Ascii.{ascii}
+use Rattle.text.specs.Number.{decimalOf, hexOf}
+use Rattle.events.specs.declared.Event.{Event}
+use Rattle.events.specs.declared.Event.the-variants.{Step, Device, Yield}
+use Rattle.model.specs.Perform.{Machine, answerOf, nextOf}
+use Rattle.model.specs.declared.Outcome.{Outcome}
+use Rattle.model.specs.declared.Outcome.the-variants.{Retired, ScStored, ScFailed, Trap, Refused}
+
+-- who: `h0` a step, `d` a device write, `y0` a yield
+abbrev pub whoOf : Event → List ℕ
+whoOf (Step h) = ascii "h" ++ decimalOf h
+whoOf (Device a n v) = ascii "d"
+whoOf (Yield h) = ascii "y" ++ decimalOf h
+
+-- what came of it. 01: "The line of a trap ends in `trap`, the cause, and the value in 16 lower-case hex digits"
+abbrev pub saidOf : Outcome → List ℕ
+saidOf Retired = ascii " ok"
+saidOf ScStored = ascii " sc 0"
+saidOf ScFailed = ascii " sc 1"
+saidOf (Trap cause value) = ascii " trap " ++ (decimalOf cause ++ (ascii " " ++ hexOf value))
+saidOf (Refused number) = ascii " refused " ++ decimalOf number
+
+-- the line of event number k
+unfoldable pub lineOf : ℕ → Event → Outcome → List ℕ
+lineOf k e o = decimalOf k ++ (ascii " " ++ (whoOf e ++ (saidOf o ++ ascii "\n")))
+
+-- one line for every event, in order, from number k on
+unfoldable pub linesOf : ℕ → Machine → ℕ → List Event → List ℕ
+linesOf base m k [] = []
+linesOf base m k (e ∷ es) = lineOf k e (answerOf base (m .mem) (m .state) e .outcome) ++ linesOf base (nextOf base m e) (suc k) es
