@@ -1,0 +1,2 @@
+-- The laws of case files.
+pub mod TableLaws

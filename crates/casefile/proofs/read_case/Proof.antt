@@ -1,0 +1,48 @@
+use borrow.Author.Needs.{needs}
+use Rattle.casefile.proofs.read_case.Statement.{statement}
+use Rattle.casefile.proofs.read_case.Tie as tie
+use Rattle.casefile.proofs.read_case.Reads as reads
+use Rattle.casefile.proofs.read_case.Lts as lts
+use Rattle.casefile.proofs.read_bodies.Reads as read-bodies-reads
+use Rattle.casefile.proofs.read_table.Reads as read-table-reads
+use Rattle.casefile.proofs.refused.Reads as refused-reads
+
+-- src/lib.rt:242:11
+read-table-requires : tie.Need-read-table-requires
+read-table-requires c κs = search needs
+
+-- src/lib.rt:243:26
+enum-known-number : tie.Need-enum-known-number
+enum-known-number c = search needs
+
+-- src/lib.rt:243:45
+refused-requires : tie.Need-refused-requires
+refused-requires c κs = search needs
+
+-- src/lib.rt:244:25
+enum-known-memory : tie.Need-enum-known-memory
+enum-known-memory c = search needs
+
+-- src/lib.rt:244:45
+read-bodies-requires : tie.Need-read-bodies-requires
+read-bodies-requires c κs = ?
+
+-- src/lib.rt:238:1
+returns : tie.Need-returns
+returns c = ?
+
+-- src/lib.rt:238:1
+returns-2 : tie.Need-returns-2
+returns-2 c = ?
+
+pub read-case-spec : {M : Type 1} → statement M
+read-case-spec =
+    tie.close
+    (tie.spec
+    read-table-requires
+    enum-known-number
+    refused-requires
+    enum-known-memory
+    read-bodies-requires
+    returns
+    returns-2)
