@@ -1,5 +1,6 @@
 -- The harts body of a case file (01, "The case file"): "1 harts: base (8), count (4), zero (4), then for each hart x1 to x31 and pc (8 each)."
-use Prim.Native.Nat.{ℕ, _+_, _*_, _-_, _/_, _%_, _^_}
+use mathlib.Core.Path.{_≡_}
+use Prim.Native.Nat.{ℕ, _+_, _*_, _-_, _/_, _%_, _^_, _≤_, _<_}
 use mathlib.Core.Bool.{Bool, cond, _&&_}
 use mathlib.Core.List.{List}
 use lib.Dec.{leb, eqb}
@@ -37,6 +38,17 @@ hartsOk body =
     && (eqb (zeroOf body) 0
     && (eqb (baseOf body % 64) 0 && (leb (baseOf body) (2 ^ 40) && allBelow (λ h. eqb (pcOf body h % 4) 0) (countOf body))))))
 
+-- the same without tests
+abbrev pub HartsRules : List ℕ → Type 0
+HartsRules body =
+    (length body ≡ 16 + 256 * countOf body)
+    × (1 ≤ countOf body)
+    × (countOf body ≤ 8)
+    × (zeroOf body ≡ 0)
+    × (baseOf body % 64 ≡ 0)
+    × (baseOf body ≤ 2 ^ 40)
+    × ((h : ℕ) → h < countOf body → pcOf body h % 4 ≡ 0)
+
 -- a machine without harts, all zero
 unfoldable pub noState : State
 noState = record { count = 0; x = replicate 256 0; pc = replicate 8 0; res = replicate 8 (slot None) }
@@ -49,4 +61,5 @@ stateOf count body =
       count = count;
       x = each (λ i _. registerOf body (i / 32) (i % 32)) (32 * count) (replicate 256 0);
       pc = each (λ h _. pcOf body h) count (replicate 8 0);
-      res = replicate 8 (slot None) }
+      res = replicate 8 (slot None);
+    }

@@ -62,13 +62,22 @@ fn read_table(file: &[u8]) -> Found
     ensures { λ r. ⌜ r ≡ tableOf (now (file .entry)) ⌝ }
 {
     if file.len() < 40 {
-        return Found::Refused { number: 7, place: 0 };
+        return Found::Refused {
+            number: 7,
+            place: 0,
+        };
     }
     if 65536 < file.len() {
-        return Found::Refused { number: 7, place: 0 };
+        return Found::Refused {
+            number: 7,
+            place: 0,
+        };
     }
     if field(file, 0) != 3 {
-        return Found::Refused { number: 8, place: 0 };
+        return Found::Refused {
+            number: 8,
+            place: 0,
+        };
     }
     match read_entry(file, 4, 1, 40) {
         Entry::Wrong(place) => Found::Refused { number: 8, place },
@@ -107,7 +116,6 @@ fn counters_ok(body: &[u8], count: usize) -> bool
 
 // Whether refusal 9 does not name a harts body.
 fn harts_ok(body: &[u8]) -> bool
-    requires { ⌜ length (now body) ≤ 65536 ⌝ }
     ensures { λ r. ⌜ r ≡ hartsOk (now (body .entry)) ⌝ }
 {
     if body.len() < 16 {

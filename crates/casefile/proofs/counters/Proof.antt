@@ -62,7 +62,7 @@ loop-again c =
     let k = c .before .before .loop .h in (
       search needs,
       rw (c .load-at .ensures, c .before .before .loop .inv .1, add-one)
-          (sym (each-suc (λ h _. pcOf (a .body .now) h) k (replicate 8 0) 0 (omega (arith, length-replicate 8 0)))),
+          (sym (each-suc (λ h _. pcOf (a .body .now) h) k (replicate 8 0) 0 (omega (arith, length-replicate {A = ℕ} 8 0)))),
     )
 
 -- src/lib.rt:154:1

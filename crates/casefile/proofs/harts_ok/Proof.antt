@@ -1,3 +1,10 @@
+use mathlib.Core.Path.{_≡_, sym, ap, _∙_}
+use Prim.Native.Nat.{ℕ, _+_, _*_}
+use native.Mathlib.Omega.{arith}
+use lib.ListN.{length}
+use borrow.Author.Tests.{eq-eqb, ne-eqb}
+use Rattle.casefile.specs.Harts.{countOf, hartsOk}
+use Rattle.casefile.specs.Harts.{hartsOk}
 use borrow.Author.Needs.{needs}
 use Rattle.casefile.proofs.harts_ok.Statement.{statement}
 use Rattle.casefile.proofs.harts_ok.Tie as tie
@@ -9,7 +16,10 @@ use Rattle.word.proofs.bytes.load_at.Reads as load-at-reads
 
 -- src/lib.rt:114:9
 returns : tie.Need-returns
-returns c = ?
+unfolding hartsOk
+returns c =
+    let b = c .before .before .args .body .now in
+    rw (ne-eqb (length b) (16 + 256 * countOf b) (λ z. omega arith))
 
 -- src/lib.rt:116:9
 field-requires : tie.Need-field-requires
@@ -25,7 +35,8 @@ add-if2 c = search needs
 
 -- src/lib.rt:118:9
 returns-2 : tie.Need-returns-2
-returns-2 c = ?
+unfolding hartsOk
+returns-2 c = rw (ne-eqb _ _ (λ z. c .if2 .taken (z ∙ ap (λ (n : ℕ). 16 + 256 * n) (sym (c .before .field .ensures .0)))))
 
 -- src/lib.rt:120:9
 load-at-requires : tie.Need-load-at-requires
@@ -41,7 +52,8 @@ counters-ok-requires c κs = search needs
 
 -- src/lib.rt:109:1
 returns-3 : tie.Need-returns-3
-returns-3 c = ?
+unfolding hartsOk
+returns-3 c = rw (c .counters-ok .ensures, c .before .field2 .ensures .0, c .before .before .load-at .ensures, eq-eqb _ _ (c .before .before .before .if2 .left ∙ ap (λ (n : ℕ). 16 + 256 * n) (c .before .before .before .before .field .ensures .0)), c .before .before .before .before .field .ensures .0)
 
 pub harts-ok-spec : {M : Type 1} → statement M
 harts-ok-spec =

@@ -1,3 +1,18 @@
+use mathlib.Core.List.{List}
+use lib.Seq.{take-all}
+use mathlib.Core.Path.{_≡_, sym, subst, _∙_}
+use mathlib.Core.Bool.{true}
+use Prim.Native.Nat.{ℕ, _-_, _≤_}
+use native.Mathlib.Omega.{arith}
+use lib.ListN.{length, take, drop, length-take, length-drop}
+use borrow.Author.Tests.{not-true, not-false}
+use Rattle.word.specs.Memory.{part}
+use Rattle.events.specs.Events.{checkedOf, Within}
+use Rattle.events.specs.declared.Checked.{Checked}
+use Rattle.events.specs.declared.Checked.the-variants.{Bad}
+use Rattle.casefile.specs.Harts.{baseOf, countOf, hartsOk, HartsRules}
+use Rattle.casefile.specs.Case.{lengthOk, bodiesOf}
+use Rattle.casefile.proofs.HartsLaws.{harts-exact}
 use borrow.Author.Needs.{needs}
 use Rattle.casefile.proofs.read_bodies.Statement.{statement}
 use Rattle.casefile.proofs.read_bodies.Tie as tie
@@ -10,6 +25,34 @@ use Rattle.casefile.proofs.read_state.Reads as read-state-reads
 use Rattle.casefile.proofs.refused.Reads as refused-reads
 use Rattle.events.proofs.check.Reads as check-reads
 use Rattle.word.proofs.bytes.load_at.Reads as load-at-reads
+
+-- helpers
+abbrev harts : (c : tie.Else1) → List ℕ
+harts c = take (c .before .before .before .before .args .memory - 40) (drop 40 (c .before .before .before .before .args .file .now))
+
+-- what 9 and 10 let pass, and what the check of the events said
+right : (c : tie.Else1) → hartsOk (harts c) ≡ true
+right c = sym (c .before .harts-ok .ensures) ∙ not-false _ (c .if1 .left)
+
+rules : (c : tie.Else1) → HartsRules (harts c)
+rules c = harts-exact (harts c) .0 (right c)
+
+abbrev memory : (c : tie.Else2) → List ℕ
+memory c = take (c .before .before .before .before .before .before .before .args .events - c .before .before .before .before .before .before .before .args .memory) (drop (c .before .before .before .before .before .before .before .args .memory) (c .before .before .before .before .before .before .before .args .file .now))
+
+long : (c : tie.Else2) → lengthOk (length (memory c)) ≡ true
+long c = sym (c .before .memory-ok .ensures) ∙ not-false _ (c .if2 .left)
+
+-- `&file[events..]` is what follows that place
+rest : (file : List ℕ) (e : ℕ) → take (length file - e) (drop e file) ≡ drop e file
+rest file e = take-all (length file - e) (drop e file) (rw length-drop (omega arith))
+
+seen : (c : tie.After-check) → checkedOf (countOf (harts (c .before .before .before .before .before .before .before))) (baseOf (harts (c .before .before .before .before .before .before .before))) (length (memory (c .before .before .before .before))) (drop (c .before .before .before .before .before .before .before .before .before .before .before .args .events) (c .before .before .before .before .before .before .before .before .before .before .before .args .file .now)) ≡ c .check .result
+seen c =
+    let size : length (memory (c .before .before .before .before)) ≡ c .before .before .before .before .before .before .before .before .before .before .before .args .events - c .before .before .before .before .before .before .before .before .before .before .before .args .memory = simp (length-take, length-drop) (omega arith) in
+    sym (c .check .ensures .0 ∙ rw (c .before .before .field .ensures .0, c .before .before .before .load-at .ensures, size, rest (c .before .before .before .before .before .before .before .before .before .before .before .args .file .now) (c .before .before .before .before .before .before .before .before .before .before .before .args .events)))
+
+-- end of helpers
 
 -- src/lib.rt:215:17
 sub-harts : tie.Need-sub-harts
@@ -33,7 +76,8 @@ refused-requires c κs = search needs
 
 -- src/lib.rt:217:9
 returns : tie.Need-returns
-returns c = ?
+unfolding bodiesOf part
+returns c = rw (sym (c .before .before .harts-ok .ensures) ∙ not-true _ (c .before .if1 .taken)) (c .refused .ensures)
 
 -- src/lib.rt:219:19
 sub-memory-ok : tie.Need-sub-memory-ok
@@ -57,15 +101,16 @@ refused-requires-2 c κs = search needs
 
 -- src/lib.rt:220:9
 returns-2 : tie.Need-returns-2
-returns-2 c = ?
+unfolding bodiesOf part
+returns-2 c = rw (right (c .before .before .before .before), sym (c .before .before .memory-ok .ensures) ∙ not-true _ (c .before .if2 .taken)) (c .refused2 .ensures)
 
 -- src/lib.rt:222:9
 load-at-requires : tie.Need-load-at-requires
-load-at-requires c κs = ?
+load-at-requires c κs = (omega (arith, rules (c .before .before .before) .0), omega arith)
 
 -- src/lib.rt:223:9
 field-requires : tie.Need-field-requires
-field-requires c κs = ?
+field-requires c κs = omega (arith, rules (c .before .before .before .before) .0)
 
 -- src/lib.rt:224:25
 sub-check : tie.Need-sub-check
@@ -93,7 +138,11 @@ enum-known-place c = search needs
 
 -- src/lib.rt:225:44
 add-refused : tie.Need-add-refused
-add-refused c = ?
+add-refused c =
+    let x = c .before .before .before .before .before .before .before .before .before .before .before .before .before .before .args in
+    let w = subst (λ (r : Checked). Within r (length (take (length (x .file .now) - x .events) (drop (x .events) (x .file .now))))) (c .before .place .given .1) (c .before .before .before .check .ensures .1) in
+    let l : length (take (length (x .file .now) - x .events) (drop (x .events) (x .file .now))) ≤ length (x .file .now) = simp (length-take, length-drop) (omega arith) in
+    omega (arith, w, l)
 
 -- src/lib.rt:225:32
 refused-requires-3 : tie.Need-refused-requires-3
@@ -105,15 +154,20 @@ enum-told c = search needs
 
 -- src/lib.rt:227:17
 read-state-requires : tie.Need-read-state-requires
-read-state-requires c κs = ?
+read-state-requires c κs =
+    let r = rules (c .before .before .before .before .before .before .before .before .before) in
+    let f = c .before .before .before .before .field .ensures .0 in
+    (rw f (r .2), rw f (r .0))
 
 -- src/lib.rt:210:1
 returns-3 : tie.Need-returns-3
-returns-3 c = ?
+unfolding bodiesOf part
+returns-3 c = rw (right (c .before .before .before .before .before .before .before .before .before .before .before), long (c .before .before .before .before .before .before .before .before), seen (c .before .before .before .before) ∙ c .before .before .place .given .1) (c .refused3 .ensures)
 
 -- src/lib.rt:210:1
 returns-4 : tie.Need-returns-4
-returns-4 c = ?
+unfolding bodiesOf part
+returns-4 c = rw (right (c .before .before .before .before .before .before .before .before .before .before), long (c .before .before .before .before .before .before .before), seen (c .before .before .before) ∙ c .before .enum-told .given .1, c .read-state .ensures, c .before .before .before .before .before .field .ensures .0, c .before .before .before .before .before .before .load-at .ensures)
 
 pub read-bodies-spec : {M : Type 1} → statement M
 read-bodies-spec =

@@ -1,3 +1,10 @@
+use mathlib.Core.Path.{sym, subst, _∙_}
+use lib.ListN.{length}
+use Rattle.casefile.specs.Table.{Inside}
+use Rattle.casefile.specs.Case.{caseOf}
+use Rattle.casefile.specs.declared.Found.{Found}
+use Rattle.casefile.proofs.TableLaws.{table-inside}
+use Rattle.casefile.proofs.CaseLaws.{read-sound}
 use borrow.Author.Needs.{needs}
 use Rattle.casefile.proofs.read_case.Statement.{statement}
 use Rattle.casefile.proofs.read_case.Tie as tie
@@ -25,15 +32,20 @@ enum-known-memory c = search needs
 
 -- src/lib.rt:244:45
 read-bodies-requires : tie.Need-read-bodies-requires
-read-bodies-requires c κs = ?
+read-bodies-requires c κs =
+    let file = c .before .before .before .before .before .args .file .now in
+    let i = subst (λ (f : Found). Inside (length file) f) (sym (c .before .before .before .read-table .ensures) ∙ c .before .memory .given .1) (table-inside file) in
+    ((i .0, i .1), (i .2, i .3))
 
 -- src/lib.rt:238:1
 returns : tie.Need-returns
-returns c = ?
+unfolding caseOf
+returns c = read-sound (c .before .before .before .before .before .before .args .file .now) _ (rw (sym (c .before .before .before .before .read-table .ensures) ∙ c .before .before .number .given .1) (c .refused .ensures))
 
 -- src/lib.rt:238:1
 returns-2 : tie.Need-returns-2
-returns-2 c = ?
+unfolding caseOf
+returns-2 c = read-sound (c .before .before .before .before .before .before .args .file .now) _ (rw (sym (c .before .before .before .before .read-table .ensures) ∙ c .before .before .memory .given .1) (c .read-bodies .ensures))
 
 pub read-case-spec : {M : Type 1} → statement M
 read-case-spec =

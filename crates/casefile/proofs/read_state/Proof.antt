@@ -1,3 +1,5 @@
+use mathlib.Core.Path.{refl, sym}
+use Rattle.casefile.specs.Harts.{stateOf}
 use borrow.Author.Needs.{needs}
 use Rattle.casefile.proofs.read_state.Statement.{statement}
 use Rattle.casefile.proofs.read_state.Tie as tie
@@ -16,7 +18,8 @@ counters-requires c κs = search needs
 
 -- src/lib.rt:167:1
 returns : tie.Need-returns
-returns c = ?
+unfolding stateOf
+returns c = rw (c .counters .ensures, c .before .registers .ensures)
 
 pub read-state-spec : {M : Type 1} → statement M
 read-state-spec = tie.close (tie.spec registers-requires counters-requires returns)

@@ -54,7 +54,7 @@ loop-again c =
     let k = c .before .before .loop .i in (
       search needs,
       rw (c .register .ensures, c .before .before .loop .inv .1, add-one)
-          (sym (each-suc (λ i _. registerOf (a .body .now) (i / 32) (i % 32)) k (replicate 256 0) 0 (omega (arith, length-replicate 256 0)))),
+          (sym (each-suc (λ i _. registerOf (a .body .now) (i / 32) (i % 32)) k (replicate 256 0) 0 (omega (arith, length-replicate {A = ℕ} 256 0)))),
     )
 
 -- src/lib.rt:140:1
