@@ -48,32 +48,46 @@ length-rules n e =
     let b = and-both (leb n 1048576) _ (a .1) in
     (leb-true _ _ (a .0), leb-true _ _ (b .0), eqb-true _ _ (b .1))
 
--- the bodies of a file of n bytes that start at 40, m and e
-module _ (n m e : ℕ) (least : 40 ≤ m) (next : m ≤ e) (last : e ≤ n) (most : n ≤ 65536) (harts memory events : List ℕ) where
-  module _ (some : length memory ≡ e - m) (rest : length events ≡ n - e) where
-    checked-sound : hartsOk harts ≡ true → lengthOk (length memory) ≡ true → (r : Checked) → Within r (length events) → Sound n (checkedCase m e harts r)
-    checked-sound h l (Bad place) w = (omega arith, omega arith, omega arith)
-    checked-sound h l Good w =
-        let r = harts-exact harts .0 h in
-        let q = length-rules (length memory) l in (
-          least,
-          next,
-          last,
-          most,
-          refusal-0 (baseOf harts) (e - m) (stateOf (countOf harts) harts) .1
-              ((rw some at q .0, rw some at q .1, rw some at q .2, r .4, r .5), harts-state harts (baseOf harts) (e - m) r),
-          rw rest at w,
-        )
+-- the bodies of a file that start at 40, m and e
+module _ (file : List ℕ) (m e : ℕ) (least : 40 ≤ m) (next : m ≤ e) (last : e ≤ length file) (most : length file ≤ 65536) (harts : List ℕ) where
+  abbrev memory : List ℕ
+  memory = part file m (e - m)
 
-    bodies-sound : Sound n (bodiesOf m e harts memory events)
-    unfolding bodiesOf
-    bodies-sound =
-        bool-cases (hartsOk harts)
-        (λ h.
-        bool-cases (lengthOk (length memory))
-        (λ l. rw (h, l) (checked-sound h l (checkedOf (countOf harts) (baseOf harts) (length memory) events) (checked-within (countOf harts) (baseOf harts) (length memory) events)))
-        (λ l. rw (h, l) (omega arith, omega arith, omega arith)))
-        (λ h. rw h (omega arith, omega arith, omega arith))
+  some : length memory ≡ e - m
+  some = length-part file m (e - m) (omega arith)
+
+  rest : length (drop e file) ≡ length file - e
+  rest = rw length-drop refl
+
+  abbrev checked : Checked
+  checked = checkedOf (countOf harts) (baseOf harts) (length memory) (drop e file)
+
+  checked-sound : hartsOk harts ≡ true → lengthOk (length memory) ≡ true → (r : Checked) → checked ≡ r → Within r (length (drop e file))
+      → Sound file (checkedCase m e harts r)
+  unfolding stateOf
+  checked-sound h l (Bad place) c w = (omega arith, omega arith, omega (arith, rest))
+  checked-sound h l Good c w =
+      let r = harts-exact harts .0 h in
+      let q = length-rules (length memory) l in (
+        least,
+        next,
+        last,
+        most,
+        refusal-0 (baseOf harts) (e - m) (stateOf (countOf harts) harts) .1
+            ((rw some at q .0, rw some at q .1, rw some at q .2, r .4, r .5), harts-state harts (baseOf harts) (e - m) r),
+        rw some at c,
+        rw rest at w,
+      )
+
+  bodies-sound : Sound file (bodiesOf m e harts memory (drop e file))
+  unfolding bodiesOf
+  bodies-sound =
+      bool-cases (hartsOk harts)
+      (λ h.
+      bool-cases (lengthOk (length memory))
+      (λ l. rw (h, l) (checked-sound h l checked refl (checked-within (countOf harts) (baseOf harts) (length memory) (drop e file))))
+      (λ l. rw (h, l) (omega arith, omega arith, omega arith)))
+      (λ h. rw h (omega arith, omega arith, omega arith))
 
 checked-shaped : (m e : ℕ) (harts : List ℕ) (r : Checked) → Shaped (checkedCase m e harts r .state)
 checked-shaped m e harts (Bad place) = none-shaped
@@ -87,16 +101,14 @@ bodies-shaped m e harts memory events =
     (checked-shaped m e harts (checkedOf (countOf harts) (baseOf harts) (length memory) events)) none-shaped)
     none-shaped
 
--- no case that is read is refused by 1 or 2, and its bodies lie in the file
-pub case-sound : (file : List ℕ) → Sound (length file) (caseOf file)
+-- a refusal's place is in the file; a case's bodies are, and no run of it is refused
+pub case-sound : (file : List ℕ) → Sound file (caseOf file)
 unfolding caseOf
 case-sound file = go (tableOf file) (table-inside file)
   where
-    go : (f : Found) → Inside (length file) f → Sound (length file) (partsOf file f)
+    go : (f : Found) → Inside (length file) f → Sound file (partsOf file f)
     go (Refused number place) h = (h .0, omega arith, h .2)
-    go (Bodies m e) h =
-        bodies-sound (length file) m e (h .0) (h .1) (h .2) (h .3) (part file 40 (m - 40)) (part file m (e - m)) (drop e file)
-        (length-part file m (e - m) (omega arith)) (rw length-drop refl)
+    go (Bodies m e) h = bodies-sound file m e (h .0) (h .1) (h .2) (h .3) (part file 40 (m - 40))
 
 -- and the arrays of its state have the lengths that their types say
 pub case-shaped : (file : List ℕ) → Shaped (caseOf file .state)
@@ -107,5 +119,5 @@ case-shaped file = go (tableOf file)
     go (Refused number place) = none-shaped
     go (Bodies m e) = bodies-shaped m e (part file 40 (m - 40)) (part file m (e - m)) (drop e file)
 
-pub read-sound : (file : List ℕ) (r : Case) → r ≡ caseOf file → (r ≡ caseOf file) × Sound (length file) r
-read-sound file r h = (h, subst (λ (c : Case). Sound (length file) c) (sym h) (case-sound file))
+pub read-sound : (file : List ℕ) (r : Case) → r ≡ caseOf file → (r ≡ caseOf file) × Sound file r
+read-sound file r h = (h, subst (λ (c : Case). Sound file c) (sym h) (case-sound file))

@@ -15,8 +15,9 @@ use Rattle.casefile.specs.declared.Found.the-variants.{Refused, Bodies}
 abbrev pub fieldAt : List ℕ → ℕ → ℕ
 fieldAt file place = le (part file place 4)
 
--- "entries of kind, offset, length (4 bytes each)": the entry at a place, where these kind and offset are due. "8: table wrong (place of the
--- first wrong 4-byte field)". No length is wrong in itself; the body ends at offset plus length, which is no number modulo 2 ^ 32
+-- "entries of kind, offset, length (4 bytes each)": the entry at a place, where this kind and this offset are due. "8: table wrong (place of the
+-- first wrong 4-byte field ..; the first two lengths are never wrong in themselves, the next offset is if it isn't offset plus length)"; offset
+-- plus length is a whole number, never one modulo 2 ^ 32
 unfoldable pub entryOf : List ℕ → ℕ → ℕ → ℕ → Entry
 entryOf file place kind offset =
     cond (eqb (fieldAt file place) kind)

@@ -28,7 +28,7 @@ pub struct Case {
 }
 
 // An entry of the table of contents: the place of its first wrong field, or where its body ends.
-pub enum Entry {
+enum Entry {
     Wrong(usize),
     Ends(usize),
 }
@@ -245,7 +245,7 @@ fn read_bodies(file: &[u8], memory: usize, events: usize) -> Case
 // The case that a file is, or why it is none.
 pub fn read_case(file: &[u8]) -> Case
     ensures { λ r. ⌜ r ≡ caseOf (now (file .entry)) ⌝ }
-    ensures { λ r. ⌜ Sound (length (now (file .entry))) r ⌝ }
+    ensures { λ r. ⌜ Sound (now (file .entry)) r ⌝ }
 {
     match read_table(file) {
         Found::Refused { number, place } => refused(number, place),

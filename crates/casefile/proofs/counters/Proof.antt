@@ -19,43 +19,33 @@ Inv-loop body count pc₀ h₀ pc h = (h ≤ count) × (pc ≡ each (λ k _. pcO
 abbrev μ-loop : tie.MeasureT-loop
 μ-loop body count pc₀ h₀ pc h = count - h
 
--- src/lib.rt:160:5
 loop-holds : tie.Need-loop-holds Inv-loop μ-loop
 loop-holds c = search needs
 
--- src/lib.rt:161:36
 mul-load-at : tie.Need-mul-load-at Inv-loop μ-loop
 mul-load-at c = search needs
 
--- src/lib.rt:161:31
 add-load-at : tie.Need-add-load-at Inv-loop μ-loop
 add-load-at c = search needs
 
--- src/lib.rt:161:31
 add-load-at-2 : tie.Need-add-load-at-2 Inv-loop μ-loop
 add-load-at-2 c = search needs
 
--- src/lib.rt:161:17
 load-at-requires : tie.Need-load-at-requires Inv-loop μ-loop
 load-at-requires c κs = search needs
 
--- src/lib.rt:161:9
 mul-pc : tie.Need-mul-pc Inv-loop μ-loop
 mul-pc c = search needs
 
--- src/lib.rt:161:9
 array-write-pc : tie.Need-array-write-pc Inv-loop μ-loop
 array-write-pc c = search needs
 
--- src/lib.rt:162:9
 add-h : tie.Need-add-h Inv-loop μ-loop
 add-h c = search needs
 
--- src/lib.rt:160:5
 loop-less : tie.Need-loop-less Inv-loop μ-loop
 loop-less c = search needs
 
--- src/lib.rt:160:5
 loop-again : tie.Need-loop-again Inv-loop μ-loop
 loop-again c =
     let a = c .before .before .before .before .args in
@@ -65,7 +55,6 @@ loop-again c =
           (sym (each-suc (λ h _. pcOf (a .body .now) h) k (replicate 8 0) 0 (omega (arith, length-replicate {A = ℕ} 8 0)))),
     )
 
--- src/lib.rt:154:1
 returns : tie.Need-returns Inv-loop μ-loop
 returns c =
     let e : c .before .loop .h ≡ c .before .before .before .args .count = omega arith in

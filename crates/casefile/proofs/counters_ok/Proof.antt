@@ -20,42 +20,33 @@ Inv-loop body count h₀ h = (h ≤ count) × (allBelow (λ k. eqb (pcOf body k 
 abbrev μ-loop : tie.MeasureT-loop
 μ-loop body count h₀ h = count - h
 
--- src/lib.rt:100:5
 loop-holds : tie.Need-loop-holds Inv-loop μ-loop
 loop-holds c = (search needs, all-none _)
 
--- src/lib.rt:101:31
 mul-load-at : tie.Need-mul-load-at Inv-loop μ-loop
 mul-load-at c = search needs
 
--- src/lib.rt:101:26
 add-load-at : tie.Need-add-load-at Inv-loop μ-loop
 add-load-at c = search needs
 
--- src/lib.rt:101:26
 add-load-at-2 : tie.Need-add-load-at-2 Inv-loop μ-loop
 add-load-at-2 c = search needs
 
--- src/lib.rt:101:12
 load-at-requires : tie.Need-load-at-requires Inv-loop μ-loop
 load-at-requires c κs = search needs
 
--- src/lib.rt:102:13
 returns : tie.Need-returns Inv-loop μ-loop
 returns c =
     let a = c .before .before .before .before .before .args in
     sym (all-fails (λ h. eqb (pcOf (a .body .now) h % 4) 0) (c .before .before .before .loop .h) (a .count) (omega arith)
     (ne-eqb _ _ (λ z. c .if1 .taken (ap (λ (v : ℕ). v % 4) (c .before .load-at .ensures) ∙ z))))
 
--- src/lib.rt:104:9
 add-h : tie.Need-add-h Inv-loop μ-loop
 add-h c = search needs
 
--- src/lib.rt:100:5
 loop-less : tie.Need-loop-less Inv-loop μ-loop
 loop-less c = search needs
 
--- src/lib.rt:100:5
 loop-again : tie.Need-loop-again Inv-loop μ-loop
 loop-again c =
     let a = c .before .before .before .before .before .args in (
@@ -64,7 +55,6 @@ loop-again c =
           (eq-eqb _ _ (ap (λ (v : ℕ). v % 4) (sym (c .before .load-at .ensures)) ∙ c .if1 .left)),
     )
 
--- src/lib.rt:95:1
 returns-2 : tie.Need-returns-2 Inv-loop μ-loop
 returns-2 c =
     let e : c .before .loop .h ≡ c .before .before .before .args .count = omega arith in

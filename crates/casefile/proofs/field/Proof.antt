@@ -7,11 +7,9 @@ use Rattle.casefile.proofs.field.Reads as reads
 use Rattle.casefile.proofs.field.Lts as lts
 use Rattle.word.proofs.bytes.load_at.Reads as load-at-reads
 
--- src/lib.rt:25:5
 load-at-requires : tie.Need-load-at-requires
 load-at-requires c κs = search needs
 
--- src/lib.rt:20:1
 returns : tie.Need-returns
 returns c =
     let x = c .before .before .args in

@@ -14,43 +14,34 @@ use Rattle.casefile.proofs.counters_ok.Reads as counters-ok-reads
 use Rattle.casefile.proofs.field.Reads as field-reads
 use Rattle.word.proofs.bytes.load_at.Reads as load-at-reads
 
--- src/lib.rt:114:9
 returns : tie.Need-returns
 unfolding hartsOk
 returns c =
     let b = c .before .before .args .body .now in
     rw (ne-eqb (length b) (16 + 256 * countOf b) (λ z. omega arith))
 
--- src/lib.rt:116:9
 field-requires : tie.Need-field-requires
 field-requires c κs = search needs
 
--- src/lib.rt:117:27
 mul-if2 : tie.Need-mul-if2
 mul-if2 c = search needs
 
--- src/lib.rt:117:22
 add-if2 : tie.Need-add-if2
 add-if2 c = search needs
 
--- src/lib.rt:118:9
 returns-2 : tie.Need-returns-2
 unfolding hartsOk
 returns-2 c = rw (ne-eqb _ _ (λ z. c .if2 .taken (z ∙ ap (λ (n : ℕ). 16 + 256 * n) (sym (c .before .field .ensures .0)))))
 
--- src/lib.rt:120:9
 load-at-requires : tie.Need-load-at-requires
 load-at-requires c κs = search needs
 
--- src/lib.rt:123:17
 field-requires-2 : tie.Need-field-requires-2
 field-requires-2 c κs = search needs
 
--- src/lib.rt:124:66
 counters-ok-requires : tie.Need-counters-ok-requires
 counters-ok-requires c κs = search needs
 
--- src/lib.rt:109:1
 returns-3 : tie.Need-returns-3
 unfolding hartsOk
 returns-3 c = rw (c .counters-ok .ensures, c .before .field2 .ensures .0, c .before .before .load-at .ensures, eq-eqb _ _ (c .before .before .before .if2 .left ∙ ap (λ (n : ℕ). 16 + 256 * n) (c .before .before .before .before .field .ensures .0)), c .before .before .before .before .field .ensures .0)

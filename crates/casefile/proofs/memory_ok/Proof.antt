@@ -5,7 +5,6 @@ use Rattle.casefile.proofs.memory_ok.Tie as tie
 use Rattle.casefile.proofs.memory_ok.Reads as reads
 use Rattle.casefile.proofs.memory_ok.Lts as lts
 
--- src/lib.rt:181:1
 returns : tie.Need-returns
 unfolding lengthOk
 returns c = refl

@@ -54,89 +54,68 @@ seen c =
 
 -- end of helpers
 
--- src/lib.rt:215:17
 sub-harts : tie.Need-sub-harts
 sub-harts c = search needs
 
--- src/lib.rt:215:17
 part-harts-start : tie.Need-part-harts-start
 part-harts-start c = search needs
 
--- src/lib.rt:215:17
 part-harts-end : tie.Need-part-harts-end
 part-harts-end c = search needs
 
--- src/lib.rt:216:9
 harts-ok-requires : tie.Need-harts-ok-requires
 harts-ok-requires c κs = search needs
 
--- src/lib.rt:217:9
 refused-requires : tie.Need-refused-requires
 refused-requires c κs = search needs
 
--- src/lib.rt:217:9
 returns : tie.Need-returns
 unfolding bodiesOf part
 returns c = rw (sym (c .before .before .harts-ok .ensures) ∙ not-true _ (c .before .if1 .taken)) (c .refused .ensures)
 
--- src/lib.rt:219:19
 sub-memory-ok : tie.Need-sub-memory-ok
 sub-memory-ok c = search needs
 
--- src/lib.rt:219:19
 part-memory-ok-start : tie.Need-part-memory-ok-start
 part-memory-ok-start c = search needs
 
--- src/lib.rt:219:19
 part-memory-ok-end : tie.Need-part-memory-ok-end
 part-memory-ok-end c = search needs
 
--- src/lib.rt:219:9
 memory-ok-requires : tie.Need-memory-ok-requires
 memory-ok-requires c κs = search needs
 
--- src/lib.rt:220:9
 refused-requires-2 : tie.Need-refused-requires-2
 refused-requires-2 c κs = search needs
 
--- src/lib.rt:220:9
 returns-2 : tie.Need-returns-2
 unfolding bodiesOf part
 returns-2 c = rw (right (c .before .before .before .before), sym (c .before .before .memory-ok .ensures) ∙ not-true _ (c .before .if2 .taken)) (c .refused2 .ensures)
 
--- src/lib.rt:222:9
 load-at-requires : tie.Need-load-at-requires
 load-at-requires c κs = (omega (arith, rules (c .before .before .before) .0), omega arith)
 
--- src/lib.rt:223:9
 field-requires : tie.Need-field-requires
 field-requires c κs = omega (arith, rules (c .before .before .before .before) .0)
 
--- src/lib.rt:224:25
 sub-check : tie.Need-sub-check
 sub-check c = search needs
 
--- src/lib.rt:224:25
 part-check-start : tie.Need-part-check-start
 part-check-start c = search needs
 
--- src/lib.rt:224:25
 part-check-end : tie.Need-part-check-end
 part-check-end c = search needs
 
--- src/lib.rt:224:55
 sub-check-2 : tie.Need-sub-check-2
 sub-check-2 c = search needs
 
--- src/lib.rt:224:11
 check-requires : tie.Need-check-requires
 check-requires c κs = search needs
 
--- src/lib.rt:225:22
 enum-known-place : tie.Need-enum-known-place
 enum-known-place c = search needs
 
--- src/lib.rt:225:44
 add-refused : tie.Need-add-refused
 add-refused c =
     let x = c .before .before .before .before .before .before .before .before .before .before .before .before .before .before .args in
@@ -144,27 +123,22 @@ add-refused c =
     let l : length (take (length (x .file .now) - x .events) (drop (x .events) (x .file .now))) ≤ length (x .file .now) = simp (length-take, length-drop) (omega arith) in
     omega (arith, w, l)
 
--- src/lib.rt:225:32
 refused-requires-3 : tie.Need-refused-requires-3
 refused-requires-3 c κs = search needs
 
--- src/lib.rt:227:17
 enum-told : tie.Need-enum-told
 enum-told c = search needs
 
--- src/lib.rt:227:17
 read-state-requires : tie.Need-read-state-requires
 read-state-requires c κs =
     let r = rules (c .before .before .before .before .before .before .before .before .before) in
     let f = c .before .before .before .before .field .ensures .0 in
     (rw f (r .2), rw f (r .0))
 
--- src/lib.rt:210:1
 returns-3 : tie.Need-returns-3
 unfolding bodiesOf part
 returns-3 c = rw (right (c .before .before .before .before .before .before .before .before .before .before .before), long (c .before .before .before .before .before .before .before .before), seen (c .before .before .before .before) ∙ c .before .before .place .given .1) (c .refused3 .ensures)
 
--- src/lib.rt:210:1
 returns-4 : tie.Need-returns-4
 unfolding bodiesOf part
 returns-4 c = rw (right (c .before .before .before .before .before .before .before .before .before .before), long (c .before .before .before .before .before .before .before), seen (c .before .before .before) ∙ c .before .enum-told .given .1, c .read-state .ensures, c .before .before .before .before .before .field .ensures .0, c .before .before .before .before .before .before .load-at .ensures)

@@ -14,35 +14,28 @@ use Rattle.casefile.proofs.read_bodies.Reads as read-bodies-reads
 use Rattle.casefile.proofs.read_table.Reads as read-table-reads
 use Rattle.casefile.proofs.refused.Reads as refused-reads
 
--- src/lib.rt:242:11
 read-table-requires : tie.Need-read-table-requires
 read-table-requires c κs = search needs
 
--- src/lib.rt:243:26
 enum-known-number : tie.Need-enum-known-number
 enum-known-number c = search needs
 
--- src/lib.rt:243:45
 refused-requires : tie.Need-refused-requires
 refused-requires c κs = search needs
 
--- src/lib.rt:244:25
 enum-known-memory : tie.Need-enum-known-memory
 enum-known-memory c = search needs
 
--- src/lib.rt:244:45
 read-bodies-requires : tie.Need-read-bodies-requires
 read-bodies-requires c κs =
     let file = c .before .before .before .before .before .args .file .now in
     let i = subst (λ (f : Found). Inside (length file) f) (sym (c .before .before .before .read-table .ensures) ∙ c .before .memory .given .1) (table-inside file) in
     ((i .0, i .1), (i .2, i .3))
 
--- src/lib.rt:238:1
 returns : tie.Need-returns
 unfolding caseOf
 returns c = read-sound (c .before .before .before .before .before .before .args .file .now) _ (rw (sym (c .before .before .before .before .read-table .ensures) ∙ c .before .before .number .given .1) (c .refused .ensures))
 
--- src/lib.rt:238:1
 returns-2 : tie.Need-returns-2
 unfolding caseOf
 returns-2 c = read-sound (c .before .before .before .before .before .before .args .file .now) _ (rw (sym (c .before .before .before .before .read-table .ensures) ∙ c .before .before .memory .given .1) (c .read-bodies .ensures))

@@ -11,48 +11,38 @@ use Rattle.casefile.proofs.read_entry.Reads as reads
 use Rattle.casefile.proofs.read_entry.Lts as lts
 use Rattle.casefile.proofs.field.Reads as field-reads
 
--- src/lib.rt:39:8
 kind : (c : tie.Else1) → eqb (fieldAt (c .before .before .before .args .file .now) (c .before .before .before .args .place)) (c .before .before .before .args .kind) ≡ true
 kind c = eq-eqb _ _ (sym (c .before .field .ensures .0) ∙ c .if1 .left)
 
 field-requires : tie.Need-field-requires
 field-requires c κs = search needs
 
--- src/lib.rt:40:9
 returns : tie.Need-returns
 unfolding entryOf
 returns c = (rw (ne-eqb _ _ (λ z. c .if1 .taken (c .before .field .ensures .0 ∙ z))), tt)
 
--- src/lib.rt:42:20
 add-field : tie.Need-add-field
 add-field c = search needs
 
--- src/lib.rt:42:8
 field-requires-2 : tie.Need-field-requires-2
 field-requires-2 c κs = search needs
 
--- src/lib.rt:43:29
 add-t8 : tie.Need-add-t8
 add-t8 c = search needs
 
--- src/lib.rt:43:9
 returns-2 : tie.Need-returns-2
 unfolding entryOf
 returns-2 c = (rw (kind (c .before .before), ne-eqb _ _ (λ z. c .if2 .taken (c .before .field2 .ensures .0 ∙ z))), tt)
 
--- src/lib.rt:45:38
 add-field-2 : tie.Need-add-field-2
 add-field-2 c = search needs
 
--- src/lib.rt:45:26
 field-requires-3 : tie.Need-field-requires-3
 field-requires-3 c κs = search needs
 
--- src/lib.rt:45:17
 add-t9 : tie.Need-add-t9
 add-t9 c = search needs
 
--- src/lib.rt:34:1
 returns-3 : tie.Need-returns-3
 unfolding entryOf
 returns-3 c =

@@ -8,15 +8,12 @@ use Rattle.casefile.proofs.read_state.Lts as lts
 use Rattle.casefile.proofs.counters.Reads as counters-reads
 use Rattle.casefile.proofs.registers.Reads as registers-reads
 
--- src/lib.rt:171:9
 registers-requires : tie.Need-registers-requires
 registers-requires c κs = search needs
 
--- src/lib.rt:172:9
 counters-requires : tie.Need-counters-requires
 counters-requires c κs = search needs
 
--- src/lib.rt:167:1
 returns : tie.Need-returns
 unfolding stateOf
 returns c = rw (c .counters .ensures, c .before .registers .ensures)

@@ -15,7 +15,6 @@ use Rattle.casefile.proofs.read_table.Lts as lts
 use Rattle.casefile.proofs.field.Reads as field-reads
 use Rattle.casefile.proofs.read_entry.Reads as read-entry-reads
 
--- src/lib.rt:53:9
 -- past the three tests
 small : (c : tie.Else3) → ltb (length (c .before .before .before .before .before .args .file .now)) 40 ≡ false
 small c = le-ltb _ _ (c .before .before .before .if1 .left)
@@ -49,80 +48,63 @@ returns : tie.Need-returns
 unfolding tableOf
 returns c = rw (lt-ltb _ _ (c .if1 .taken))
 
--- src/lib.rt:56:9
 returns-2 : tie.Need-returns-2
 unfolding tableOf
 returns-2 c = rw (le-ltb _ _ (c .before .if1 .left), lt-ltb _ _ (c .if2 .taken))
 
--- src/lib.rt:58:8
 field-requires : tie.Need-field-requires
 field-requires c κs = search needs
 
--- src/lib.rt:59:9
 returns-3 : tie.Need-returns-3
 unfolding tableOf
 returns-3 c = rw (le-ltb _ _ (c .before .before .before .if1 .left), le-ltb _ _ (c .before .before .if2 .left), ne-eqb _ _ (λ z. c .if3 .taken (c .before .field .ensures .0 ∙ z)))
 
--- src/lib.rt:61:11
 read-entry-requires : tie.Need-read-entry-requires
 read-entry-requires c κs = search needs
 
--- src/lib.rt:62:22
 enum-known-place : tie.Need-enum-known-place
 enum-known-place c = search needs
 
--- src/lib.rt:63:21
 enum-known-memory : tie.Need-enum-known-memory
 enum-known-memory c = search needs
 
--- src/lib.rt:63:38
 read-entry-requires-2 : tie.Need-read-entry-requires-2
 read-entry-requires-2 c κs = (omega arith, omega (arith, from1 c))
 
--- src/lib.rt:64:26
 enum-known-place-2 : tie.Need-enum-known-place-2
 enum-known-place-2 c = search needs
 
--- src/lib.rt:65:25
 enum-known-events : tie.Need-enum-known-events
 enum-known-events c = search needs
 
--- src/lib.rt:65:42
 read-entry-requires-3 : tie.Need-read-entry-requires-3
 read-entry-requires-3 c κs = (omega arith, omega (arith, from1 (c .before .before .before .before), from2 c))
 
--- src/lib.rt:66:30
 enum-known-place-3 : tie.Need-enum-known-place-3
 enum-known-place-3 c = search needs
 
--- src/lib.rt:67:29
 enum-known-end : tie.Need-enum-known-end
 enum-known-end c = search needs
 
--- src/lib.rt:69:25
 returns-4 : tie.Need-returns-4
 unfolding tableOf
 returns-4 c =
     rw (small (c .before .before .before .before .before .before .before .before .before .before .before .before .before), large (c .before .before .before .before .before .before .before .before .before .before .before .before .before), three (c .before .before .before .before .before .before .before .before .before .before .before .before .before), first (c .before .before .before .before .before .before .before .before .before), second (c .before .before .before .before .before), third (c .before), ne-eqb _ _ (c .if4 .taken))
 
--- src/lib.rt:48:1
 returns-5 : tie.Need-returns-5
 unfolding tableOf
 returns-5 c = rw (small (c .before .before .before .before), large (c .before .before .before .before), three (c .before .before .before .before), sym (c .before .before .before .read-entry .ensures .0) ∙ c .before .place .given .1)
 
--- src/lib.rt:48:1
 returns-6 : tie.Need-returns-6
 unfolding tableOf
 returns-6 c =
     rw (small (c .before .before .before .before .before .before .before .before), large (c .before .before .before .before .before .before .before .before), three (c .before .before .before .before .before .before .before .before), first (c .before .before .before .before), sym (c .before .before .before .read-entry2 .ensures .0) ∙ c .before .place2 .given .1)
 
--- src/lib.rt:48:1
 returns-7 : tie.Need-returns-7
 unfolding tableOf
 returns-7 c =
     rw (small (c .before .before .before .before .before .before .before .before .before .before .before .before), large (c .before .before .before .before .before .before .before .before .before .before .before .before), three (c .before .before .before .before .before .before .before .before .before .before .before .before), first (c .before .before .before .before .before .before .before .before), second (c .before .before .before .before), sym (c .before .before .before .read-entry3 .ensures .0) ∙ c .before .place3 .given .1)
 
--- src/lib.rt:48:1
 returns-8 : tie.Need-returns-8
 unfolding tableOf
 returns-8 c =

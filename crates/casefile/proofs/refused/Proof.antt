@@ -5,7 +5,6 @@ use Rattle.casefile.proofs.refused.Tie as tie
 use Rattle.casefile.proofs.refused.Reads as reads
 use Rattle.casefile.proofs.refused.Lts as lts
 
--- src/lib.rt:189:1
 returns : tie.Need-returns
 unfolding noState
 returns c = refl

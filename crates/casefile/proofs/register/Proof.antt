@@ -6,35 +6,27 @@ use Rattle.casefile.proofs.register.Reads as reads
 use Rattle.casefile.proofs.register.Lts as lts
 use Rattle.word.proofs.bytes.load_at.Reads as load-at-reads
 
--- src/lib.rt:134:9
 returns : tie.Need-returns
 returns c = rw (eq-eqb _ _ (c .if1 .taken))
 
--- src/lib.rt:136:24
 mul-load-at : tie.Need-mul-load-at
 mul-load-at c = search needs
 
--- src/lib.rt:136:19
 add-load-at : tie.Need-add-load-at
 add-load-at c = search needs
 
--- src/lib.rt:136:39
 sub-load-at : tie.Need-sub-load-at
 sub-load-at c = search needs
 
--- src/lib.rt:136:34
 mul-load-at-2 : tie.Need-mul-load-at-2
 mul-load-at-2 c = search needs
 
--- src/lib.rt:136:19
 add-load-at-2 : tie.Need-add-load-at-2
 add-load-at-2 c = search needs
 
--- src/lib.rt:136:5
 load-at-requires : tie.Need-load-at-requires
 load-at-requires c κs = search needs
 
--- src/lib.rt:129:1
 returns-2 : tie.Need-returns-2
 returns-2 c = rw (ne-eqb _ _ (c .before .if1 .left)) (c .load-at .ensures)
 

@@ -19,35 +19,27 @@ Inv-loop body count x₀ i₀ x i = (i ≤ 32 * count) × (x ≡ each (λ k _. r
 abbrev μ-loop : tie.MeasureT-loop
 μ-loop body count x₀ i₀ x i = 32 * count - i
 
--- src/lib.rt:146:5
 loop-holds : tie.Need-loop-holds Inv-loop μ-loop
 loop-holds c = search needs
 
--- src/lib.rt:146:15
 mul-loop : tie.Need-mul-loop Inv-loop μ-loop
 mul-loop c = search needs
 
--- src/lib.rt:147:16
 register-requires : tie.Need-register-requires Inv-loop μ-loop
 register-requires c κs = search needs
 
--- src/lib.rt:147:9
 mul-x : tie.Need-mul-x Inv-loop μ-loop
 mul-x c = search needs
 
--- src/lib.rt:147:9
 array-write-x : tie.Need-array-write-x Inv-loop μ-loop
 array-write-x c = search needs
 
--- src/lib.rt:148:9
 add-i : tie.Need-add-i Inv-loop μ-loop
 add-i c = search needs
 
--- src/lib.rt:146:5
 loop-less : tie.Need-loop-less Inv-loop μ-loop
 loop-less c = search needs
 
--- src/lib.rt:146:5
 loop-again : tie.Need-loop-again Inv-loop μ-loop
 loop-again c =
     let a = c .before .before .before .before .args in
@@ -57,7 +49,6 @@ loop-again c =
           (sym (each-suc (λ i _. registerOf (a .body .now) (i / 32) (i % 32)) k (replicate 256 0) 0 (omega (arith, length-replicate {A = ℕ} 256 0)))),
     )
 
--- src/lib.rt:140:1
 returns : tie.Need-returns Inv-loop μ-loop
 returns c =
     let e : c .before .loop .i ≡ 32 * c .before .before .before .args .count = omega arith in
