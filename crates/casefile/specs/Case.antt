@@ -30,7 +30,8 @@ abbrev pub checkedCase : ℕ → ℕ → List ℕ → Checked → Case
 checkedCase m e harts (Bad place) = refusedCase 11 (e + place)
 checkedCase m e harts Good = record { found = Bodies m e; base = baseOf harts; state = stateOf (countOf harts) harts }
 
--- 9, 10 and 11, by the three bodies, which start at 40, m and e
+-- the three bodies, which start at 40, m and e: "9: harts body, base included (place of its start). 10: memory body length (its start). 11:
+-- events body"
 unfoldable pub bodiesOf : ℕ → ℕ → List ℕ → List ℕ → List ℕ → Case
 bodiesOf m e harts memory events =
     cond (hartsOk harts)

@@ -12,6 +12,7 @@ use Rattle.reserve.specs.Reserve.{slot}
 use Rattle.reserve.specs.declared.Reservation.the-variants.{None}
 use Rattle.machine.specs.declared.State.{State}
 
+-- the fields of a harts body
 abbrev pub baseOf : List ℕ → ℕ
 baseOf body = le (part body 0 8)
 
@@ -21,7 +22,7 @@ countOf body = le (part body 8 4)
 abbrev pub zeroOf : List ℕ → ℕ
 zeroOf body = le (part body 12 4)
 
--- x of register r of hart h; x0 is zero and not in the file
+-- register r of hart h; x0 is zero and not in the file
 abbrev pub registerOf : List ℕ → ℕ → ℕ → ℕ
 registerOf body h r = cond (eqb r 0) 0 (le (part body (16 + 256 * h + 8 * (r - 1)) 8))
 

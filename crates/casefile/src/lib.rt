@@ -87,10 +87,8 @@ fn read_table(file: &[u8]) -> Found
                 Entry::Wrong(place) => Found::Refused { number: 8, place },
                 Entry::Ends(end) => {
                     if end != file.len() {
-                        return Found::Refused {
-                            number: 8,
-                            place: 36,
-                        };
+                        let place = 36; // the last length
+                        return Found::Refused { number: 8, place };
                     }
                     Found::Bodies { memory, events }
                 }
