@@ -1,0 +1,4 @@
+-- The laws of case files.
+pub mod TableLaws
+pub mod HartsLaws
+pub mod CaseLaws

@@ -1,0 +1,61 @@
+use mathlib.Core.Path.{_≡_, sym, ap, _∙_}
+use Prim.Native.Nat.{ℕ, _+_, _*_}
+use native.Mathlib.Omega.{arith}
+use lib.ListN.{length}
+use borrow.Author.Tests.{eq-eqb, ne-eqb}
+use Rattle.casefile.specs.Harts.{countOf, hartsOk}
+use Rattle.casefile.specs.Harts.{hartsOk}
+use borrow.Author.Needs.{needs}
+use Rattle.casefile.proofs.harts_ok.Statement.{statement}
+use Rattle.casefile.proofs.harts_ok.Tie as tie
+use Rattle.casefile.proofs.harts_ok.Reads as reads
+use Rattle.casefile.proofs.harts_ok.Lts as lts
+use Rattle.casefile.proofs.counters_ok.Reads as counters-ok-reads
+use Rattle.casefile.proofs.field.Reads as field-reads
+use Rattle.word.proofs.bytes.load_at.Reads as load-at-reads
+
+returns : tie.Need-returns
+unfolding hartsOk
+returns c =
+    let b = c .before .before .args .body .now in
+    rw (ne-eqb (length b) (16 + 256 * countOf b) (λ z. omega arith))
+
+field-requires : tie.Need-field-requires
+field-requires c κs = search needs
+
+mul-if2 : tie.Need-mul-if2
+mul-if2 c = search needs
+
+add-if2 : tie.Need-add-if2
+add-if2 c = search needs
+
+returns-2 : tie.Need-returns-2
+unfolding hartsOk
+returns-2 c = rw (ne-eqb _ _ (λ z. c .if2 .taken (z ∙ ap (λ (n : ℕ). 16 + 256 * n) (sym (c .before .field .ensures .0)))))
+
+load-at-requires : tie.Need-load-at-requires
+load-at-requires c κs = search needs
+
+field-requires-2 : tie.Need-field-requires-2
+field-requires-2 c κs = search needs
+
+counters-ok-requires : tie.Need-counters-ok-requires
+counters-ok-requires c κs = search needs
+
+returns-3 : tie.Need-returns-3
+unfolding hartsOk
+returns-3 c = rw (c .counters-ok .ensures, c .before .field2 .ensures .0, c .before .before .load-at .ensures, eq-eqb _ _ (c .before .before .before .if2 .left ∙ ap (λ (n : ℕ). 16 + 256 * n) (c .before .before .before .before .field .ensures .0)), c .before .before .before .before .field .ensures .0)
+
+pub harts-ok-spec : {M : Type 1} → statement M
+harts-ok-spec =
+    tie.close
+    (tie.spec
+    returns
+    field-requires
+    mul-if2
+    add-if2
+    returns-2
+    load-at-requires
+    field-requires-2
+    counters-ok-requires
+    returns-3)

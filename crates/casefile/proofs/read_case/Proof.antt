@@ -1,0 +1,53 @@
+use mathlib.Core.Path.{sym, subst, _∙_}
+use lib.ListN.{length}
+use Rattle.casefile.specs.Table.{Inside}
+use Rattle.casefile.specs.Case.{caseOf}
+use Rattle.casefile.specs.declared.Found.{Found}
+use Rattle.casefile.proofs.TableLaws.{table-inside}
+use Rattle.casefile.proofs.CaseLaws.{read-sound}
+use borrow.Author.Needs.{needs}
+use Rattle.casefile.proofs.read_case.Statement.{statement}
+use Rattle.casefile.proofs.read_case.Tie as tie
+use Rattle.casefile.proofs.read_case.Reads as reads
+use Rattle.casefile.proofs.read_case.Lts as lts
+use Rattle.casefile.proofs.read_bodies.Reads as read-bodies-reads
+use Rattle.casefile.proofs.read_table.Reads as read-table-reads
+use Rattle.casefile.proofs.refused.Reads as refused-reads
+
+read-table-requires : tie.Need-read-table-requires
+read-table-requires c κs = search needs
+
+enum-known-number : tie.Need-enum-known-number
+enum-known-number c = search needs
+
+refused-requires : tie.Need-refused-requires
+refused-requires c κs = search needs
+
+enum-known-memory : tie.Need-enum-known-memory
+enum-known-memory c = search needs
+
+read-bodies-requires : tie.Need-read-bodies-requires
+read-bodies-requires c κs =
+    let file = c .before .before .before .before .before .args .file .now in
+    let i = subst (λ (f : Found). Inside (length file) f) (sym (c .before .before .before .read-table .ensures) ∙ c .before .memory .given .1) (table-inside file) in
+    ((i .0, i .1), (i .2, i .3))
+
+returns : tie.Need-returns
+unfolding caseOf
+returns c = read-sound (c .before .before .before .before .before .before .args .file .now) _ (rw (sym (c .before .before .before .before .read-table .ensures) ∙ c .before .before .number .given .1) (c .refused .ensures))
+
+returns-2 : tie.Need-returns-2
+unfolding caseOf
+returns-2 c = read-sound (c .before .before .before .before .before .before .args .file .now) _ (rw (sym (c .before .before .before .before .read-table .ensures) ∙ c .before .before .memory .given .1) (c .read-bodies .ensures))
+
+pub read-case-spec : {M : Type 1} → statement M
+read-case-spec =
+    tie.close
+    (tie.spec
+    read-table-requires
+    enum-known-number
+    refused-requires
+    enum-known-memory
+    read-bodies-requires
+    returns
+    returns-2)

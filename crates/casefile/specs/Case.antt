@@ -1,0 +1,65 @@
+-- A case file read (01, "The case file"): refusals 7 to 11, "Tried in this order."
+use mathlib.Core.Path.{_≡_}
+use Prim.Native.Nat.{ℕ, _+_, _-_, _%_, _≤_}
+use mathlib.Core.Bool.{Bool, cond, _&&_}
+use mathlib.Core.List.{List}
+use lib.Dec.{leb, eqb}
+use lib.ListN.{length, drop}
+use Rattle.word.specs.Memory.{part}
+use Rattle.machine.specs.State.{refusalOf}
+use Rattle.machine.specs.declared.State.{State}
+use Rattle.events.specs.Events.{checkedOf}
+use Rattle.events.specs.declared.Checked.{Checked}
+use Rattle.events.specs.declared.Checked.the-variants.{Good, Bad}
+use Rattle.casefile.specs.Table.{tableOf}
+use Rattle.casefile.specs.Harts.{baseOf, countOf, hartsOk, stateOf, noState}
+use Rattle.casefile.specs.declared.Found.{Found}
+use Rattle.casefile.specs.declared.Found.the-variants.{Refused, Bodies}
+use Rattle.casefile.specs.declared.Case.{Case}
+
+-- a refused file: base and state are zero
+abbrev pub refusedCase : ℕ → ℕ → Case
+refusedCase number place = record { found = Refused number place; base = 0; state = noState }
+
+-- "10: memory body length": "64 to 1,048,576 bytes, a multiple of 64"
+unfoldable pub lengthOk : ℕ → Bool
+lengthOk n = leb 64 n && (leb n 1048576 && eqb (n % 64) 0)
+
+-- what the check of the events gives, where the bodies start at 40, m and e. The place of 11 is counted in the file
+abbrev pub checkedCase : ℕ → ℕ → List ℕ → Checked → Case
+checkedCase m e harts (Bad place) = refusedCase 11 (e + place)
+checkedCase m e harts Good = record { found = Bodies m e; base = baseOf harts; state = stateOf (countOf harts) harts }
+
+-- the three bodies, which start at 40, m and e: "9: harts body, base included (place of its start). 10: memory body length (its start). 11:
+-- events body"
+unfoldable pub bodiesOf : ℕ → ℕ → List ℕ → List ℕ → List ℕ → Case
+bodiesOf m e harts memory events =
+    cond (hartsOk harts)
+    (cond (lengthOk (length memory))
+    (checkedCase m e harts (checkedOf (countOf harts) (baseOf harts) (length memory) events))
+    (refusedCase 10 m))
+    (refusedCase 9 40)
+
+-- "Each body is read as a part of the file that starts at its entry's offset."
+abbrev pub partsOf : List ℕ → Found → Case
+partsOf file (Refused number place) = refusedCase number place
+partsOf file (Bodies m e) = bodiesOf m e (part file 40 (m - 40)) (part file m (e - m)) (drop e file)
+
+unfoldable pub caseOf : List ℕ → Case
+caseOf file = partsOf file (tableOf file)
+
+-- what holds of the case read from a file. A refusal is one of 7 to 11, its place in the file. A case has its bodies in the file, one after
+-- another from 40 on; 1, 2 and 11 don't refuse a run of it, and its events are whole
+abbrev pub SoundAs : List ℕ → ℕ → State → Found → Type 0
+SoundAs file base s (Refused number place) = (7 ≤ number) × (number ≤ 11) × (place ≤ length file)
+SoundAs file base s (Bodies m e) =
+    (40 ≤ m)
+    × (m ≤ e)
+    × (e ≤ length file)
+    × (length file ≤ 65536)
+    × (refusalOf base (e - m) s ≡ 0)
+    × (checkedOf (s .count) base (e - m) (drop e file) ≡ Good)
+    × ((length file - e) % 24 ≡ 0)
+
+abbrev pub Sound : List ℕ → Case → Type 0
+Sound file c = SoundAs file (c .base) (c .state) (c .found)

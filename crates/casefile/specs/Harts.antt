@@ -1,0 +1,66 @@
+-- The harts body of a case file (01, "The case file"): "1 harts: base (8), count (4), zero (4), then for each hart x1 to x31 and pc (8 each)."
+use mathlib.Core.Path.{_≡_}
+use Prim.Native.Nat.{ℕ, _+_, _*_, _-_, _/_, _%_, _^_, _≤_, _<_}
+use mathlib.Core.Bool.{Bool, cond, _&&_}
+use mathlib.Core.List.{List}
+use lib.Dec.{leb, eqb}
+use lib.ListN.{length, replicate}
+use Rattle.word.specs.Bytes.{le}
+use Rattle.word.specs.Memory.{part}
+use Rattle.word.specs.Each.{each, allBelow}
+use Rattle.reserve.specs.Reserve.{slot}
+use Rattle.reserve.specs.declared.Reservation.the-variants.{None}
+use Rattle.machine.specs.declared.State.{State}
+
+-- the fields of a harts body
+abbrev pub baseOf : List ℕ → ℕ
+baseOf body = le (part body 0 8)
+
+abbrev pub countOf : List ℕ → ℕ
+countOf body = le (part body 8 4)
+
+abbrev pub zeroOf : List ℕ → ℕ
+zeroOf body = le (part body 12 4)
+
+-- register r of hart h; x0 is zero and not in the file
+abbrev pub registerOf : List ℕ → ℕ → ℕ → ℕ
+registerOf body h r = cond (eqb r 0) 0 (le (part body (16 + 256 * h + 8 * (r - 1)) 8))
+
+abbrev pub pcOf : List ℕ → ℕ → ℕ
+pcOf body h = le (part body (16 + 256 * h + 248) 8)
+
+-- "9: harts body, base included": none of its fields is wrong. The body has as many bytes as its count says, 1 to 8 harts, a base that is a
+-- multiple of 64 and at most 2 ^ 40, and each pc is a multiple of 4
+unfoldable pub hartsOk : List ℕ → Bool
+hartsOk body =
+    eqb (length body) (16 + 256 * countOf body)
+    && (leb 1 (countOf body)
+    && (leb (countOf body) 8
+    && (eqb (zeroOf body) 0
+    && (eqb (baseOf body % 64) 0 && (leb (baseOf body) (2 ^ 40) && allBelow (λ h. eqb (pcOf body h % 4) 0) (countOf body))))))
+
+-- the same without tests
+abbrev pub HartsRules : List ℕ → Type 0
+HartsRules body =
+    (length body ≡ 16 + 256 * countOf body)
+    × (1 ≤ countOf body)
+    × (countOf body ≤ 8)
+    × (zeroOf body ≡ 0)
+    × (baseOf body % 64 ≡ 0)
+    × (baseOf body ≤ 2 ^ 40)
+    × ((h : ℕ) → h < countOf body → pcOf body h % 4 ≡ 0)
+
+-- a machine without harts, all zero
+unfoldable pub noState : State
+noState = record { count = 0; x = replicate 256 0; pc = replicate 8 0; res = replicate 8 (slot None) }
+
+-- the state that a harts body is: x of register r of hart h stands at 32 * h + r. What belongs to harts at or above the count is zero. "A read
+-- case has no reservations."
+unfoldable pub stateOf : ℕ → List ℕ → State
+stateOf count body =
+    record {
+      count = count;
+      x = each (λ i _. registerOf body (i / 32) (i % 32)) (32 * count) (replicate 256 0);
+      pc = each (λ h _. pcOf body h) count (replicate 8 0);
+      res = replicate 8 (slot None);
+    }

@@ -1,0 +1,4 @@
+-- The case file.
+pub mod Table
+pub mod Harts
+pub mod Case

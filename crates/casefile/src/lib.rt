@@ -1,0 +1,252 @@
+// The reader of case files: refusals 7 to 11.
+use events::Checked;
+use machine::State;
+use reserve::Reservation;
+use reserve::Slot;
+use word::bytes::load_at;
+ghost use mathlib.Core.Path.{_≡_};
+ghost use Prim.Native.Nat.{_+_, _*_, _-_, _/_, _%_, _^_, _≤_, _<_};
+ghost use lib.Dec.{eqb};
+ghost use lib.ListN.{length, drop, replicate};
+ghost use Rattle.word.specs.Each.{each, allBelow};
+ghost use Rattle.word.specs.Memory.{part};
+ghost use Rattle.casefile.specs.Table.{fieldAt, entryOf, tableOf, From};
+ghost use Rattle.casefile.specs.Harts.{registerOf, pcOf, hartsOk, stateOf, noState};
+ghost use Rattle.casefile.specs.Case.{refusedCase, lengthOk, bodiesOf, caseOf, Sound};
+
+// What a file is found to be: refused, at a place counted from its first byte, or a case, whose memory and events start at these places.
+pub enum Found {
+    Refused { number: usize, place: usize },
+    Bodies { memory: usize, events: usize },
+}
+
+// A file read. Base and state are zero where it is refused.
+pub struct Case {
+    pub found: Found,
+    pub base: u64,
+    pub state: State,
+}
+
+// An entry of the table of contents: the place of its first wrong field, or where its body ends.
+enum Entry {
+    Wrong(usize),
+    Ends(usize),
+}
+
+// The 4-byte field at a place.
+fn field(file: &[u8], place: usize) -> usize
+    requires { ⌜ place + 4 ≤ length (now file) ⌝ }
+    ensures { λ r. ⌜ r ≡ fieldAt (now (file .entry)) place ⌝ }
+    ensures { λ r. ⌜ r < 2 ^ 32 ⌝ }
+{
+    load_at(file, place, 4) as usize
+}
+
+// The entry at a place, which is to have this kind and this offset. The bound on the offset keeps the body's end from overflowing.
+fn read_entry(file: &[u8], place: usize, kind: usize, offset: usize) -> Entry
+    requires { ⌜ (place + 12 ≤ length (now file)) × (offset < 2 ^ 40) ⌝ }
+    ensures { λ r. ⌜ r ≡ entryOf (now (file .entry)) place kind offset ⌝ }
+    ensures { λ r. ⌜ From offset r ⌝ }
+{
+    if field(file, place) != kind {
+        return Entry::Wrong(place);
+    }
+    if field(file, place + 4) != offset {
+        return Entry::Wrong(place + 4);
+    }
+    Entry::Ends(offset + field(file, place + 8))
+}
+
+// Refusals 7 and 8.
+fn read_table(file: &[u8]) -> Found
+    ensures { λ r. ⌜ r ≡ tableOf (now (file .entry)) ⌝ }
+{
+    if file.len() < 40 {
+        return Found::Refused {
+            number: 7,
+            place: 0,
+        };
+    }
+    if 65536 < file.len() {
+        return Found::Refused {
+            number: 7,
+            place: 0,
+        };
+    }
+    if field(file, 0) != 3 {
+        return Found::Refused {
+            number: 8,
+            place: 0,
+        };
+    }
+    match read_entry(file, 4, 1, 40) {
+        Entry::Wrong(place) => Found::Refused { number: 8, place },
+        Entry::Ends(memory) => match read_entry(file, 16, 2, memory) {
+            Entry::Wrong(place) => Found::Refused { number: 8, place },
+            Entry::Ends(events) => match read_entry(file, 28, 3, events) {
+                Entry::Wrong(place) => Found::Refused { number: 8, place },
+                Entry::Ends(end) => {
+                    if end != file.len() {
+                        let place = 36; // the last length
+                        return Found::Refused { number: 8, place };
+                    }
+                    Found::Bodies { memory, events }
+                }
+            },
+        },
+    }
+}
+
+// Whether the pc of each of the count harts of a harts body is a multiple of 4.
+fn counters_ok(body: &[u8], count: usize) -> bool
+    requires { ⌜ length (now body) ≡ 16 + 256 * count ⌝ }
+    ensures { λ r. ⌜ r ≡ allBelow (λ h. eqb (pcOf (now (body .entry)) h % 4) 0) count ⌝ }
+{
+    let mut h: usize = 0;
+    while h < count {
+        if load_at(body, 16 + 256 * h + 248, 8) % 4 != 0 {
+            return false;
+        }
+        h += 1;
+    }
+    true
+}
+
+// Whether refusal 9 does not name a harts body.
+fn harts_ok(body: &[u8]) -> bool
+    ensures { λ r. ⌜ r ≡ hartsOk (now (body .entry)) ⌝ }
+{
+    if body.len() < 16 {
+        return false;
+    }
+    let count = field(body, 8);
+    if body.len() != 16 + 256 * count {
+        return false;
+    }
+    let base = load_at(body, 0, 8);
+    (1 <= count)
+        & ((count <= 8)
+            & ((field(body, 12) == 0)
+                & ((base % 64 == 0) & ((base <= 1099511627776) & counters_ok(body, count)))))
+}
+
+// x of register r of hart h.
+fn register(body: &[u8], h: usize, r: usize) -> u64
+    requires { ⌜ (r < 32) × (16 + 256 * h + 256 ≤ length (now body)) ⌝ }
+    ensures { λ v. ⌜ v ≡ registerOf (now (body .entry)) h r ⌝ }
+{
+    if r == 0 {
+        return 0;
+    }
+    load_at(body, 16 + 256 * h + 8 * (r - 1), 8)
+}
+
+// The registers of the count harts of a harts body, hart by hart, as a state holds them.
+fn registers(body: &[u8], count: usize) -> [u64; 256]
+    requires { ⌜ (count ≤ 8) × (length (now body) ≡ 16 + 256 * count) ⌝ }
+    ensures { λ x. ⌜ x ≡ each (λ i _. registerOf (now (body .entry)) (i / 32) (i % 32)) (32 * count) (replicate 256 0) ⌝ }
+{
+    let mut x = [0u64; 256];
+    let mut i: usize = 0;
+    while i < 32 * count {
+        x[i] = register(body, i / 32, i % 32);
+        i += 1;
+    }
+    x
+}
+
+// The pc of each of the count harts of a harts body.
+fn counters(body: &[u8], count: usize) -> [u64; 8]
+    requires { ⌜ (count ≤ 8) × (length (now body) ≡ 16 + 256 * count) ⌝ }
+    ensures { λ pc. ⌜ pc ≡ each (λ h _. pcOf (now (body .entry)) h) count (replicate 8 0) ⌝ }
+{
+    let mut pc = [0u64; 8];
+    let mut h: usize = 0;
+    while h < count {
+        pc[h] = load_at(body, 16 + 256 * h + 248, 8);
+        h += 1;
+    }
+    pc
+}
+
+// The state that a harts body is.
+fn read_state(body: &[u8], count: usize) -> State
+    requires { ⌜ (count ≤ 8) × (length (now body) ≡ 16 + 256 * count) ⌝ }
+    ensures { λ s. ⌜ s ≡ stateOf count (now (body .entry)) ⌝ }
+{
+    let x = registers(body, count);
+    let pc = counters(body, count);
+    let res = [Slot {
+        reservation: Reservation::None,
+    }; 8];
+    State { count, x, pc, res }
+}
+
+// Whether refusal 10 does not name a memory body.
+fn memory_ok(body: &[u8]) -> bool
+    ensures { λ r. ⌜ r ≡ lengthOk (length (now (body .entry))) ⌝ }
+{
+    let n = body.len();
+    (64 <= n) & ((n <= 1048576) & (n % 64 == 0))
+}
+
+// A refused file.
+fn refused(number: usize, place: usize) -> Case
+    ensures { λ r. ⌜ r ≡ refusedCase number place ⌝ }
+{
+    let x = [0u64; 256];
+    let pc = [0u64; 8];
+    let res = [Slot {
+        reservation: Reservation::None,
+    }; 8];
+    let state = State {
+        count: 0,
+        x,
+        pc,
+        res,
+    };
+    Case {
+        found: Found::Refused { number, place },
+        base: 0,
+        state,
+    }
+}
+
+// Refusals 9 to 11 of a file whose bodies start at 40, memory and events.
+fn read_bodies(file: &[u8], memory: usize, events: usize) -> Case
+    requires { ⌜ (40 ≤ memory) × (memory ≤ events) ⌝ }
+    requires { ⌜ (events ≤ length (now file)) × (length (now file) ≤ 65536) ⌝ }
+    ensures { λ r. ⌜ r ≡ bodiesOf memory events (part (now (file .entry)) 40 (memory - 40)) (part (now (file .entry)) memory (events - memory)) (drop events (now (file .entry))) ⌝ }
+{
+    let harts = &file[40..memory];
+    if !harts_ok(harts) {
+        return refused(9, 40);
+    }
+    if !memory_ok(&file[memory..events]) {
+        return refused(10, memory);
+    }
+    let base = load_at(harts, 0, 8);
+    let count = field(harts, 8);
+    match events::check(&file[events..], count, base, events - memory) {
+        Checked::Bad(place) => refused(11, events + place),
+        Checked::Good => {
+            let state = read_state(harts, count);
+            Case {
+                found: Found::Bodies { memory, events },
+                base,
+                state,
+            }
+        }
+    }
+}
+
+// The case that a file is, or why it is none.
+pub fn read_case(file: &[u8]) -> Case
+    ensures { λ r. ⌜ r ≡ caseOf (now (file .entry)) ⌝ }
+    ensures { λ r. ⌜ Sound (now (file .entry)) r ⌝ }
+{
+    match read_table(file) {
+        Found::Refused { number, place } => refused(number, place),
+        Found::Bodies { memory, events } => read_bodies(file, memory, events),
+    }
+}
