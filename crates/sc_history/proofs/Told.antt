@@ -1,18 +1,16 @@
 -- What the notices of a run say: each event's notice is what its instruction tells, and a retired LR is exactly what its notice says. Assumes
 -- nothing.
 use mathlib.Core.Path.{_≡_, refl, sym, _∙_, ap, subst}
-use mathlib.Core.Logic.{_↔_, _≢_, _⊎_, inl, inr, ⊎-elim}
+use mathlib.Core.Logic.{_↔_, _⊎_, inl, inr, ⊎-elim}
 use mathlib.Core.Bool.{Bool, true, false, cond, _&&_}
 use mathlib.Core.List.{List}
 use Prim.Native.Nat.{ℕ, _%_, _<_}
-use native.Mathlib.Omega.{arith}
 use lib.Dec.{eqb, ltb, leb}
 use lib.ListN.{length, getD}
 use borrow.Author.Tests.{ltb-true, lt-ltb}
 use Rattle.word.specs.Word.{low}
 use Rattle.word.specs.Bytes.{toLe}
 use Rattle.word.proofs.BytesLaws.{length-toLe}
-use Rattle.word.proofs.TestLaws.{bool-cases}
 use Rattle.reserve.specs.Range.{Inside, insideOf}
 use Rattle.reserve.specs.Reserve.{coversOf}
 use Rattle.reserve.specs.declared.Notice.{Notice}
@@ -25,11 +23,11 @@ use Rattle.isa.specs.declared.AtomicOp.the-variants.{Lr, Sc, Cas, CasPair, Rmw}
 use Rattle.isa.specs.declared.Atomic.{Atomic}
 use Rattle.isa.specs.declared.Instr.{Instr}
 use Rattle.isa.specs.declared.Instr.the-variants.{Illegal, Lui, Auipc, Jal, Jalr, Branch, Load, Store, OpImm, OpImm32, Op, Op32, Fence, Ecall, Ebreak, Amo}
-use Rattle.effect.specs.Effect.{Writes, Touch, nothing, reserve, store, scStore, scLose, Exec, trap, effect, noticeOf, offset}
-use Rattle.effect.specs.Integer.{execJump, holdsOf, execBranch}
+use Rattle.effect.specs.Effect.{Writes, Touch, nothing, reserve, store, scStore, scLose, Exec, trap, effect, offset}
+use Rattle.effect.specs.Integer.{execJump, execBranch}
 use Rattle.effect.specs.Memory.{faultOf, checked, valueAt, storeBytes, execLoad, execStore}
 use Rattle.effect.specs.Atomic.{swapped, execLr, execSc, execAmo, execCas, execCasPair}
-use Rattle.effect.specs.Execute.{regAt, pairAt, atomicBy, execAtomic, execute}
+use Rattle.effect.specs.Execute.{regAt, pairAt, atomicBy, execAtomic, execute, executeWord}
 use Rattle.events.specs.declared.Event.{Event}
 use Rattle.events.specs.declared.Event.the-variants.{Step, Device, Yield as YieldOf}
 use Rattle.model.specs.Act.{Act, refuse, fault, change, put, release, actNotice, told}
@@ -41,7 +39,7 @@ use Rattle.model.specs.declared.Outcome.{Outcome}
 use Rattle.model.specs.declared.Outcome.the-variants as O
 use Rattle.model.proofs.Valid.{act-valid}
 use Rattle.model.proofs.Frame.{step-act}
-use Rattle.sc_history.specs.Sc.{addressOf, sizeOf, answered, Traps, Refuses}
+use Rattle.sc_history.specs.Sc.{answered, Traps, Refuses}
 use Rattle.sc_history.specs.Told.{toldSc, toldAtomic, toldBy, RetiredLr}
 
 -- ---- the notice of each instruction
@@ -150,14 +148,6 @@ Happens O.ScFailed = Unit {0}
 Happens (O.Trap cause value) = ⊥
 Happens (O.Refused number) = ⊥
 
-trap-or : (o : Outcome) → Traps o ⊎ (Traps o → ⊥)
-unfolding NoTrap
-trap-or O.Retired = inr (λ t. subst NoTrap (t .2) tt)
-trap-or O.ScStored = inr (λ t. subst NoTrap (t .2) tt)
-trap-or O.ScFailed = inr (λ t. subst NoTrap (t .2) tt)
-trap-or (O.Trap cause value) = inl (cause, value, refl)
-trap-or (O.Refused number) = inr (λ t. subst NoTrap (t .2) tt)
-
 happens-touch : (h : ℕ) (ws : Writes) (to : ℕ) (t : Touch) → Happens (told (change h ws to t))
 unfolding Happens
 happens-touch h ws to nothing = tt
@@ -212,17 +202,166 @@ module _ (base : ℕ) (m : Machine) (v : Valid base m) where
   unfolding actOn
   notice-yield h u = rw (act-valid base m v (YieldOf h), lt-ltb h (m .state .count) u)
 
-  module _ (g a w : ℕ) where
-    -- only an LR tells of an LR
-    Lone : Notice → Type 0
-    Lone Quiet = ⊥
-    Lone (LoadReserved k b n) = Unit {0}
-    Lone (ScDone k b n) = ⊥
-    Lone (ScFailed k) = ⊥
-    Lone (Write k b n) = ⊥
-    Lone (DeviceWrite b n) = ⊥
-    Lone (Yield k) = ⊥
+-- ---- the notice of an LR
 
-    lone : {P : Type 0} (n : Notice) → n ≡ LoadReserved g a w → (Lone n → ⊥) → P
-    unfolding Lone
-    lone n e d = absurd (d (subst Lone (sym e) tt))
+-- the notice of an LR
+IsLr : Notice → Type 0
+IsLr Quiet = ⊥
+IsLr (LoadReserved g a w) = Unit {0}
+IsLr (ScDone g b n) = ⊥
+IsLr (ScFailed g) = ⊥
+IsLr (Write g b n) = ⊥
+IsLr (DeviceWrite b n) = ⊥
+IsLr (Yield g) = ⊥
+
+retired-lr : (act : Act) → IsLr (actNotice act) → told act ≡ O.Retired
+unfolding IsLr
+retired-lr (refuse number) l = absurd l
+retired-lr (fault cause value) l = absurd l
+retired-lr (change h ws to nothing) l = absurd l
+retired-lr (change h ws to (reserve a w)) l = refl
+retired-lr (change h ws to (store a bs)) l = absurd l
+retired-lr (change h ws to (scStore a bs)) l = absurd l
+retired-lr (change h ws to scLose) l = absurd l
+retired-lr (put a bs) l = absurd l
+retired-lr (release h) l = absurd l
+
+module _ (h : ℕ) (x : ℕ → ℕ) (base : ℕ) (mem : List ℕ) (o : Outcome) where
+  not-sc : (a n : ℕ) (p : Outcome) → IsLr (toldSc h x base mem a n p) → ⊥
+  unfolding IsLr
+  not-sc a n O.Retired l = l
+  not-sc a n O.ScStored l = l
+  not-sc a n O.ScFailed l = l
+  not-sc a n (O.Trap cause value) l = l
+  not-sc a n (O.Refused number) l = l
+
+  not-swap : (t : Bool) (a n : ℕ) → IsLr (cond t (Write h a n) Quiet) → ⊥
+  unfolding IsLr
+  not-swap true a n l = l
+  not-swap false a n l = l
+
+  lr-op : (op : AtomicOp) (i : Atomic) → IsLr (toldAtomic h x base mem op i o) → op ≡ Lr
+  unfolding IsLr
+  lr-op Lr i l = refl
+  lr-op Sc i l = absurd (not-sc (x (i .rs1)) (bytesOf (i .width)) o l)
+  lr-op Cas i l =
+      absurd
+      (not-swap (eqb (valueAt base mem (x (i .rs1)) (bytesOf (i .width))) (low (bitsOf (i .width)) (x (i .rd)))) (x (i .rs1)) (bytesOf (i .width)) l)
+  lr-op CasPair i l = absurd (not-swap (eqb (valueAt base mem (x (i .rs1)) 16) (pairAt x (i .rd))) (x (i .rs1)) 16 l)
+  lr-op (Rmw op) i l = absurd l
+
+  -- only an LR tells of one
+  lr-instr : (i : Instr) → IsLr (toldBy h x base mem i o) → (lr : Atomic) × (i ≡ Amo lr) × (lr .op ≡ Lr)
+  unfolding IsLr
+  lr-instr Illegal l = absurd l
+  lr-instr Ecall l = absurd l
+  lr-instr Ebreak l = absurd l
+  lr-instr (Fence rd rs1 imm) l = absurd l
+  lr-instr (Lui rd imm) l = absurd l
+  lr-instr (Auipc rd imm) l = absurd l
+  lr-instr (Jal rd imm) l = absurd l
+  lr-instr (Jalr rd rs1 imm) l = absurd l
+  lr-instr (Branch op rs1 rs2 imm) l = absurd l
+  lr-instr (Load op rd rs1 imm) l = absurd l
+  lr-instr (Store op rs1 rs2 imm) l = absurd l
+  lr-instr (OpImm op rd rs1 imm) l = absurd l
+  lr-instr (OpImm32 op rd rs1 imm) l = absurd l
+  lr-instr (Op op rd rs1 rs2) l = absurd l
+  lr-instr (Op32 op rd rs1 rs2) l = absurd l
+  lr-instr (Amo i) l = (i, refl, lr-op (i .op) i l)
+
+module _ (base : ℕ) (m : Machine) (v : Valid base m) where
+  -- the notice of an LR comes from a step of a used hart that fetches a word
+  fetched : (h : ℕ) → IsLr (noticeAt base m (Step h))
+      → (h < m .state .count) × Inside base (length (m .mem)) (getD (m .state .pc) h 0) 4
+  unfolding actOn fetchOf IsLr
+  fetched h l =
+      let q : IsLr (actNotice (actOn base (m .mem) (m .state) (Step h))) = rw (act-valid base m v (Step h)) at l in
+      go (ltb h (m .state .count)) refl (insideOf base (length (m .mem)) (getD (m .state .pc) h 0) 4) refl
+      (executeWord 64 (valueAt base (m .mem) (getD (m .state .pc) h 0) 4) (regAt (m .state .x) h) (getD (m .state .pc) h 0) base (m .mem)
+      (coversOf 64 (reservationOf (m .state) h))) q
+    where
+      go : (s : Bool) → ltb h (m .state .count) ≡ s → (t : Bool) → insideOf base (length (m .mem)) (getD (m .state .pc) h 0) 4 ≡ t
+          → (x : Exec) → IsLr (actNotice (cond s (ofExec h (cond t x (trap 1 (getD (m .state .pc) h 0)))) (refuse 3)))
+          → (h < m .state .count) × Inside base (length (m .mem)) (getD (m .state .pc) h 0) 4
+      go true p true q x l = (ltb-true h (m .state .count) p, inside-of base (length (m .mem)) (getD (m .state .pc) h 0) 4 q)
+      go true p false q x l = absurd l
+      go false p t q x l = absurd l
+
+  not-device : (a n w : ℕ) → IsLr (noticeAt base m (Device a n w)) → ⊥
+  unfolding actOn deviceOf IsLr
+  not-device a n w = rw (act-valid base m v (Device a n w)) (go (leb 1 n && leb n 8) (insideOf base (length (m .mem)) a n))
+    where
+      go : (s t : Bool) → IsLr (actNotice (cond s (cond t (put a (toLe n w)) (refuse 5)) (refuse 4))) → ⊥
+      go true true l = l
+      go true false l = l
+      go false t l = l
+
+  not-yield : (h : ℕ) → IsLr (noticeAt base m (YieldOf h)) → ⊥
+  unfolding actOn IsLr
+  not-yield h = rw (act-valid base m v (YieldOf h)) (go (ltb h (m .state .count)))
+    where
+      go : (s : Bool) → IsLr (actNotice (cond s (release h) (refuse 3))) → ⊥
+      go true l = l
+      go false l = l
+
+  -- a step that is answered by anything but a refusal is of a used hart
+  used : (h : ℕ) → answered base m (Step h) ≡ O.Retired → h < m .state .count
+  unfolding answerOf actOn Happens
+  used h e =
+      let q : told (actOn base (m .mem) (m .state) (Step h)) ≡ O.Retired = rw (act-valid base m v (Step h)) at e in
+      go (ltb h (m .state .count)) refl q
+    where
+      go : (s : Bool) → ltb h (m .state .count) ≡ s → told (cond s (ofExec h (stepOf base (m .mem) (m .state) h)) (refuse 3)) ≡ O.Retired → h < m .state .count
+      go true p q = ltb-true h (m .state .count) p
+      go false p q = absurd (subst Happens (sym q) tt)
+
+  module _ (g a w : ℕ) where
+    lr-told : (e : Event) → noticeAt base m e ≡ LoadReserved g a w → IsLr (noticeAt base m e)
+    unfolding IsLr
+    lr-told e q = subst IsLr (sym q) tt
+
+    lr-came : (e : Event) → noticeAt base m e ≡ LoadReserved g a w → RetiredLr base m e g a w
+    unfolding answerOf IsLr NoTrap
+    lr-came (Device b n c) q = absurd (not-device b n c (lr-told (Device b n c) q))
+    lr-came (YieldOf h) q = absurd (not-yield h (lr-told (YieldOf h) q))
+    lr-came (Step h) q =
+        let i = decodeOf (valueAt base (m .mem) (getD (m .state .pc) h 0) 4) in
+        let x = regAt (m .state .x) h in
+        let o = answered base m (Step h) in
+        let l = lr-told (Step h) q in
+        let p = fetched h l in
+        let f : Fetches base m h i = record { inside = p .1; decodes = refl } in
+        let r : o ≡ O.Retired = retired-lr (actOf base (m .mem) (m .state) (Step h)) l in
+        let n : noticeAt base m (Step h) ≡ toldBy h x base (m .mem) i o = notice-step base m v h (p .0) i f (λ t. subst NoTrap (sym r ∙ t .2) tt) in
+        let c = lr-instr h x base (m .mem) o i (subst IsLr n l) in
+        let e : LoadReserved h (x (c .0 .rs1)) (bytesOf (c .0 .width)) ≡ LoadReserved g a w =
+        sym (n ∙ ap (λ (j : Instr). toldBy h x base (m .mem) j o) (c .1) ∙ ap (λ (op : AtomicOp). toldAtomic h x base (m .mem) op (c .0) o) (c .2)) ∙ q in
+        let same : h ≡ g = cc in
+        let address : x (c .0 .rs1) ≡ a = cc in
+        let width : bytesOf (c .0 .width) ≡ w = cc in
+        subst (λ (k : ℕ). RetiredLr base m (Step h) k a w) same
+        (record {
+          isStep = refl;
+          lr = c .0;
+          fetches = subst (λ (j : Instr). Fetches base m h j) (c .1) f;
+          isLr = c .2;
+          address = address;
+          width = width;
+          retires = r;
+        })
+
+    lr-tells : RetiredLr base m (Step g) g a w → noticeAt base m (Step g) ≡ LoadReserved g a w
+    unfolding NoTrap
+    lr-tells r =
+        notice-step base m v g (used g (r .retires)) (Amo (r .lr)) (r .fetches) (λ t. subst NoTrap (sym (r .retires) ∙ t .2) tt)
+        ∙ rw (r .isLr, r .address, r .width) refl
+
+  -- The trace's notice of an event is an LR's exactly if the event is that hart's step and a retired LR of these bytes.
+  pub lr-exact : (g a w : ℕ) (e : Event) → (noticeAt base m e ≡ LoadReserved g a w) ↔ RetiredLr base m e g a w
+  lr-exact g a w e = (
+    λ q. lr-came g a w e q,
+    λ r.
+        subst (λ (k : Event). noticeAt base m k ≡ LoadReserved g a w) (sym (r .isStep))
+        (lr-tells g a w (subst (λ (k : Event). RetiredLr base m k g a w) (r .isStep) r)),
+  )
