@@ -1,3 +1,4 @@
 -- The laws of the machine.
 pub mod Valid
 pub mod AdvanceLaws
+pub mod Frame

@@ -4,3 +4,5 @@ pub mod Perform
 pub mod Run
 pub mod Valid
 pub mod Advance
+pub mod Trace
+pub mod Fetch

@@ -1,0 +1,144 @@
+-- Demand 2's sentence on SC, for runs of the machine. Assumes nothing.
+use mathlib.Core.Path.{_≡_, refl, sym, _∙_, ap, subst}
+use mathlib.Core.Logic.{_↔_, _≢_}
+use mathlib.Core.Bool.{Bool, true, false}
+use mathlib.Core.List.{List, [], _∷_}
+use Prim.Native.Nat.{ℕ, _%_, _<_}
+use native.Mathlib.Omega.{arith}
+use lib.Dec.{eqb}
+use lib.ListN.{getD}
+use borrow.Author.Tests.{eqb-true, eqb-false}
+use Rattle.word.proofs.TestLaws.{bool-cases}
+use Rattle.reserve.specs.Reserve.{coversOf}
+use Rattle.reserve.specs.declared.Reservation.{Reservation}
+use Rattle.reserve.specs.declared.Reservation.the-variants.{None, Held}
+use Rattle.isa.specs.declared.Atomic.{Atomic}
+use Rattle.isa.specs.declared.Instr.the-variants.{Amo}
+use Rattle.machine.specs.Rules.{Shaped}
+use Rattle.effect.specs.Effect.{Exec}
+use Rattle.effect.specs.Atomic.{execSc}
+use Rattle.effect.specs.Execute.{regAt, execute, execAtomic}
+use Rattle.effect.proofs.TrapLaws as T
+use Rattle.events.specs.declared.Event.{Event}
+use Rattle.events.specs.declared.Event.the-variants.{Step}
+use Rattle.model.specs.Act.{told}
+use Rattle.model.specs.Perform.{Machine, reservationOf, ofExec, actOf, answerOf, nextOf, runOf}
+use Rattle.model.specs.Valid.{Valid}
+use Rattle.model.specs.Trace.{traceOf}
+use Rattle.model.specs.declared.Outcome.the-variants.{ScStored, ScFailed, Trap}
+use Rattle.model.proofs.Valid.{valid-next, valid-run}
+use Rattle.model.proofs.Frame.{count-next, count-run, shaped-next, res-next, step-act}
+use Rattle.history.specs.History.{observes, Reserved, Since}
+use Rattle.history.proofs.History.{history, sc-exact}
+use Rattle.sc_history.specs.Sc.{Reservationless, FetchesSc, addressOf, sizeOf, answered, Traps}
+
+-- an SC's step in a machine that 1 and 2 don't refuse: by its address, and by what the hart's reservation covers
+module _ (base : ℕ) (m : Machine) (v : Valid base m) (h : ℕ) (u : h < m .state .count) (sc : Atomic) (f : FetchesSc base m h sc) where
+  covered : ℕ → ℕ → Bool
+  covered = coversOf 64 (reservationOf (m .state) h)
+
+  exec : Exec
+  exec = execSc 64 (sc .width) (sc .rd) (addressOf m h sc) (regAt (m .state .x) h (sc .rs2)) (getD (m .state .pc) h 0) covered
+
+  act-sc : actOf base (m .mem) (m .state) (Step h) ≡ ofExec h exec
+  unfolding exec covered execute execAtomic
+  act-sc = step-act base m v h u (Amo sc) (f .fetches) ∙ rw (f .isSc) refl
+
+  by-exec : (e : Exec) → exec ≡ e → answered base m (Step h) ≡ told (ofExec h e)
+  unfolding answerOf
+  by-exec e q = ap told (act-sc ∙ ap (ofExec h) q)
+
+  -- 01: cause 6, "address not aligned to its width", value "address"; "SC has no cause 7"
+  pub sc-misaligned : addressOf m h sc % sizeOf sc ≢ 0 → answered base m (Step h) ≡ Trap 6 (addressOf m h sc)
+  unfolding exec covered
+  sc-misaligned d = by-exec _ (T.sc-traps 64 (getD (m .state .pc) h 0) (sc .width) (sc .rd) (addressOf m h sc) _ covered d)
+
+  pub sc-covered : addressOf m h sc % sizeOf sc ≡ 0 → coversOf 64 (reservationOf (m .state) h) (addressOf m h sc) (sizeOf sc) ≡ true
+      → answered base m (Step h) ≡ ScStored
+  unfolding exec covered
+  sc-covered al c = by-exec _ (T.sc-succeeds 64 (getD (m .state .pc) h 0) (sc .width) (sc .rd) (addressOf m h sc) _ covered al c)
+
+  pub sc-uncovered : addressOf m h sc % sizeOf sc ≡ 0 → coversOf 64 (reservationOf (m .state) h) (addressOf m h sc) (sizeOf sc) ≡ false
+      → answered base m (Step h) ≡ ScFailed
+  unfolding exec covered
+  sc-uncovered al c = by-exec _ (T.sc-fails 64 (getD (m .state .pc) h 0) (sc .width) (sc .rd) (addressOf m h sc) _ covered al c)
+
+  -- An SC traps exactly if its address isn't aligned, whatever the reservation, and then with cause 6 and the address.
+  pub sc-traps : Traps (answered base m (Step h)) ↔ (addressOf m h sc % sizeOf sc ≢ 0)
+  sc-traps = (
+    λ t al.
+        bool-cases (coversOf 64 (reservationOf (m .state) h) (addressOf m h sc) (sizeOf sc))
+        (λ c. let o = sc-covered al c in let z : _≡_ {A = ℕ} 0 1 = cc (t .2) in omega arith)
+        (λ c. let o = sc-uncovered al c in let z : _≡_ {A = ℕ} 0 1 = cc (t .2) in omega arith),
+    λ d. (6, addressOf m h sc, sc-misaligned d),
+  )
+
+  -- one that doesn't trap succeeds exactly if the reservation's set contains its bytes, and fails otherwise
+  module _ (d : Traps (answered base m (Step h)) → ⊥) where
+    aligned : addressOf m h sc % sizeOf sc ≡ 0
+    aligned =
+        bool-cases (eqb (addressOf m h sc % sizeOf sc) 0) (λ t. eqb-true (addressOf m h sc % sizeOf sc) 0 t)
+        (λ t. absurd (d (sc-traps .1 (eqb-false (addressOf m h sc % sizeOf sc) 0 t))))
+
+    pub sc-stored : (answered base m (Step h) ≡ ScStored) ↔ (coversOf 64 (reservationOf (m .state) h) (addressOf m h sc) (sizeOf sc) ≡ true)
+    sc-stored = (
+      λ o.
+          bool-cases (coversOf 64 (reservationOf (m .state) h) (addressOf m h sc) (sizeOf sc)) (λ c. c)
+          (λ c. let p = sc-uncovered aligned c in absurd (let z : _≡_ {A = ℕ} 0 1 = cc in omega arith)),
+      λ c. sc-covered aligned c,
+    )
+
+    pub sc-failed : (answered base m (Step h) ≡ ScFailed) ↔ (answered base m (Step h) ≢ ScStored)
+    sc-failed = (
+      λ o p. let z : _≡_ {A = ℕ} 0 1 = cc in omega arith,
+      λ n.
+          bool-cases (coversOf 64 (reservationOf (m .state) h) (addressOf m h sc) (sizeOf sc)) (λ c. absurd (n (sc-covered aligned c)))
+          (λ c. sc-uncovered aligned c),
+    )
+
+-- a used hart's reservation after a run
+pub res-run : (base : ℕ) (m : Machine) → Valid base m → Shaped (m .state) → (h : ℕ) → h < m .state .count → (es : List Event)
+    → reservationOf (runOf base m es .state) h ≡ observes 64 h (traceOf base m es) (reservationOf (m .state) h)
+unfolding runOf traceOf
+res-run base m v s h u [] = refl
+res-run base m v s h u (e ∷ es) =
+    res-run base (nextOf base m e) (valid-next base m v e) (shaped-next base m e s) h (subst (λ (k : ℕ). h < k) (sym (count-next base m e)) u) es
+    ∙ ap (λ (r : Reservation). observes 64 h (traceOf base (nextOf base m e) es) r) (res-next base m e v s h u)
+
+-- A machine that 1 and 2 don't refuse, whose used harts hold no reservation; a used hart; any events.
+module _ (base : ℕ) (m : Machine) (v : Valid base m) (s : Shaped (m .state)) (free : Reservationless (m .state)) (h : ℕ) (u : h < m .state .count) (es : List Event) where
+  after : reservationOf (runOf base m es .state) h ≡ observes 64 h (traceOf base m es) None
+  after = res-run base m v s h u es ∙ ap (λ (r : Reservation). observes 64 h (traceOf base m es) r) (free h u)
+
+  -- It holds the reservation of w bytes at a exactly if its latest retired LR was of these and nothing since then broke the reservation.
+  pub held-exact : (a w : ℕ) → (reservationOf (runOf base m es .state) h ≡ Held a w) ↔ Reserved 64 h a w (traceOf base m es)
+  held-exact a w = subst (λ (r : Reservation). (r ≡ Held a w) ↔ Reserved 64 h a w (traceOf base m es)) (sym after) (history 64 h a w (traceOf base m es))
+
+  covered-exact : (a n : ℕ) → (coversOf 64 (reservationOf (runOf base m es .state) h) a n ≡ true) ↔ Since 64 h a n (traceOf base m es)
+  covered-exact a n =
+      subst (λ (r : Reservation). (coversOf 64 r a n ≡ true) ↔ Since 64 h a n (traceOf base m es)) (sym after) (sc-exact 64 h a n (traceOf base m es))
+
+  -- 01: "from a start without reservations an SC that doesn't trap succeeds exactly if the history since its hart's latest retired LR allows it":
+  -- it stores, or it fails, exactly if the set around that LR's address has all its bytes and nothing since then broke the reservation, or not.
+  module _ (sc : Atomic) (f : FetchesSc base (runOf base m es) h sc) (d : Traps (answered base (runOf base m es) (Step h)) → ⊥) where
+    used : h < runOf base m es .state .count
+    used = subst (λ (k : ℕ). h < k) (sym (count-run base m es)) u
+
+    pub sc-succeeds : (answered base (runOf base m es) (Step h) ≡ ScStored)
+        ↔ Since 64 h (addressOf (runOf base m es) h sc) (sizeOf sc) (traceOf base m es)
+    sc-succeeds =
+        let p = sc-stored base (runOf base m es) (valid-run base m v es) h used sc f d in
+        let q = covered-exact (addressOf (runOf base m es) h sc) (sizeOf sc) in
+        (λ o. q .0 (p .0 o), λ y. p .1 (q .1 y))
+
+    pub sc-fails : (answered base (runOf base m es) (Step h) ≡ ScFailed)
+        ↔ (Since 64 h (addressOf (runOf base m es) h sc) (sizeOf sc) (traceOf base m es) → ⊥)
+    sc-fails =
+        let p = sc-failed base (runOf base m es) (valid-run base m v es) h used sc f d in
+        (λ o y. p .0 o (sc-succeeds .1 y), λ n. p .1 (λ o. n (sc-succeeds .0 o)))
+
+  -- which SC traps, after any events
+  module _ (sc : Atomic) (f : FetchesSc base (runOf base m es) h sc) where
+    pub sc-traps-run : Traps (answered base (runOf base m es) (Step h)) ↔ (addressOf (runOf base m es) h sc % sizeOf sc ≢ 0)
+    sc-traps-run =
+        sc-traps base (runOf base m es) (valid-run base m v es) h (subst (λ (k : ℕ). h < k) (sym (count-run base m es)) u) sc f

@@ -1,0 +1,43 @@
+-- The words of demand 2's sentence on SC: "from a start without reservations an SC that doesn't trap succeeds exactly if the history since its
+-- hart's latest retired LR allows it".
+use mathlib.Core.Path.{_≡_}
+use Prim.Native.Nat.{ℕ, _<_}
+use Rattle.reserve.specs.declared.Reservation.the-variants.{None}
+use Rattle.isa.specs.Width.{bytesOf}
+use Rattle.isa.specs.declared.AtomicOp.the-variants.{Sc}
+use Rattle.isa.specs.declared.Atomic.{Atomic}
+use Rattle.isa.specs.declared.Instr.the-variants.{Amo}
+use Rattle.machine.specs.declared.State.{State}
+use Rattle.effect.specs.Execute.{regAt}
+use Rattle.events.specs.declared.Event.{Event}
+use Rattle.model.specs.Perform.{Machine, reservationOf, answerOf}
+use Rattle.model.specs.Fetch.{Fetches}
+use Rattle.model.specs.declared.Outcome.{Outcome}
+use Rattle.model.specs.declared.Outcome.the-variants.{Trap, Refused}
+
+-- "a start without reservations": no used hart holds one
+abbrev pub Reservationless : State → Type 0
+Reservationless s = (k : ℕ) → k < s .count → reservationOf s k ≡ None
+
+-- hart h's next step is this SC, of either width, with any ordering bits and registers
+pub record FetchesSc (base : ℕ) (m : Machine) (h : ℕ) (sc : Atomic) : Type 0 where
+  pub fetches : Fetches base m h (Amo sc)
+  pub isSc : sc .op ≡ Sc
+
+-- an atomic instruction's address and bytes, for hart h
+abbrev pub addressOf : Machine → ℕ → Atomic → ℕ
+addressOf m h i = regAt (m .state .x) h (i .rs1)
+
+abbrev pub sizeOf : Atomic → ℕ
+sizeOf i = bytesOf (i .width)
+
+-- the answer to an event
+abbrev pub answered : ℕ → Machine → Event → Outcome
+answered base m e = answerOf base (m .mem) (m .state) e .outcome
+
+-- the answer is a trap, or a refusal
+abbrev pub Traps : Outcome → Type 0
+Traps o = (cause : ℕ) × (value : ℕ) × (o ≡ Trap cause value)
+
+abbrev pub Refuses : Outcome → Type 0
+Refuses o = (number : ℕ) × (o ≡ Refused number)

@@ -1,0 +1,1 @@
+// Theorems only: when an SC of a run succeeds.
