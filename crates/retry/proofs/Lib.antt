@@ -1,0 +1,3 @@
+-- The laws of the loop checker.
+pub mod ClassLaws
+pub mod ScanLaws

@@ -1,0 +1,2 @@
+-- Retry loops: document 01, "Retry loops".
+pub mod Loop
