@@ -4,3 +4,5 @@ pub mod ScanLaws
 pub mod ViewLaws
 pub mod PlaceLaws
 pub mod ReasonLaws
+pub mod Accepted
+pub mod Edges
