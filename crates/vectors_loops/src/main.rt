@@ -6,12 +6,18 @@ ghost use lib.ListN.{length};
 
 mod line;
 
+fn wide(x: u8) -> usize
+    ensures { λ r. ⌜ r < 256 ⌝ }
+{
+    x as usize
+}
+
 // The block at a place, and where the next one starts. A block that the input cuts short ends it.
 fn one(blocks: &[u8], at: usize) -> usize
     requires { ⌜ at < length (now blocks) ⌝ }
     ensures { λ r. ⌜ at < r ⌝ }
 {
-    let n = blocks[at] as usize;
+    let n = wide(blocks[at]);
     let from = at + 1;
     if blocks.len() - from < 4 * n {
         return blocks.len();
