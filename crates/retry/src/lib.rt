@@ -1,6 +1,5 @@
 // The checker of retry loops: document 01, "Retry loops".
 ghost use mathlib.Core.Path.{_≡_};
-ghost use mathlib.Core.Bool.{false};
 ghost use Prim.Native.Nat.{_≤_};
 ghost use lib.ListN.{length};
 ghost use Rattle.retry.specs.Loop.{checkOf, scanOf};

@@ -2,7 +2,7 @@ use mathlib.Core.Path.{_≡_}
 use Prim.Native.Nat.{_/_}
 use native.Mathlib.Omega.{arith}
 use lib.ListN.{length, take, length-take}
-use mathlib.Core.Path.{sym, ap, _∙_}
+use mathlib.Core.Path.{ap, _∙_}
 use Rattle.retry.specs.Loop.{checkOf}
 use Rattle.retry.proofs.BlockLaws.{too-long}
 use borrow.Author.Needs.{needs}
