@@ -16,51 +16,32 @@ use Rattle.effect.specs.Atomic.{execLr, execSc, execAmo, execCas, execCasPair}
 use Rattle.effect.specs.Execute.{regAt, pairAt, execAtomic, execute, executeWord}
 use Rattle.model.specs.Act.{setReg, leaves, apply}
 use Rattle.model.specs.Perform.{fetchOf, deviceOf, actOn, actOf, answerOf, memoryOf, nextOf, runOf}
+use Rattle.retry.specs.Loop.{viewOf, pastSc, wrongOffset, clobbers, lowestOf, scanOf, startOf, checkOf}
 use Rattle.edges.specs.Edge.{All}
 use Rattle.edges.specs.Edges.{edges}
 
+infixr 20 _also_
+_also_ : {A B : Type 0} → A → B → A × B
+p also q = (p, q)
+
 pub every-edge : All edges
-unfolding le toLe part splice low toInt ofInt signExtend allBelow D.classOf D.storeOf D.atomicOf D.sizedOf D.lrOf D.casOf D.casPairOf D.decodeOf aluOf minOf maxOf amoOf touches insideOf coversOf breaksOf ownOf observeOf brokenOf observeAllOf memoryOk reservationOk hartOk stateOk refusalOf faultOf checked valueAt execStore execLr execSc execAmo execCas execCasPair regAt pairAt execAtomic execute executeWord setReg leaves apply fetchOf deviceOf actOn actOf answerOf memoryOf nextOf runOf
-every-edge = (
-  refl,
-  (
-    refl,
-    (
-      (refl, (refl, tt), (refl, tt)),
-      (
-        (refl, (refl, tt), (refl, tt)),
-        (
-          (refl, tt, (refl, tt)),
-          (
-            (refl, tt, (refl, tt)),
-            (
-              (refl, (refl, tt), (refl, tt)),
-              (
-                (refl, (refl, (refl, tt)), (refl, (refl, tt))),
-                (
-                  (refl, (refl, tt), (refl, tt)),
-                  (
-                    (refl, (refl, tt), (refl, (refl, tt))),
-                    (
-                      (refl, (refl, tt), (refl, tt)),
-                      (
-                        (refl, (refl, tt), (refl, tt)),
-                        (
-                          (refl, (refl, tt), (refl, tt)),
-                          (
-                            (refl, (refl, tt), (refl, tt)),
-                            ((refl, (refl, tt), (refl, tt)), tt),
-                          ),
-                        ),
-                      ),
-                    ),
-                  ),
-                ),
-              ),
-            ),
-          ),
-        ),
-      ),
-    ),
-  ),
-)
+unfolding le toLe part splice low toInt ofInt signExtend allBelow D.classOf D.storeOf D.branchOf D.atomicOf D.sizedOf D.lrOf D.casOf D.casPairOf D.decodeOf aluOf minOf maxOf amoOf touches insideOf coversOf breaksOf ownOf observeOf brokenOf observeAllOf memoryOk reservationOk hartOk stateOk refusalOf faultOf checked valueAt execStore execLr execSc execAmo execCas execCasPair regAt pairAt execAtomic execute executeWord setReg leaves apply fetchOf deviceOf actOn actOf answerOf memoryOf nextOf runOf viewOf pastSc wrongOffset clobbers lowestOf scanOf startOf checkOf
+every-edge =
+    refl
+    also refl
+    also (refl, (refl, tt), (refl, tt))
+    also (refl, (refl, tt), (refl, tt))
+    also (refl, tt, (refl, tt))
+    also (refl, tt, (refl, tt))
+    also (refl, (refl, tt), (refl, tt))
+    also (refl, (refl, (refl, tt)), (refl, (refl, tt)))
+    also (refl, (refl, tt), (refl, tt))
+    also (refl, (refl, tt), (refl, (refl, tt)))
+    also (refl, (refl, tt), (refl, tt))
+    also (refl, (refl, tt), (refl, tt))
+    also (refl, (refl, tt), (refl, tt))
+    also (refl, (refl, tt), (refl, tt))
+    also (refl, (refl, tt), (refl, tt))
+    also refl
+    also refl
+    also tt

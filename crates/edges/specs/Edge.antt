@@ -14,6 +14,8 @@ use Rattle.effect.specs.Execute.{regAt}
 use Rattle.events.specs.declared.Event.{Event}
 use Rattle.model.specs.Perform.{Machine, answerOf, nextOf, runOf}
 use Rattle.model.specs.declared.Outcome.{Outcome}
+use Rattle.retry.specs.Loop.{checkOf}
+use Rattle.retry.specs.declared.LoopAnswer.{LoopAnswer}
 
 -- so many bytes at an address, as a number
 infix 68 _at_is_
@@ -26,6 +28,8 @@ pub data Register : Type 0 where
   x_is_ : ℕ → ℕ → Register
 
 pub data Edge : Type 0 where
+  -- a block of words is answered so by the loop checker
+  checks : List ℕ → LoopAnswer → Edge
   -- a word is this instruction
   decodes : ℕ → Instr → Edge
   -- a hart with these words from address 0 on, these registers and these bytes in memory, and no reservation: the events are answered so, and
@@ -66,6 +70,7 @@ HoldBytes m [] = Unit {0}
 HoldBytes m ((n at a is v) ∷ rest) = (le (part (m .mem) a n) ≡ v) × HoldBytes m rest
 
 abbrev pub Holds : Edge → Type 0
+Holds (checks words answer) = checkOf words ≡ answer
 Holds (decodes word i) = decodeOf word ≡ i
 Holds (runs words registers bytes events answers registers′ bytes′) =
     (answersOf (start words registers bytes) events ≡ answers)

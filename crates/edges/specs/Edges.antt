@@ -9,7 +9,8 @@ use Rattle.events.specs.declared.Event.{Event}
 use Rattle.events.specs.declared.Event.the-variants.{Step, Device}
 use Rattle.model.specs.declared.Outcome.{Outcome}
 use Rattle.model.specs.declared.Outcome.the-variants.{Retired, ScStored, ScFailed, Trap}
-use Rattle.edges.specs.Edge.{Edge, decodes, runs, Bytes, _at_is_, Register, x_is_}
+use Rattle.retry.specs.declared.LoopAnswer.the-variants.{Accepted, Rejected}
+use Rattle.edges.specs.Edge.{Edge, decodes, runs, checks, Bytes, _at_is_, Register, x_is_}
 
 abbrev step : Event
 step = Step 0
@@ -52,4 +53,7 @@ edges =
     -- 11. sc.w at 66 after lr.w at 64: cause 6; a following sc.w at 64 succeeds. The trap leaves the pc, so a device puts the following SC there
     ∷ runs (0x1002A32F ∷ 0x1884A3AF ∷ []) ((x 5 is 64) ∷ (x 9 is 66) ∷ (x 8 is 9) ∷ []) [] (step ∷ step ∷ Device 4 4 0x1882A3AF ∷ step ∷ [])
     (Retired ∷ Trap 6 66 ∷ Retired ∷ ScStored ∷ []) ((x 7 is 0) ∷ []) ((4 at 64 is 9) ∷ [])
+    -- 12. lr.w x6,(x5); bne +12; sc.w x7,x8,(x5); bne -12: accepted. With lr.w x5,(x5): place 0, reason 4
+    ∷ checks (0x1002A32F ∷ 0x00031663 ∷ 0x1882A3AF ∷ 0xFE039AE3 ∷ []) Accepted
+    ∷ checks (0x1002A2AF ∷ 0x00031663 ∷ 0x1882A3AF ∷ 0xFE039AE3 ∷ []) (Rejected 0 4)
     ∷ []
