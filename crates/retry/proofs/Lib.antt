@@ -1,0 +1,8 @@
+-- The laws of the loop checker.
+pub mod ClassLaws
+pub mod ScanLaws
+pub mod ViewLaws
+pub mod PlaceLaws
+pub mod ReasonLaws
+pub mod Accepted
+pub mod Edges

@@ -1,0 +1,200 @@
+-- What the checker sees of an instruction says what the instruction is. Assumes nothing.
+use mathlib.Core.Path.{_≡_, refl, sym, ap, subst, _∙_}
+use mathlib.Core.Logic.{_≢_}
+use mathlib.Core.Bool.{Bool, true, false}
+use Prim.Native.Nat.{ℕ, _<_}
+use native.Mathlib.Omega.{arith}
+use Rattle.word.proofs.TestLaws.{contrary}
+use Rattle.isa.specs.Width.{bytesOf}
+use Rattle.isa.specs.Decode.{classOf, decodeOf}
+use Rattle.isa.specs.declared.BranchOp.{BranchOp}
+use Rattle.isa.specs.declared.Width.{Width}
+use Rattle.isa.specs.declared.Width.the-variants.{Word, Double}
+use Rattle.isa.specs.declared.Atomic.{Atomic}
+use Rattle.isa.specs.declared.AtomicOp.{AtomicOp}
+use Rattle.isa.specs.declared.AtomicOp.the-variants as A
+use Rattle.isa.specs.declared.Instr.{Instr}
+use Rattle.isa.specs.declared.Instr.the-variants as I
+use Rattle.retry.specs.declared.View.{View}
+use Rattle.retry.specs.declared.View.the-variants.{Lr, Sc, Plain, Jump, Branch, Other}
+use Rattle.retry.specs.Loop.{atomicView, viewOf, permittedClass}
+use Rattle.retry.specs.Reasons.{PermittedClass, isLui, isAuipc, isJal, isBranch, isOp, isOpImm, isOp32, isOpImm32, Permitted, HasRd}
+use Rattle.retry.proofs.ClassLaws.{InClass, in-class}
+
+-- ---- the instruction of a view
+
+pub record SeenLr (i : Instr) (rd rs1 width : ℕ) : Type 0 where
+  pub of : Atomic
+  pub is : i ≡ I.Amo of
+  pub kind : of .op ≡ A.Lr
+  pub rd-is : of .rd ≡ rd
+  pub rs1-is : of .rs1 ≡ rs1
+  pub width-is : bytesOf (of .width) ≡ width
+
+pub record SeenSc (i : Instr) (rs1 width : ℕ) : Type 0 where
+  pub of : Atomic
+  pub is : i ≡ I.Amo of
+  pub kind : of .op ≡ A.Sc
+  pub rs1-is : of .rs1 ≡ rs1
+  pub width-is : bytesOf (of .width) ≡ width
+
+abbrev pub Seen : Instr → View → Type 0
+Seen i (Lr rd rs1 width) = SeenLr i rd rs1 width
+Seen i (Sc rs1 width) = SeenSc i rs1 width
+Seen i (Plain rd) = HasRd i rd
+Seen i (Jump rd offset) = i ≡ I.Jal rd offset
+Seen i (Branch offset) = (op : BranchOp) × (rs1 : ℕ) × (rs2 : ℕ) × (i ≡ I.Branch op rs1 rs2 offset)
+Seen i Other = Unit {0}
+
+seen-atomic : (op : AtomicOp) (a : Atomic) → a .op ≡ op → Seen (I.Amo a) (atomicView op a)
+seen-atomic A.Lr a e = record { of = a; is = refl; kind = e; rd-is = refl; rs1-is = refl; width-is = refl }
+seen-atomic A.Sc a e = record { of = a; is = refl; kind = e; rs1-is = refl; width-is = refl }
+seen-atomic A.Cas a e = tt
+seen-atomic A.CasPair a e = tt
+seen-atomic (A.Rmw op) a e = tt
+
+pub seen : (i : Instr) → Seen i (viewOf i)
+unfolding viewOf
+seen I.Illegal = tt
+seen (I.Lui rd imm) = refl
+seen (I.Auipc rd imm) = refl
+seen (I.Jal rd imm) = refl
+seen (I.Jalr rd rs1 imm) = tt
+seen (I.Branch op rs1 rs2 imm) = (op, rs1, rs2, refl)
+seen (I.Load op rd rs1 imm) = tt
+seen (I.Store op rs1 rs2 imm) = tt
+seen (I.OpImm op rd rs1 imm) = refl
+seen (I.OpImm32 op rd rs1 imm) = refl
+seen (I.Op op rd rs1 rs2) = refl
+seen (I.Op32 op rd rs1 rs2) = refl
+seen (I.Fence rd rs1 imm) = tt
+seen I.Ecall = tt
+seen I.Ebreak = tt
+seen (I.Amo a) = seen-atomic (a .op) a refl
+
+pub lr-view : (a : Atomic) → a .op ≡ A.Lr → viewOf (I.Amo a) ≡ Lr (a .rd) (a .rs1) (bytesOf (a .width))
+unfolding viewOf
+lr-view a e = ap (λ (op : AtomicOp). atomicView op a) e
+
+pub sc-view : (a : Atomic) → a .op ≡ A.Sc → viewOf (I.Amo a) ≡ Sc (a .rs1) (bytesOf (a .width))
+unfolding viewOf
+sc-view a e = ap (λ (op : AtomicOp). atomicView op a) e
+
+-- ---- its rd
+
+abbrev pub RdSeen : View → ℕ → Type 0
+RdSeen (Lr rd rs1 width) n = rd ≡ n
+RdSeen (Sc rs1 width) n = Unit {0}
+RdSeen (Plain rd) n = rd ≡ n
+RdSeen (Jump rd offset) n = rd ≡ n
+RdSeen (Branch offset) n = ⊥
+RdSeen Other n = Unit {0}
+
+rd-atomic : (op : AtomicOp) (a : Atomic) (n : ℕ) → a .rd ≡ n → RdSeen (atomicView op a) n
+rd-atomic A.Lr a n e = e
+rd-atomic A.Sc a n e = tt
+rd-atomic A.Cas a n e = tt
+rd-atomic A.CasPair a n e = tt
+rd-atomic (A.Rmw op) a n e = tt
+
+pub rd-seen : (i : Instr) (n : ℕ) → HasRd i n → RdSeen (viewOf i) n
+unfolding viewOf
+rd-seen I.Illegal n e = tt
+rd-seen (I.Lui rd imm) n e = e
+rd-seen (I.Auipc rd imm) n e = e
+rd-seen (I.Jal rd imm) n e = e
+rd-seen (I.Jalr rd rs1 imm) n e = tt
+rd-seen (I.Branch op rs1 rs2 imm) n e = e
+rd-seen (I.Load op rd rs1 imm) n e = tt
+rd-seen (I.Store op rs1 rs2 imm) n e = tt
+rd-seen (I.OpImm op rd rs1 imm) n e = e
+rd-seen (I.OpImm32 op rd rs1 imm) n e = e
+rd-seen (I.Op op rd rs1 rs2) n e = e
+rd-seen (I.Op32 op rd rs1 rs2) n e = e
+rd-seen (I.Fence rd rs1 imm) n e = tt
+rd-seen I.Ecall n e = tt
+rd-seen I.Ebreak n e = tt
+rd-seen (I.Amo a) n e = rd-atomic (a .op) a n e
+
+-- ---- the permitted words
+
+abbrev pub Body : View → Type 0
+Body (Lr rd rs1 width) = ⊥
+Body (Sc rs1 width) = ⊥
+Body (Plain rd) = Unit {0}
+Body (Jump rd offset) = Unit {0}
+Body (Branch offset) = Unit {0}
+Body Other = ⊥
+
+tested : (c : ℕ) → PermittedClass c → permittedClass c ≡ true
+tested c (isLui e) = rw e
+tested c (isAuipc e) = rw e
+tested c (isJal e) = rw e
+tested c (isBranch e) = rw e
+tested c (isOp e) = rw e
+tested c (isOpImm e) = rw e
+tested c (isOp32 e) = rw e
+tested c (isOpImm32 e) = rw e
+
+body-of : (c : ℕ) (i : Instr) → InClass c i → permittedClass c ≡ true → i ≢ I.Illegal → Body (viewOf i)
+unfolding viewOf
+body-of c I.Illegal e t h = h refl
+body-of c (I.Lui rd imm) e t h = tt
+body-of c (I.Auipc rd imm) e t h = tt
+body-of c (I.Jal rd imm) e t h = tt
+body-of c (I.Jalr rd rs1 imm) e t h = contrary t (ap permittedClass e)
+body-of c (I.Branch op rs1 rs2 imm) e t h = tt
+body-of c (I.Load op rd rs1 imm) e t h = contrary t (ap permittedClass e)
+body-of c (I.Store op rs1 rs2 imm) e t h = contrary t (ap permittedClass e)
+body-of c (I.OpImm op rd rs1 imm) e t h = tt
+body-of c (I.OpImm32 op rd rs1 imm) e t h = tt
+body-of c (I.Op op rd rs1 rs2) e t h = tt
+body-of c (I.Op32 op rd rs1 rs2) e t h = tt
+body-of c (I.Fence rd rs1 imm) e t h = contrary t (ap permittedClass e)
+body-of c I.Ecall e t h = contrary t (ap permittedClass e)
+body-of c I.Ebreak e t h = contrary t (ap permittedClass e)
+body-of c (I.Amo a) e t h = contrary t (ap permittedClass e)
+
+pub permitted-body : (w : ℕ) → Permitted w → Body (viewOf (decodeOf w))
+permitted-body w p = body-of (classOf w) (decodeOf w) (in-class w) (tested (classOf w) (p .0)) (p .1)
+
+atomic-no-body : (op : AtomicOp) (a : Atomic) → Body (atomicView op a) → ⊥
+atomic-no-body A.Lr a b = b
+atomic-no-body A.Sc a b = b
+atomic-no-body A.Cas a b = b
+atomic-no-body A.CasPair a b = b
+atomic-no-body (A.Rmw op) a b = b
+
+class-of : (c : ℕ) (i : Instr) → InClass c i → Body (viewOf i) → PermittedClass c
+unfolding viewOf
+class-of c I.Illegal e b = absurd b
+class-of c (I.Lui rd imm) e b = isLui e
+class-of c (I.Auipc rd imm) e b = isAuipc e
+class-of c (I.Jal rd imm) e b = isJal e
+class-of c (I.Jalr rd rs1 imm) e b = absurd b
+class-of c (I.Branch op rs1 rs2 imm) e b = isBranch e
+class-of c (I.Load op rd rs1 imm) e b = absurd b
+class-of c (I.Store op rs1 rs2 imm) e b = absurd b
+class-of c (I.OpImm op rd rs1 imm) e b = isOpImm e
+class-of c (I.OpImm32 op rd rs1 imm) e b = isOpImm32 e
+class-of c (I.Op op rd rs1 rs2) e b = isOp e
+class-of c (I.Op32 op rd rs1 rs2) e b = isOp32 e
+class-of c (I.Fence rd rs1 imm) e b = absurd b
+class-of c I.Ecall e b = absurd b
+class-of c I.Ebreak e b = absurd b
+class-of c (I.Amo a) e b = absurd (atomic-no-body (a .op) a b)
+
+legal : (i : Instr) → Body (viewOf i) → i ≢ I.Illegal
+unfolding viewOf
+legal i b e = subst (λ (j : Instr). Body (viewOf j)) e b
+
+pub body-permitted : (w : ℕ) → Body (viewOf (decodeOf w)) → Permitted w
+body-permitted w b = (class-of (classOf w) (decodeOf w) (in-class w) b, legal (decodeOf w) b)
+
+-- ---- widths
+
+pub widths-same : (v w : Width) → bytesOf v ≡ bytesOf w → v ≡ w
+widths-same Word Word e = refl
+widths-same Word Double e = absurd (omega arith)
+widths-same Double Word e = absurd (omega arith)
+widths-same Double Double e = refl

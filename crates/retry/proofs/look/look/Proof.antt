@@ -1,0 +1,38 @@
+use mathlib.Core.Path.{_≡_, sym, ap, _∙_}
+use Rattle.retry.specs.Loop.{fieldsOf, lookedAt}
+use Rattle.retry.proofs.ClassLaws.{looked, passed-over}
+use borrow.Author.Needs.{needs}
+use Rattle.retry.proofs.look.look.Statement.{statement}
+use Rattle.retry.proofs.look.look.Tie as tie
+
+class-of-requires : tie.Need-class-of-requires
+class-of-requires c κs = search needs
+
+looked-at-requires : tie.Need-looked-at-requires
+looked-at-requires c κs = search needs
+
+decode-requires : tie.Need-decode-requires
+decode-requires c κs = search needs
+
+fields-requires : tie.Need-fields-requires
+fields-requires c κs = search needs
+
+returns : tie.Need-returns
+returns c =
+    c .fields .ensures ∙ ap fieldsOf (c .before .decode .ensures)
+    ∙ looked (c .before .before .before .before .before .args .word) (sym (ap lookedAt (c .before .before .before .before .class-of .ensures)) ∙ sym (c .before .before .before .looked-at .ensures) ∙ c .before .before .if1 .taken)
+
+returns-2 : tie.Need-returns-2
+returns-2 c =
+    passed-over (c .before .before .before .args .word) (sym (ap lookedAt (c .before .before .class-of .ensures)) ∙ sym (c .before .looked-at .ensures) ∙ c .if1 .left)
+
+pub look-spec : {M : Type 1} → statement M
+look-spec =
+    tie.close
+    (tie.spec
+    class-of-requires
+    looked-at-requires
+    decode-requires
+    fields-requires
+    returns
+    returns-2)

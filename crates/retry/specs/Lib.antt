@@ -1,0 +1,3 @@
+-- Retry loops: document 01, "Retry loops".
+pub mod Loop
+pub mod Reasons

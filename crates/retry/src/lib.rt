@@ -1,0 +1,69 @@
+// The checker of retry loops: document 01, "Retry loops".
+ghost use mathlib.Core.Path.{_≡_};
+ghost use mathlib.Core.Bool.{false};
+ghost use Prim.Native.Nat.{_≤_};
+ghost use lib.ListN.{length};
+ghost use Rattle.retry.specs.Loop.{checkOf, scanOf};
+
+mod look;
+mod reasons;
+
+// What the checker sees of a word: an LR, an SC, a word that is permitted after the LR by what it writes and where it leads, or any other.
+pub enum View {
+    Lr { rd: usize, rs1: usize, width: usize },
+    Sc { rs1: usize, width: usize },
+    Plain { rd: usize },
+    Jump { rd: usize, offset: u64 },
+    Branch { offset: u64 },
+    Other,
+}
+
+// Refused is 01's refusal 6.
+pub enum LoopAnswer {
+    Accepted,
+    Rejected { place: usize, reason: usize },
+    Refused,
+}
+
+// The words from place 0 on, which is an LR of this rs1 and width.
+fn scan(words: &[u32], rs1: usize, width: usize) -> LoopAnswer
+    requires { ⌜ length (now words) ≤ 16 ⌝ }
+    ensures { λ r. ⌜ r ≡ scanOf rs1 width (now (words .entry)) (length (now (words .entry))) 0 ⌝ }
+{
+    let mut past = false;
+    let mut place = 0;
+    while place < words.len() {
+        let v = look::look(words[place]);
+        let reason = reasons::lowest(rs1, width, past, place, v);
+        if reason != 0 {
+            return LoopAnswer::Rejected { place, reason };
+        }
+        past = past | reasons::is_sc(v);
+        place += 1;
+    }
+    if past {
+        LoopAnswer::Accepted
+    } else {
+        LoopAnswer::Rejected { place, reason: 6 }
+    }
+}
+
+// Whether a block of words is a retry loop that 01 accepts, or else the lowest place with a reason and the lowest reason there.
+pub fn check_loop(words: &[u32]) -> LoopAnswer
+    ensures { λ r. ⌜ r ≡ checkOf (now (words .entry)) ⌝ }
+{
+    if words.len() < 2 {
+        return LoopAnswer::Refused;
+    }
+    if 16 < words.len() {
+        return LoopAnswer::Refused;
+    }
+    let first = look::look(words[0]);
+    let View::Lr { rd: _, rs1, width } = first else {
+        return LoopAnswer::Rejected {
+            place: 0,
+            reason: 1,
+        };
+    };
+    scan(words, rs1, width)
+}
