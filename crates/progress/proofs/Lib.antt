@@ -1,0 +1,3 @@
+-- Retry loops finish.
+pub mod Does
+pub mod Retry
