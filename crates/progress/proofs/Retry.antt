@@ -492,3 +492,60 @@ module _ (base h p addr : ℕ) (words : List ℕ) (lr : Atomic) (m : Machine) (s
         holds = λ z l. absurd (omega arith);
       })
       (omega arith)
+
+-- ---- the claim without recursion
+
+module _ (base h p addr : ℕ) (words : List ℕ) (lr : Atomic) where
+  -- with k steps left
+  record Told (k : ℕ) (m : Machine) (so-far : List Event) : Type 0 where
+    fine : Fine (answered base (runOf base m so-far) (Step h))
+    bounded : steps base h p addr words lr so-far < k
+    finishes : suc (steps base h p addr words lr so-far) ≡ k → Finish base h p addr words lr (runOf base m so-far) (Step h)
+
+  flat : (so-far : List Event) (k : ℕ) (m : Machine) → 0 < k → Calm base h p addr words lr m so-far → Unfinished base h p addr words lr m so-far
+      → Safe base h p addr words lr k m (so-far ++ Step h ∷ []) → Told k m so-far
+  unfolding runOf
+  flat [] k m z c u s = record { fine = g .0; bounded = z; finishes = last (g .1) }
+    where
+      g : Fine (answered base m (Step h)) × (Finish base h p addr words lr m (Step h) ⊎ ((1 < k) × Unit {0}))
+      g =
+          subst (λ (t : Bool).
+          cond t (Fine (answered base m (Step h)) × (Finish base h p addr words lr m (Step h) ⊎ ((1 < k) × Unit {0})))
+          (Harmless base h p addr words lr m (Step h) → Unit {0})) (eq-eqb h h refl) s
+
+      last : Finish base h p addr words lr m (Step h) ⊎ ((1 < k) × Unit {0}) → 1 ≡ k → Finish base h p addr words lr m (Step h)
+      last (inl f) q = f
+      last (inr f) q = absurd (omega arith)
+  flat (d ∷ so-far) k m z c u s = go (isStep h d) refl s (λ k′ z′ s′. flat so-far k′ (nextOf base m d) z′ (c .1) (u .1) s′)
+    where
+      go : (t : Bool) → isStep h d ≡ t
+          → cond t
+          (Fine (answered base m d)
+          × (Finish base h p addr words lr m d ⊎ ((1 < k) × Safe base h p addr words lr (k - 1) (nextOf base m d) (so-far ++ Step h ∷ []))))
+          (Harmless base h p addr words lr m d → Safe base h p addr words lr k (nextOf base m d) (so-far ++ Step h ∷ []))
+          → ((k′ : ℕ) → 0 < k′ → Safe base h p addr words lr k′ (nextOf base m d) (so-far ++ Step h ∷ []) → Told k′ (nextOf base m d) so-far)
+          → Told k m (d ∷ so-far)
+      go false q x ih =
+          let y : Told k (nextOf base m d) so-far = ih k z (x (c .0 q)) in
+          let l : steps base h p addr words lr (d ∷ so-far) ≡ steps base h p addr words lr so-far = rw q in
+          let b : steps base h p addr words lr so-far < k = y .bounded in
+          record { fine = y .fine; bounded = omega arith; finishes = λ r. y .finishes (omega arith) }
+      go true q x ih = on (x .1)
+        where
+          on : Finish base h p addr words lr m d ⊎ ((1 < k) × Safe base h p addr words lr (k - 1) (nextOf base m d) (so-far ++ Step h ∷ []))
+              → Told k m (d ∷ so-far)
+          on (inl f) = absurd (u .0 q f)
+          on (inr f) =
+              let o : 1 < k = f .0 in
+              let y : Told (k - 1) (nextOf base m d) so-far = ih (k - 1) (omega arith) (f .1) in
+              let l : steps base h p addr words lr (d ∷ so-far) ≡ suc (steps base h p addr words lr so-far) = rw q in
+              let b : steps base h p addr words lr so-far < k - 1 = y .bounded in
+              record { fine = y .fine; bounded = omega arith; finishes = λ r. y .finishes (omega arith) }
+
+  -- Demand 3 without recursion.
+  pub next-step : (m : Machine) → Start base h p addr words lr m → (so-far : List Event) → Calm base h p addr words lr m so-far
+      → Unfinished base h p addr words lr m so-far → NextStep base h p addr words lr m so-far
+  next-step m st so-far c u =
+      let r : Told (length words) m so-far =
+      flat so-far (length words) m (omega (arith, st .first .0 .inBlock)) c u (retry base h p addr words lr m st (so-far ++ Step h ∷ [])) in
+      record { fine = r .fine; bounded = r .bounded; finishes = r .finishes }
