@@ -1,8 +1,8 @@
 -- Loops that meet the start of the claim, and runs of them that finish in each of the three ways; and what a store into the set does. Computed.
 -- Assumes nothing.
-use mathlib.Core.Path.{_≡_, refl}
+use mathlib.Core.Path.{_≡_, refl, sym}
 use mathlib.Core.Logic.{_≢_}
-use mathlib.Core.Bool.{Bool, true, false}
+use mathlib.Core.Bool.{true, false}
 use mathlib.Core.List.{List, [], _∷_, _++_}
 use Prim.Native.Nat.{ℕ, zero, suc, _+_, _*_, _<_}
 use native.Mathlib.Omega.{arith}
@@ -10,19 +10,18 @@ use lib.ListN.{length, getD, replicate}
 use Rattle.word.specs.Word.{signExtend, ofInt, toInt, low}
 use Rattle.word.specs.Bytes.{le, toLe}
 use Rattle.word.specs.Memory.{part, splice}
-use Rattle.word.specs.Each.{each, allBelow}
-use Rattle.reserve.specs.Range.{Touch, touches, Inside, insideOf, setOf}
+use Rattle.word.specs.Each.{allBelow}
+use Rattle.word.proofs.TestLaws.{contrary}
+use Rattle.reserve.specs.Range.{Touch, touches, insideOf, setOf}
 use Rattle.reserve.specs.Reserve.{slot, coversOf, breaksOf, ownOf, observeOf, observeAllOf}
 use Rattle.reserve.specs.declared.Reservation.the-variants.{None, Held}
 use Rattle.reserve.specs.declared.Notice.the-variants as N
-use Rattle.isa.specs.Decode.{classOf, branchOf, storeOf, sizedOf, lrOf, atomicOf, decodeOf}
+use Rattle.isa.specs.Decode.{classOf, branchOf, storeOf, systemOf, sizedOf, lrOf, atomicOf, decodeOf}
 use Rattle.isa.specs.declared.Width.the-variants.{Word}
 use Rattle.isa.specs.declared.Atomic.{Atomic}
 use Rattle.isa.specs.declared.AtomicOp.the-variants as A
-use Rattle.isa.specs.declared.Instr.the-variants as I
 use Rattle.reserve.proofs.RangeLaws.{inside-of}
 use Rattle.machine.specs.State.{memoryOk, reservationOk, hartOk, stateOk, refusalOf}
-use Rattle.machine.specs.declared.State.{State}
 use Rattle.machine.proofs.StateLaws.{refusal-0}
 use Rattle.effect.specs.Integer.{holdsOf, execBranch}
 use Rattle.effect.specs.Memory.{faultOf, checked, valueAt, execStore}
@@ -33,10 +32,10 @@ use Rattle.events.specs.declared.Event.the-variants.{Step, Device, Yield}
 use Rattle.model.specs.Act.{setReg, apply, leaves}
 use Rattle.model.specs.Perform.{Machine, fetchOf, deviceOf, actOn, actOf, answerOf, memoryOf, nextOf, runOf}
 use Rattle.model.specs.Trace.{noticeAt, WritesInto}
+use Rattle.model.specs.declared.Outcome.{Outcome}
 use Rattle.model.specs.declared.Outcome.the-variants as O
 use Rattle.retry.specs.Loop.{viewOf, pastSc, wrongOffset, clobbers, lowestOf, scanOf, startOf, checkOf}
-use Rattle.retry.specs.declared.LoopAnswer.the-variants.{Accepted}
-use Rattle.progress.specs.Claim.{answered, pcOf, Start, Harmless, Stored, Finish, stored, left, back, Finishes}
+use Rattle.progress.specs.Claim.{answered, Start, Harmless, Finish, stored, left, back, Finishes, Calm, Unfinished}
 use Rattle.progress.proofs.Retry.{retry}
 
 -- Edge 12's loop: lr.w x6,(x5); bne x6,x0,+12; sc.w x7,x8,(x5); bne x7,x0,-12.
@@ -136,8 +135,11 @@ waiting-finishes v = retry 1024 0 1024 1096 waiting lr (begin waiting v) (starts
 -- ---- runs
 
 -- hart 0's LR and branch; between them a device write, a yield of hart 1, a trap of hart 2, and refused events
+abbrev so-far : List Event
+so-far = Step 0 ∷ Device 1060 2 513 ∷ Yield 1 ∷ Step 2 ∷ Step 7 ∷ Yield 9 ∷ Device 5000 1 0 ∷ Device 1096 9 0 ∷ []
+
 abbrev mixed : List Event
-mixed = Step 0 ∷ Device 1060 2 513 ∷ Yield 1 ∷ Step 2 ∷ Step 7 ∷ Yield 9 ∷ Device 5000 1 0 ∷ Device 1096 9 0 ∷ Step 0 ∷ []
+mixed = so-far ++ Step 0 ∷ []
 
 -- the loop finishes by its SC
 pub by-sc : Finish 1024 0 1024 1096 leaving lr (runOf 1024 (begin leaving 0) mixed) (Step 0)
@@ -153,3 +155,82 @@ by-sc =
       width = refl;
       bytes = refl;
     })
+
+-- the other events before left it alone
+untold : (m : Machine) (e : Event) → noticeAt 1024 m e ≡ N.Quiet → Harmless 1024 0 1024 1096 leaving lr m e
+untold m e q = record { block = rw q (λ t. t); reserved = rw q (λ t. t); stays = λ y. let z : _≡_ {A = ℕ} 0 1 = cc in omega arith }
+
+pub by-sc-calm : Calm 1024 0 1024 1096 leaving lr (begin leaving 0) mixed
+unfolding toLe signExtend ofInt toInt low classOf branchOf sizedOf lrOf atomicOf decodeOf refusalOf memoryOk stateOk hartOk reservationOk insideOf allBelow valueAt le part splice regAt touches coversOf breaksOf ownOf observeOf observeAllOf holdsOf execBranch faultOf checked execLr execSc execAtomic execute executeWord setReg apply leaves fetchOf deviceOf actOn actOf answerOf memoryOf nextOf runOf Touch
+by-sc-calm = (
+  λ q. contrary refl q,
+  (
+    λ q. record { block = λ t. absurd (omega arith); reserved = λ t. absurd (omega arith); stays = λ y. let z : _≡_ {A = ℕ} 0 1 = cc in omega arith },
+    (
+      λ q. record { block = λ t. t; reserved = λ t. t; stays = λ y. let z : _≡_ {A = ℕ} 0 1 = cc in omega arith },
+      (λ q. untold _ _ refl, (λ q. untold _ _ refl, (λ q. untold _ _ refl, (λ q. untold _ _ refl, (λ q. untold _ _ refl, (λ q. contrary refl q, tt)))))),
+    ),
+  ),
+)
+
+-- and neither the LR nor the branch was the finish
+pub by-sc-unfinished : Unfinished 1024 0 1024 1096 leaving lr (begin leaving 0) mixed
+unfolding toLe signExtend ofInt toInt low classOf branchOf sizedOf lrOf atomicOf decodeOf refusalOf memoryOk stateOk hartOk reservationOk insideOf allBelow valueAt le part splice regAt touches coversOf breaksOf ownOf observeOf observeAllOf holdsOf execBranch faultOf checked execLr execSc execAtomic execute executeWord setReg apply leaves fetchOf deviceOf actOn actOf answerOf memoryOf nextOf runOf
+by-sc-unfinished = (not-lr, (never, (never, (never, (never, (never, (never, (never, (not-branch, tt)))))))))
+  where
+    never : {P : Type 0} → false ≡ true → P → ⊥
+    never q f = contrary refl (sym q)
+
+    not-lr : true ≡ true → Finish 1024 0 1024 1096 leaving lr (begin leaving 0) (Step 0) → ⊥
+    not-lr t (stored s) = let a : O.Retired ≡ O.ScStored = s .succeeds in let z : _≡_ {A = ℕ} 0 1 = cc in omega arith
+    not-lr t (left d) = d 1 (omega arith) refl
+    not-lr t (back q) = let z : _≡_ {A = ℕ} 1028 1024 = q in omega arith
+
+    not-branch : true ≡ true → Finish 1024 0 1024 1096 leaving lr (runOf 1024 (begin leaving 0) so-far) (Step 0) → ⊥
+    not-branch t (stored s) = let a : O.Retired ≡ O.ScStored = s .succeeds in let z : _≡_ {A = ℕ} 0 1 = cc in omega arith
+    not-branch t (left d) = d 2 (omega arith) refl
+    not-branch t (back q) = let z : _≡_ {A = ℕ} 1032 1024 = q in omega arith
+
+-- where the word isn't 0, edge 12's loop is left by its first branch, and the other comes back to place 0 by its last
+pub by-leaving : Finish 1024 0 1024 1096 leaving lr (runOf 1024 (begin leaving 5) (Step 0 ∷ [])) (Step 0)
+unfolding toLe signExtend ofInt toInt low classOf branchOf sizedOf lrOf atomicOf decodeOf refusalOf memoryOk stateOk hartOk reservationOk insideOf allBelow valueAt le part splice regAt touches coversOf breaksOf ownOf observeOf observeAllOf holdsOf execBranch faultOf checked execLr execSc execAtomic execute executeWord setReg apply leaves fetchOf deviceOf actOn actOf answerOf memoryOf nextOf runOf
+by-leaving = left (λ k l q. let z : 1040 ≡ 1024 + 4 * k = q in omega arith)
+
+pub by-coming-back : Finish 1024 0 1024 1096 waiting lr (runOf 1024 (begin waiting 5) (Step 0 ∷ Step 0 ∷ [])) (Step 0)
+unfolding toLe signExtend ofInt toInt low classOf branchOf sizedOf lrOf atomicOf decodeOf refusalOf memoryOk stateOk hartOk reservationOk insideOf allBelow valueAt le part splice regAt touches coversOf breaksOf ownOf observeOf observeAllOf holdsOf execBranch faultOf checked execLr execSc execAtomic execute executeWord setReg apply leaves fetchOf deviceOf actOn actOf answerOf memoryOf nextOf runOf
+by-coming-back = back refl
+
+-- ---- what the claim asks of other events is needed
+
+-- hart 0's step after these events
+abbrev next : List Event → Outcome
+next es = answered 1024 (runOf 1024 (begin leaving 0) es) (Step 0)
+
+-- After the LR, hart 1 stores into the set, beside the LR's bytes. This, and nothing else that is asked, fails; and so does the SC.
+pub record Disturbed : Type 0 where
+  pub told : noticeAt 1024 (runOf 1024 (begin leaving 0) (Step 0 ∷ [])) (Step 1) ≡ N.Write 1 1104 4
+  pub writes : WritesInto (noticeAt 1024 (runOf 1024 (begin leaving 0) (Step 0 ∷ [])) (Step 1)) (setOf 64 1096) 64
+  pub not-block : WritesInto (noticeAt 1024 (runOf 1024 (begin leaving 0) (Step 0 ∷ [])) (Step 1)) 1024 (4 * length leaving) → ⊥
+  pub no-yield : noticeAt 1024 (runOf 1024 (begin leaving 0) (Step 0 ∷ [])) (Step 1) ≢ N.Yield 0
+  pub fails : next (Step 0 ∷ Step 1 ∷ Step 0 ∷ []) ≡ O.ScFailed
+
+pub disturbed : Disturbed
+unfolding toLe signExtend ofInt toInt low classOf branchOf storeOf sizedOf lrOf atomicOf decodeOf refusalOf memoryOk stateOk hartOk reservationOk insideOf allBelow valueAt le part splice regAt touches coversOf breaksOf ownOf observeOf observeAllOf holdsOf execBranch faultOf checked execStore execLr execSc execAtomic execute executeWord setReg apply leaves fetchOf deviceOf actOn actOf answerOf memoryOf nextOf runOf Touch
+disturbed =
+    record {
+      told = refl;
+      writes = (1104, omega arith, omega arith, omega arith, omega arith);
+      not-block = λ t. absurd (omega arith);
+      no-yield = λ y. let z : _≡_ {A = ℕ} 0 1 = cc in omega arith;
+      fails = refl;
+    }
+
+-- A yield of hart 0 makes its SC fail, and so does a device write to a byte that the LR read; a device write into the loop, of ECALL, makes it trap.
+pub record Broken : Type 0 where
+  pub yields : next (Step 0 ∷ Yield 0 ∷ Step 0 ∷ []) ≡ O.ScFailed
+  pub device : next (Step 0 ∷ Device 1099 1 0 ∷ Step 0 ∷ []) ≡ O.ScFailed
+  pub code-changes : next (Step 0 ∷ Device 1028 4 0x73 ∷ []) ≡ O.Trap 8 0
+
+pub broken : Broken
+unfolding toLe signExtend ofInt toInt low classOf branchOf systemOf sizedOf lrOf atomicOf decodeOf refusalOf memoryOk stateOk hartOk reservationOk insideOf allBelow valueAt le part splice regAt touches coversOf breaksOf ownOf observeOf observeAllOf holdsOf execBranch faultOf checked execLr execSc execAtomic execute executeWord setReg apply leaves fetchOf deviceOf actOn actOf answerOf memoryOf nextOf runOf
+broken = record { yields = refl; device = refl; code-changes = refl }

@@ -6,12 +6,11 @@ use mathlib.Core.List.{List, [], _∷_, _++_}
 use Prim.Native.Nat.{ℕ, suc, _+_, _*_, _-_, _/_, _^_, _%_, _≤_, _<_}
 use native.Mathlib.Omega.{arith}
 use native.Mathlib.Decide.{decLt}
-use lib.Dec.{eqb}
 use lib.ListN.{length, getD}
 use lib.Seq.{getD-set-same}
 use borrow.Author.Tests.{eqb-true, eqb-false, eq-eqb}
 use Rattle.word.specs.Bytes.{toLe}
-use Rattle.word.specs.Memory.{part, splice}
+use Rattle.word.specs.Memory.{part}
 use Rattle.word.proofs.BytesLaws.{length-toLe}
 use Rattle.word.proofs.MemoryLaws.{part-splice}
 use Rattle.reserve.specs.Range.{Touch, Inside, setOf}
@@ -30,12 +29,10 @@ use Rattle.isa.specs.declared.Instr.{Instr}
 use Rattle.isa.specs.declared.Instr.the-variants as I
 use Rattle.isa.proofs.DecodeLaws.{regs-below}
 use Rattle.machine.specs.Rules.{Shaped}
-use Rattle.effect.specs.Effect.{Writes, one, Touch as Touched, nothing, reserve, scStore, Exec, effect, noticeOf, nextOf as afterwards}
+use Rattle.effect.specs.Effect.{Writes, one, Touch as Touched, nothing, reserve, scStore, Exec, noticeOf, nextOf as afterwards}
 use Rattle.effect.specs.Memory.{valueAt}
-use Rattle.effect.specs.Atomic.{execSc}
-use Rattle.effect.specs.Execute.{regAt, execAtomic, execute}
+use Rattle.effect.specs.Execute.{regAt, execute}
 use Rattle.effect.proofs.Sound.{width-is}
-use Rattle.effect.proofs.TrapLaws.{sc-succeeds}
 use Rattle.events.specs.declared.Event.{Event}
 use Rattle.events.specs.declared.Event.the-variants.{Step, Device, Yield}
 use Rattle.model.specs.Act.{Act, change, told, retiredAs, actNotice, written, countersAfter, registersAfter, apply, leaves}
@@ -43,18 +40,19 @@ use Rattle.model.specs.Perform.{Machine, reservationOf, ofExec, actOf, answerOf
 use Rattle.model.specs.Valid.{Valid}
 use Rattle.model.specs.Trace.{noticeAt, WritesInto, NotBy}
 use Rattle.model.specs.Fetch.{Fetches}
-use Rattle.model.specs.declared.Outcome.{Outcome}
 use Rattle.model.specs.declared.Outcome.the-variants as O
 use Rattle.model.proofs.Valid.{valid-next, length-next}
 use Rattle.model.proofs.Frame.{count-next, shaped-next, other-reg, other-pc, not-by, res-next, observe-quiet, value-next, step-act}
 use Rattle.history.specs.History.{Spares}
 use Rattle.history.proofs.History.{made, kept}
-use Rattle.retry.specs.Loop.{viewOf, viewAt}
+use Rattle.retry.specs.Loop.{viewOf, viewAt, checkOf}
+use Rattle.retry.specs.Reasons.{LrAt}
+use Rattle.retry.specs.declared.LoopAnswer.the-variants.{Accepted}
 use Rattle.retry.specs.declared.View.{View}
 use Rattle.retry.specs.declared.View.the-variants.{Lr, Sc, Plain, Jump, Branch, Other}
-use Rattle.retry.proofs.ViewLaws.{Seen, SeenSc, seen, lr-view}
+use Rattle.retry.proofs.ViewLaws.{Seen, SeenLr, SeenSc, seen, lr-view}
 use Rattle.retry.proofs.Accepted.{Ahead, Home, Keeps, Before, After, Block, block}
-use Rattle.progress.specs.Claim.{answered, pcOf, isStep, Fine, Start, Harmless, Stored, Finish, stored, left, back, Safe, Finishes, Calm, Unfinished, steps, NextStep}
+use Rattle.progress.specs.Claim.{answered, pcOf, isStep, Fine, Start, Harmless, Finish, stored, left, back, Safe, Finishes, Calm, Unfinished, steps, NextStep}
 use Rattle.progress.proofs.Does.{Moves, Does, does, does-lr, does-sc}
 
 -- ---- notices
@@ -134,9 +132,6 @@ module _ (base h p addr : ℕ) (words : List ℕ) (lr : Atomic) (j : ℕ)
     (sc-view : viewAt words j ≡ Sc (lr .rs1) (bytesOf (lr .width)))
     (before : (k : ℕ) → 0 < k → k < j → Before (lr .rs1) (viewAt words k))
     (after : (k : ℕ) → j < k → k < length words → After k (viewAt words k)) where
-  w : ℕ
-  w = bytesOf (lr .width)
-
   own-set : Inside (setOf 64 addr) 64 addr (bytesOf (lr .width))
   own-set = in-set addr (bytesOf (lr .width)) (width-is (lr .width)) aligned
 
@@ -458,6 +453,13 @@ module _ (base h p addr : ℕ) (words : List ℕ) (lr : Atomic) (j : ℕ)
               → Finish base h p addr words lr m e ⊎ ((1 < k) × Safe base h p addr words lr (k - 1) (nextOf base m e) es)
           on (inl f) = inl f
           on (inr s) = let b : s .0 < length words = s .2 .inLoop in inr (omega arith, ih (s .0) (k - 1) (s .2) (omega arith))
+
+-- Every accepted block has the LR that the start names.
+pub has-lr : (words : List ℕ) → checkOf words ≡ Accepted → (lr : Atomic) × LrAt words 0 lr
+has-lr words q =
+    let b : Block words = block words q in
+    let s : SeenLr (decodeOf (getD words 0 0)) (b .rd) (b .rs1) (b .width) = subst (Seen (decodeOf (getD words 0 0))) (b .lr-is) (seen (decodeOf (getD words 0 0))) in
+    (s .of, (record { inBlock = omega (arith, b .inBlock); decodes = s .is }, s .kind))
 
 module _ (base h p addr : ℕ) (words : List ℕ) (lr : Atomic) (m : Machine) (st : Start base h p addr words lr m) where
   b : Block words
