@@ -1,10 +1,10 @@
 -- Loops that meet the start of the claim, and runs of them that finish in each of the three ways; and what a store into the set does. Computed.
 -- Assumes nothing.
 use mathlib.Core.Path.{_≡_, refl, sym}
-use mathlib.Core.Logic.{_≢_}
+use mathlib.Core.Logic.{_≢_, _⊎_, inl, inr}
 use mathlib.Core.Bool.{true, false}
 use mathlib.Core.List.{List, [], _∷_, _++_}
-use Prim.Native.Nat.{ℕ, zero, suc, _+_, _*_, _<_}
+use Prim.Native.Nat.{ℕ, zero, suc, _+_, _-_, _*_, _≤_, _<_}
 use native.Mathlib.Omega.{arith}
 use lib.ListN.{length, getD, replicate}
 use Rattle.word.specs.Word.{signExtend, ofInt, toInt, low}
@@ -34,8 +34,10 @@ use Rattle.model.specs.Perform.{Machine, fetchOf, deviceOf, actOn, actOf, answe
 use Rattle.model.specs.Trace.{noticeAt, WritesInto}
 use Rattle.model.specs.declared.Outcome.{Outcome}
 use Rattle.model.specs.declared.Outcome.the-variants as O
+use Rattle.retry.specs.Reasons.{LrAt}
+use Rattle.retry.specs.declared.LoopAnswer.the-variants.{Accepted}
 use Rattle.retry.specs.Loop.{viewOf, pastSc, wrongOffset, clobbers, lowestOf, scanOf, startOf, checkOf}
-use Rattle.progress.specs.Claim.{answered, Start, Harmless, Finish, stored, left, back, Finishes, Calm, Unfinished}
+use Rattle.progress.specs.Claim.{answered, Start, Harmless, Finish, stored, left, back, Safe, Finishes, Calm, Unfinished}
 use Rattle.progress.proofs.Retry.{retry}
 
 -- Edge 12's loop: lr.w x6,(x5); bne x6,x0,+12; sc.w x7,x8,(x5); bne x7,x0,-12.
@@ -45,6 +47,10 @@ leaving = 0x1002A32F ∷ 0x00031663 ∷ 0x1882A3AF ∷ 0xFE039AE3 ∷ []
 -- One that goes round as long as the word isn't 0: lr.w x6,(x5); bne x6,x0,+8; sc.w x7,x8,(x5); bne x6,x0,-12.
 abbrev waiting : List ℕ
 waiting = 0x1002A32F ∷ 0x00031463 ∷ 0x1882A3AF ∷ 0xFE031AE3 ∷ []
+
+-- and the shortest: lr.w x6,(x5); sc.w x7,x8,(x5)
+abbrev shortest : List ℕ
+shortest = 0x1002A32F ∷ 0x1882A3AF ∷ []
 
 abbrev lr : Atomic
 lr = record { op = A.Lr; width = Word; aq = false; rl = false; rd = 6; rs1 = 5; rs2 = 0 }
@@ -73,26 +79,32 @@ begin words v =
             pc = 1024 ∷ 1056 ∷ replicate 6 0;
             res = slot (Held 1144 8) ∷ replicate 7 (slot None);
           };
-      mem = code words ++ (replicate 16 0 ++ (toLe 4 0x0082A423 ++ (replicate 36 0 ++ (toLe 4 v ++ replicate 52 0))));
+      mem = code words ++ (replicate (32 - 4 * length words) 0 ++ (toLe 4 0x0082A423 ++ (replicate 36 0 ++ (toLe 4 v ++ replicate 52 0))));
     }
 
--- both meet the start, whatever the word at 1096
-pub starts-leaving : (v : ℕ) → Start 1024 0 1024 1096 leaving lr (begin leaving v)
-unfolding toLe signExtend ofInt toInt low classOf branchOf sizedOf lrOf atomicOf decodeOf viewOf pastSc wrongOffset clobbers lowestOf scanOf startOf checkOf refusalOf memoryOk stateOk hartOk reservationOk insideOf allBelow valueAt le part regAt
-starts-leaving v =
+-- They meet the start, whatever the word at 1096.
+meets : (words : List ℕ) (v : ℕ) → length (begin words v .mem) ≡ 128 → length words ≤ 8 → checkOf words ≡ Accepted → LrAt words 0 lr
+    → ((k : ℕ) → k < length words → valueAt 1024 (begin words v .mem) (1024 + 4 * k) 4 ≡ getD words k 0)
+    → Start 1024 0 1024 1096 words lr (begin words v)
+unfolding refusalOf memoryOk stateOk hartOk reservationOk insideOf allBelow regAt
+meets words v len few accepted first placed =
     record {
-      valid = refusal-0 1024 128 (begin leaving v .state) .0 refl;
+      valid = refusal-0 1024 (length (begin words v .mem)) (begin words v .state) .0 (rw len refl);
       shaped = record { registers = refl; counters = refl; reservations = refl };
       used = omega arith;
       here = refl;
-      accepted = refl;
+      accepted = accepted;
       placed = placed;
       mapped = λ k l. (omega arith, omega arith);
-      first = (record { inBlock = omega arith; decodes = refl }, refl);
+      first = first;
       address = refl;
       aligned = refl;
       reachable = (omega arith, omega arith);
     }
+
+pub starts-leaving : (v : ℕ) → Start 1024 0 1024 1096 leaving lr (begin leaving v)
+unfolding toLe signExtend ofInt toInt low classOf branchOf sizedOf lrOf atomicOf decodeOf viewOf pastSc wrongOffset clobbers lowestOf scanOf startOf checkOf valueAt le part
+starts-leaving v = meets leaving v refl (omega arith) refl (record { inBlock = omega arith; decodes = refl }, refl) placed
   where
     placed : (k : ℕ) → k < 4 → valueAt 1024 (begin leaving v .mem) (1024 + 4 * k) 4 ≡ getD leaving k 0
     placed zero l = refl
@@ -102,21 +114,8 @@ starts-leaving v =
     placed (suc (suc (suc (suc k)))) l = absurd (omega arith)
 
 pub starts-waiting : (v : ℕ) → Start 1024 0 1024 1096 waiting lr (begin waiting v)
-unfolding toLe signExtend ofInt toInt low classOf branchOf sizedOf lrOf atomicOf decodeOf viewOf pastSc wrongOffset clobbers lowestOf scanOf startOf checkOf refusalOf memoryOk stateOk hartOk reservationOk insideOf allBelow valueAt le part regAt
-starts-waiting v =
-    record {
-      valid = refusal-0 1024 128 (begin waiting v .state) .0 refl;
-      shaped = record { registers = refl; counters = refl; reservations = refl };
-      used = omega arith;
-      here = refl;
-      accepted = refl;
-      placed = placed;
-      mapped = λ k l. (omega arith, omega arith);
-      first = (record { inBlock = omega arith; decodes = refl }, refl);
-      address = refl;
-      aligned = refl;
-      reachable = (omega arith, omega arith);
-    }
+unfolding toLe signExtend ofInt toInt low classOf branchOf sizedOf lrOf atomicOf decodeOf viewOf pastSc wrongOffset clobbers lowestOf scanOf startOf checkOf valueAt le part
+starts-waiting v = meets waiting v refl (omega arith) refl (record { inBlock = omega arith; decodes = refl }, refl) placed
   where
     placed : (k : ℕ) → k < 4 → valueAt 1024 (begin waiting v .mem) (1024 + 4 * k) 4 ≡ getD waiting k 0
     placed zero l = refl
@@ -124,6 +123,15 @@ starts-waiting v =
     placed (suc (suc zero)) l = refl
     placed (suc (suc (suc zero))) l = refl
     placed (suc (suc (suc (suc k)))) l = absurd (omega arith)
+
+pub starts-shortest : (v : ℕ) → Start 1024 0 1024 1096 shortest lr (begin shortest v)
+unfolding toLe signExtend ofInt toInt low classOf branchOf sizedOf lrOf atomicOf decodeOf viewOf pastSc wrongOffset clobbers lowestOf scanOf startOf checkOf valueAt le part
+starts-shortest v = meets shortest v refl (omega arith) refl (record { inBlock = omega arith; decodes = refl }, refl) placed
+  where
+    placed : (k : ℕ) → k < 2 → valueAt 1024 (begin shortest v .mem) (1024 + 4 * k) 4 ≡ getD shortest k 0
+    placed zero l = refl
+    placed (suc zero) l = refl
+    placed (suc (suc k)) l = absurd (omega arith)
 
 -- so the claim holds of them
 pub leaving-finishes : (v : ℕ) → Finishes 1024 0 1024 1096 leaving lr (begin leaving v)
@@ -199,6 +207,21 @@ by-leaving = left (λ k l q. let z : 1040 ≡ 1024 + 4 * k = q in omega arith)
 pub by-coming-back : Finish 1024 0 1024 1096 waiting lr (runOf 1024 (begin waiting 5) (Step 0 ∷ Step 0 ∷ [])) (Step 0)
 unfolding toLe signExtend ofInt toInt low classOf branchOf sizedOf lrOf atomicOf decodeOf refusalOf memoryOk stateOk hartOk reservationOk insideOf allBelow valueAt le part splice regAt touches coversOf breaksOf ownOf observeOf observeAllOf holdsOf execBranch faultOf checked execLr execSc execAtomic execute executeWord setReg apply leaves fetchOf deviceOf actOn actOf answerOf memoryOf nextOf runOf
 by-coming-back = back refl
+
+-- ---- the bound can't be smaller
+
+pub tight : Safe 1024 0 1024 1096 shortest lr (length shortest - 1) (begin shortest 0) (Step 0 ∷ []) → ⊥
+unfolding toLe signExtend ofInt toInt low classOf branchOf sizedOf lrOf atomicOf decodeOf refusalOf memoryOk stateOk hartOk reservationOk insideOf allBelow valueAt le part splice regAt touches coversOf breaksOf ownOf observeOf observeAllOf holdsOf execBranch faultOf checked execLr execSc execAtomic execute executeWord setReg apply leaves fetchOf deviceOf actOn actOf answerOf memoryOf nextOf runOf
+tight s = go (s .1)
+  where
+    unfinished : Finish 1024 0 1024 1096 shortest lr (begin shortest 0) (Step 0) → ⊥
+    unfinished (stored f) = let a : O.Retired ≡ O.ScStored = f .succeeds in let z : _≡_ {A = ℕ} 0 1 = cc in omega arith
+    unfinished (left d) = d 1 (omega arith) refl
+    unfinished (back q) = let z : _≡_ {A = ℕ} 1028 1024 = q in omega arith
+
+    go : Finish 1024 0 1024 1096 shortest lr (begin shortest 0) (Step 0) ⊎ ((1 < 1) × Unit {0}) → ⊥
+    go (inl f) = unfinished f
+    go (inr f) = omega (arith, f .0)
 
 -- ---- what the claim asks of other events is needed
 

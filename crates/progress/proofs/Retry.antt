@@ -484,7 +484,7 @@ module _ (base h p addr : ℕ) (words : List ℕ) (lr : Atomic) (m : Machine) (s
       safe base h p addr words lr (b .sc) (st .aligned) (st .first .0 .decodes) (st .first .1)
       (λ q. let f : b .rs1 ≡ 0 = b .keeps (rs1-same ∙ q ∙ sym rd-same) in sym rs1-same ∙ f) (b .later) (b .inBlock)
       (b .sc-is-first ∙ ap₂ Sc rs1-same width-same)
-      (λ k z l. subst (λ (r : ℕ). Before r (viewAt words k)) rs1-same (b .before k z l)) (b .after) es m 0 (length words)
+      (λ k z l. subst (λ (r : ℕ). Before r (viewAt words k)) rs1-same (b .before k z l)) (b .after) es m 0 _
       (record {
         ground =
             record { valid = st .valid; shaped = st .shaped; used = st .used; placed = st .placed; mapped = st .mapped; reachable = st .reachable };

@@ -84,7 +84,8 @@ module _ (base h p addr : ℕ) (words : List ℕ) (lr : Atomic) where
     pub reserved : WritesInto (noticeAt base m e) (setOf 64 addr) 64 → ⊥
     pub stays : noticeAt base m e ≢ N.Yield h
 
-  -- with the event hart h makes an SC that succeeds at the LR's address: "the successful one leaves the low 4 or 8 bytes of rs2 at the LR's address"
+  -- With the event hart h makes an SC that succeeds at the LR's address: "An SC succeeds or fails by the rule above, also where its rd is x0; the
+  -- successful one leaves the low 4 or 8 bytes of rs2 at the LR's address."
   pub record Stored (m : Machine) (e : Event) : Type 0 where
     pub sc : Atomic
     pub fetches : Fetches base m h (Amo sc)
