@@ -501,8 +501,8 @@ module _ (base h p addr : ℕ) (words : List ℕ) (lr : Atomic) where
   -- with k steps left
   record Told (k : ℕ) (m : Machine) (so-far : List Event) : Type 0 where
     fine : Fine (answered base (runOf base m so-far) (Step h))
-    bounded : steps base h p addr words lr so-far < k
-    finishes : suc (steps base h p addr words lr so-far) ≡ k → Finish base h p addr words lr (runOf base m so-far) (Step h)
+    bounded : steps h so-far < k
+    finishes : suc (steps h so-far) ≡ k → Finish base h p addr words lr (runOf base m so-far) (Step h)
 
   flat : (so-far : List Event) (k : ℕ) (m : Machine) → 0 < k → Calm base h p addr words lr m so-far → Unfinished base h p addr words lr m so-far
       → Safe base h p addr words lr k m (so-far ++ Step h ∷ []) → Told k m so-far
@@ -529,8 +529,8 @@ module _ (base h p addr : ℕ) (words : List ℕ) (lr : Atomic) where
           → Told k m (d ∷ so-far)
       go false q x ih =
           let y : Told k (nextOf base m d) so-far = ih k z (x (c .0 q)) in
-          let l : steps base h p addr words lr (d ∷ so-far) ≡ steps base h p addr words lr so-far = rw q in
-          let b : steps base h p addr words lr so-far < k = y .bounded in
+          let l : steps h (d ∷ so-far) ≡ steps h so-far = rw q in
+          let b : steps h so-far < k = y .bounded in
           record { fine = y .fine; bounded = omega arith; finishes = λ r. y .finishes (omega arith) }
       go true q x ih = on (x .1)
         where
@@ -540,8 +540,8 @@ module _ (base h p addr : ℕ) (words : List ℕ) (lr : Atomic) where
           on (inr f) =
               let o : 1 < k = f .0 in
               let y : Told (k - 1) (nextOf base m d) so-far = ih (k - 1) (omega arith) (f .1) in
-              let l : steps base h p addr words lr (d ∷ so-far) ≡ suc (steps base h p addr words lr so-far) = rw q in
-              let b : steps base h p addr words lr so-far < k - 1 = y .bounded in
+              let l : steps h (d ∷ so-far) ≡ suc (steps h so-far) = rw q in
+              let b : steps h so-far < k - 1 = y .bounded in
               record { fine = y .fine; bounded = omega arith; finishes = λ r. y .finishes (omega arith) }
 
   -- Demand 3 without recursion.

@@ -44,6 +44,11 @@ isStep h (Step g) = eqb g h
 isStep h (Device a n v) = false
 isStep h (Yield g) = false
 
+-- how many of the events are steps of hart h
+abbrev pub steps : ℕ → List Event → ℕ
+steps h [] = 0
+steps h (e ∷ es) = cond (isStep h e) (suc (steps h es)) (steps h es)
+
 -- "without a refusal, a trap or a failed SC"
 abbrev pub Fine : Outcome → Type 0
 Fine O.Retired = Unit {0}
@@ -128,14 +133,9 @@ module _ (base h p addr : ℕ) (words : List ℕ) (lr : Atomic) where
   Unfinished m [] = Unit {0}
   Unfinished m (e ∷ es) = (isStep h e ≡ true → Finish m e → ⊥) × Unfinished (nextOf base m e) es
 
-  -- how many of the events are the hart's steps
-  abbrev pub steps : List Event → ℕ
-  steps [] = 0
-  steps (e ∷ es) = cond (isStep h e) (suc (steps es)) (steps es)
-
   -- After any events so far, of which the others left the loop alone and none was the finish: if the hart steps next, the step is fine and at most the
   -- hart's n-th, where the block has n words, and the n-th is the finish.
   pub record NextStep (m : Machine) (so-far : List Event) : Type 0 where
     pub fine : Fine (answered base (runOf base m so-far) (Step h))
-    pub bounded : steps so-far < length words
-    pub finishes : suc (steps so-far) ≡ length words → Finish (runOf base m so-far) (Step h)
+    pub bounded : steps h so-far < length words
+    pub finishes : suc (steps h so-far) ≡ length words → Finish (runOf base m so-far) (Step h)
