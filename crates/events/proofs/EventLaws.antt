@@ -4,9 +4,9 @@ use mathlib.Core.Bool.{true, false, cond}
 use mathlib.Core.List.{List}
 use Prim.Native.Nat.{ℕ, zero, suc, _+_, _-_, _/_, _%_, _≤_, _<_}
 use native.Mathlib.Omega.{arith}
-use lib.ListN.{length}
+use lib.ListN.{length, drop}
 use Rattle.word.specs.Memory.{part}
-use Rattle.events.specs.Events.{goodEvent, firstBad}
+use Rattle.events.specs.Events.{goodEvent, firstBad, firstEvents, eventsOf}
 use Rattle.events.specs.declared.Checked.the-variants.{Good, Bad}
 
 module _ (count base len : ℕ) (body : List ℕ) where
@@ -26,3 +26,12 @@ module _ (count base len : ℕ) (body : List ℕ) where
   unfolding firstBad
   firstBad-bad zero at h e = absurd (omega arith)
   firstBad-bad (suc n) at h e = rw e
+
+-- as many events as the body has records
+pub length-firstEvents : (n : ℕ) (body : List ℕ) → length (firstEvents n body) ≡ n
+unfolding firstEvents
+length-firstEvents zero body = refl
+length-firstEvents (suc n) body = ap suc (length-firstEvents n (drop 24 body))
+
+pub length-events : (body : List ℕ) → length (eventsOf body) ≡ length body / 24
+length-events body = length-firstEvents (length body / 24) body

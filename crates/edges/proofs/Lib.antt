@@ -1,0 +1,2 @@
+-- The statement over the edges.
+pub mod EveryEdge

@@ -1,0 +1,3 @@
+-- The edges.
+pub mod Edge
+pub mod Edges

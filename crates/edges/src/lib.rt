@@ -1,0 +1,1 @@
+// The table of the twelve edges, and the statement over it: in specs/ and proofs/.

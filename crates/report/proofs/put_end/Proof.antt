@@ -1,0 +1,39 @@
+use native.Mathlib.Omega.{arith}
+use Rattle.text.proofs.PutLaws.{then}
+use Rattle.report.specs.Report.{endLine}
+use borrow.Author.Needs.{needs}
+use Rattle.report.proofs.put_end.Statement.{statement}
+use Rattle.report.proofs.put_end.Tie as tie
+
+slice-aggregate-put-bytes : tie.Need-slice-aggregate-put-bytes
+slice-aggregate-put-bytes c = search needs
+
+put-bytes-requires : tie.Need-put-bytes-requires
+put-bytes-requires c κs = search needs
+
+put-decimal-requires : tie.Need-put-decimal-requires
+put-decimal-requires c κs = search needs
+
+put-byte-requires : tie.Need-put-byte-requires
+put-byte-requires c κs = search needs
+
+same-length : tie.Need-same-length
+same-length c = search needs
+
+returns : tie.Need-returns
+unfolding endLine
+returns c = (
+  then (c .before .before .before .before .before .before .before .before .before .before .put-bytes .ensures) (then (c .before .before .before .before .before .before .put-decimal .ensures .0) (c .before .before .put-byte .ensures)),
+  omega (arith, c .before .before .before .before .before .before .before .before .before .before .put-bytes .ensures .end, c .before .before .before .before .before .before .put-decimal .ensures .1, c .before .before .put-byte .ensures .end),
+)
+
+pub put-end-spec : {M : Type 1} → statement M
+put-end-spec =
+    tie.close
+    (tie.spec
+    slice-aggregate-put-bytes
+    put-bytes-requires
+    put-decimal-requires
+    put-byte-requires
+    same-length
+    returns)

@@ -1,0 +1,63 @@
+use native.Mathlib.Omega.{arith}
+use mathlib.Core.Path.{_≡_, sym, _∙_, ap, subst}
+use mathlib.Core.List.{List}
+use Rattle.text.proofs.PutLaws.{as-text}
+use Rattle.casefile.specs.Case.{caseOf, SoundAs, Sound}
+use Rattle.casefile.specs.declared.Case.{Case}
+use Rattle.casefile.specs.declared.Found.{Found}
+use Rattle.report.specs.Report.{reportOf, textOf, textOfCase}
+use mathlib.Core.Path.{_≡_, sym, _∙_, subst}
+use borrow.Author.Needs.{needs}
+use Rattle.report.proofs.put_report.Statement.{statement}
+use Rattle.report.proofs.put_report.Tie as tie
+
+read-case-requires : tie.Need-read-case-requires
+read-case-requires c κs = search needs
+
+enum-known-found : tie.Need-enum-known-found
+enum-known-found c = search needs
+
+put-refused-requires : tie.Need-put-refused-requires
+put-refused-requires c κs = search needs
+
+enum-known-found-2 : tie.Need-enum-known-found-2
+enum-known-found-2 c = search needs
+
+put-bodies-requires : tie.Need-put-bodies-requires
+put-bodies-requires c κs =
+    let k = c .before .before .before .before .before .before .read-case in
+    let t = subst (λ (f : Found). SoundAs (c .before .before .before .before .before .before .before .before .before .before .args .file .now) (k .result .base) (k .result .state) f) (c .before .before .before .found2 .given .1) (k .ensures .1) in
+    (c .before .before .before .before .before .before .before .before .before .before .pre, ((t .0, t .1, t .2, t .3), t .4))
+
+same-length : tie.Need-same-length
+same-length c = search needs
+
+returns : tie.Need-returns
+unfolding reportOf
+returns c =
+    (rw (← c .before .before .before .before .before .before .before .before .read-case .ensures .0, c .before .before .before .before .before .found .given .1) (c .before .before .put-refused .ensures .0), omega (arith, c .before .before .put-refused .ensures .1))
+
+same-length-2 : tie.Need-same-length-2
+same-length-2 c = search needs
+
+same-length-3 : tie.Need-same-length-3
+same-length-3 c = search needs
+
+returns-2 : tie.Need-returns-2
+unfolding reportOf
+returns-2 c = (rw (← c .before .before .before .before .before .before .before .before .before .before .before .read-case .ensures .0, c .before .before .before .before .before .before .before .before .found2 .given .1) (c .before .before .before .before .put-bodies .ensures .0), c .before .before .before .before .put-bodies .ensures .1)
+
+pub put-report-spec : {M : Type 1} → statement M
+put-report-spec =
+    tie.close
+    (tie.spec
+    read-case-requires
+    enum-known-found
+    put-refused-requires
+    enum-known-found-2
+    put-bodies-requires
+    same-length
+    returns
+    same-length-2
+    same-length-3
+    returns-2)

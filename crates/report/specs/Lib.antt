@@ -1,0 +1,2 @@
+-- The report of a case.
+pub mod Report

@@ -1,0 +1,43 @@
+use borrow.Author.Needs.{needs}
+use native.Mathlib.Omega.{arith}
+use Prim.Native.Nat.{_-_, _≤_}
+use Rattle.vectors.proofs.main.Statement.{statement}
+use Rattle.vectors.proofs.main.Tie as tie
+use Rattle.vectors.proofs.main.Reads as reads
+use Rattle.vectors.proofs.main.Lts as lts
+use Rattle.vectors.proofs.run_case.Reads as run-case-reads
+
+abbrev Inv-loop : tie.InvT-loop
+Inv-loop i₀ i = i ≤ 814
+
+abbrev μ-loop : tie.MeasureT-loop
+μ-loop i₀ i = 814 - i
+
+-- src/main.rt:37:5
+loop-holds : tie.Need-loop-holds Inv-loop μ-loop
+loop-holds c = omega arith
+
+-- src/main.rt:38:9
+run-case-requires : tie.Need-run-case-requires Inv-loop μ-loop
+run-case-requires c κs = search needs
+
+-- src/main.rt:39:9
+add-i : tie.Need-add-i Inv-loop μ-loop
+add-i c = omega arith
+
+-- src/main.rt:37:5
+loop-less : tie.Need-loop-less Inv-loop μ-loop
+loop-less c = omega arith
+
+-- src/main.rt:37:5
+loop-again : tie.Need-loop-again Inv-loop μ-loop
+loop-again c = omega arith
+
+-- src/main.rt:35:1
+returns : tie.Need-returns Inv-loop μ-loop
+returns c = omega arith
+
+pub main-spec : {M : Type 1} → statement M
+main-spec =
+    tie.close
+    (tie.spec Inv-loop μ-loop loop-holds run-case-requires add-i loop-less loop-again returns)
