@@ -17,8 +17,8 @@ use Rattle.retry.specs.declared.View.{View}
 use Rattle.retry.specs.declared.View.the-variants.{Lr, Sc, Plain, Jump, Branch, Other}
 use Rattle.retry.specs.declared.LoopAnswer.{LoopAnswer}
 use Rattle.retry.specs.declared.LoopAnswer.the-variants.{Accepted, Rejected, Refused}
-use Rattle.retry.specs.Loop.{viewOf, viewAt, isSc, pastSc, isAbove, toStart, wrongOffset, clobbers, reason2, reason3, reason4, reason5, lowestOf, orElse, scanOf, startOf, checkOf}
-use Rattle.retry.specs.Reasons.{AnSc, FirstSc, Above, ToStart, Sized}
+use Rattle.retry.specs.Loop.{viewAt, isSc, pastSc, isAbove, toStart, wrongOffset, clobbers, reason2, reason3, reason4, reason5, lowestOf, orElse, scanOf, startOf, checkOf}
+use Rattle.retry.specs.Reasons.{FirstSc, Sized}
 use Rattle.retry.proofs.ViewLaws.{Seen, SeenLr, seen}
 use Rattle.retry.proofs.PlaceLaws.{not-of, or-left, or-right, and-second, above, true-clobbers, sc-is, is-sc, past-first, first-past, after-past}
 

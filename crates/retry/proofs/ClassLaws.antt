@@ -17,7 +17,6 @@ use Rattle.isa.specs.declared.Width.the-variants.{Double}
 use Rattle.isa.specs.declared.Instr.{Instr}
 use Rattle.isa.specs.declared.Instr.the-variants as I
 use Rattle.retry.specs.Loop.{viewOf, fieldsOf, lookedAt}
-use Rattle.retry.specs.declared.View.{View}
 use Rattle.retry.specs.declared.View.the-variants.{Other}
 
 -- words of class c decode to this instruction, or to none

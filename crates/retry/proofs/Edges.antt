@@ -1,6 +1,6 @@
 -- Edge 12 of 01, a block for each reason, and the sizes that are refused: computed. Assumes nothing.
 use mathlib.Core.Path.{_≡_, refl}
-use mathlib.Core.List.{List, [], _∷_}
+use mathlib.Core.List.{[], _∷_}
 use Prim.Native.Nat.{ℕ, _-_, _^_}
 use Rattle.word.specs.Word.{signExtend, ofInt, toInt, low}
 use Rattle.isa.specs.Decode.{classOf, branchOf, loadOf, opImmOf, shiftOf, sizedOf, lrOf, atomicOf, decodeOf}

@@ -11,8 +11,6 @@ use borrow.Author.Tests.{lt-ltb, ltb-true, ltb-false, eq-eqb, eqb-true, eqb-fals
 use Rattle.word.proofs.TestLaws.{bool-cases, contrary, and-both, or-either}
 use Rattle.isa.specs.Width.{bytesOf}
 use Rattle.isa.specs.Decode.{decodeOf}
-use Rattle.isa.specs.declared.BranchOp.{BranchOp}
-use Rattle.isa.specs.declared.Width.{Width}
 use Rattle.isa.specs.declared.Atomic.{Atomic}
 use Rattle.isa.specs.declared.AtomicOp.the-variants as A
 use Rattle.isa.specs.declared.Instr.{Instr}
@@ -21,7 +19,7 @@ use Rattle.retry.specs.declared.View.{View}
 use Rattle.retry.specs.declared.View.the-variants.{Lr, Sc, Plain, Jump, Branch, Other}
 use Rattle.retry.specs.Loop.{viewOf, viewAt, isSc, pastSc, isAbove, toStart, wrongOffset, clobbers, reason2, reason3, reason4, reason5}
 use Rattle.retry.specs.Reasons.{Stands, LrAt, ScAt, AnSc, FirstSc, BeforeSc, AfterSc, Permitted, NotPermitted, LeadsBy, Above, ToStart, BadOffset, HasRd, Overwrites, OtherSc}
-use Rattle.retry.proofs.ViewLaws.{Seen, SeenLr, SeenSc, seen, lr-view, sc-view, RdSeen, rd-seen, Body, permitted-body, body-permitted, widths-same}
+use Rattle.retry.proofs.ViewLaws.{Seen, SeenSc, seen, lr-view, sc-view, RdSeen, rd-seen, Body, permitted-body, body-permitted, widths-same}
 
 -- ---- tests
 

@@ -1,27 +1,23 @@
 -- The definition's answer is the one that the reasons decide: `exactly`. Assumes nothing.
 use mathlib.Core.Path.{_≡_, refl, sym, ap, subst, _∙_}
-use mathlib.Core.Logic.{_⊎_, inl, inr, ⊎-elim, _↔_}
+use mathlib.Core.Logic.{_⊎_, inl, inr}
 use mathlib.Core.Bool.{Bool, true, false, cond}
 use mathlib.Core.List.{List}
 use Prim.Native.Nat.{ℕ, zero, suc, _+_, _≤_, _<_}
-use native.Mathlib.Nat.{suc-add, add-suc}
 use native.Mathlib.Omega.{arith}
 use lib.Dec.{ltb}
 use lib.ListN.{length, getD}
-use borrow.Author.Tests.{lt-ltb, le-ltb, ltb-true, ltb-false}
-use Rattle.word.proofs.TestLaws.{bool-cases, contrary}
+use borrow.Author.Tests.{ltb-true, ltb-false}
+use Rattle.word.proofs.TestLaws.{bool-cases}
 use Rattle.isa.specs.Width.{bytesOf}
 use Rattle.isa.specs.Decode.{decodeOf}
 use Rattle.isa.specs.declared.Atomic.{Atomic}
-use Rattle.isa.specs.declared.AtomicOp.the-variants as A
-use Rattle.isa.specs.declared.Instr.{Instr}
-use Rattle.isa.specs.declared.Instr.the-variants as I
 use Rattle.retry.specs.declared.View.{View}
 use Rattle.retry.specs.declared.View.the-variants.{Lr, Sc, Plain, Jump, Branch, Other}
 use Rattle.retry.specs.declared.LoopAnswer.{LoopAnswer}
 use Rattle.retry.specs.declared.LoopAnswer.the-variants.{Accepted, Rejected, Refused}
 use Rattle.retry.specs.Loop.{refusalOf, viewOf, viewAt, pastSc, reason2, reason3, reason4, reason5, lowestOf, orElse, scanOf, startOf, checkOf}
-use Rattle.retry.specs.Reasons.{Stands, LrAt, AnSc, NotLr, NotPermitted, BadOffset, LeadsBy, Overwrites, OtherSc, NoSc, Reason, one, two, three, four, five, six, Unreasoned, Lowest, Sized, Exactly}
+use Rattle.retry.specs.Reasons.{LrAt, NotLr, NotPermitted, BadOffset, LeadsBy, Overwrites, OtherSc, NoSc, Reason, one, two, three, four, five, six, Unreasoned, Lowest, Sized, Exactly}
 use Rattle.retry.proofs.ViewLaws.{SeenLr, seen, Seen, lr-view}
 use Rattle.retry.proofs.PlaceLaws.{past-none, past-first, two-true, two-false, three-true, three-false, four-true, four-false, five-true, five-false}
 

@@ -1,10 +1,12 @@
 -- Which blocks of words are accepted: 01, "A block is a list of words. It is accepted exactly if no reason below applies; otherwise the answer is the
 -- lowest place with a reason, and at that place the lowest reason."
 use mathlib.Core.Bool.{Bool, true, false, cond, not, _&&_, _||_}
-use mathlib.Core.List.{List, [], _∷_}
+use mathlib.Core.List.{List, [], _∷_, _++_}
 use Prim.Native.Nat.{ℕ, zero, suc, _+_, _*_, _^_, _%_}
-use lib.Dec.{ltb, leb, eqb}
+use lib.Dec.{ltb, eqb}
 use lib.ListN.{length, getD}
+use Rattle.word.specs.Bytes.{le}
+use Rattle.word.specs.Memory.{part}
 use Rattle.isa.specs.Width.{bytesOf}
 use Rattle.isa.specs.Decode.{AUIPC, LUI, JAL, BRANCH, OP, OP-IMM, OP-32, OP-IMM-32, AMO, decodeOf}
 use Rattle.isa.specs.declared.Atomic.{Atomic}
@@ -148,6 +150,11 @@ startOf Other ws = Rejected 0 1
 -- 01, refusal 6: "loop block of fewer than 2 or more than 16 words"
 unfoldable pub checkOf : List ℕ → LoopAnswer
 checkOf ws = cond (ltb (length ws) 2) Refused (cond (ltb 16 (length ws)) Refused (startOf (viewAt ws 0) ws))
+
+-- the first n words of a block given as bytes
+unfoldable pub wordsOf : List ℕ → ℕ → List ℕ
+wordsOf bytes zero = []
+wordsOf bytes (suc n) = wordsOf bytes n ++ (le (part bytes (4 * n) 4) ∷ [])
 
 -- ---- the same by the table of classes
 

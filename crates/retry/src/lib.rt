@@ -1,12 +1,14 @@
 // The checker of retry loops: document 01, "Retry loops".
 ghost use mathlib.Core.Path.{_≡_};
-ghost use mathlib.Core.Bool.{false};
 ghost use Prim.Native.Nat.{_≤_};
 ghost use lib.ListN.{length};
 ghost use Rattle.retry.specs.Loop.{checkOf, scanOf};
 
+mod bytes;
 mod look;
 mod reasons;
+
+pub use bytes::check_bytes;
 
 // What the checker sees of a word: an LR, an SC, a word that is permitted after the LR by what it writes and where it leads, or any other.
 pub enum View {

@@ -1,8 +1,7 @@
 // The reasons 2 to 5 of document 01, "Retry loops". past says that an SC stands before the place.
 use crate::View;
 ghost use mathlib.Core.Path.{_≡_};
-ghost use mathlib.Core.Bool.{false};
-ghost use Prim.Native.Nat.{_<_, _≤_};
+ghost use Prim.Native.Nat.{_<_};
 ghost use Rattle.retry.specs.Loop.{isSc, wrongOffset, clobbers, reason2, reason3, reason4, reason5, lowestOf};
 
 pub fn is_sc(v: View) -> bool

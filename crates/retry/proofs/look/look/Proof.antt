@@ -1,4 +1,4 @@
-use mathlib.Core.Path.{_≡_, sym, ap, _∙_}
+use mathlib.Core.Path.{sym, ap, _∙_}
 use Rattle.retry.specs.Loop.{fieldsOf, lookedAt}
 use Rattle.retry.proofs.ClassLaws.{looked, passed-over}
 use borrow.Author.Needs.{needs}

@@ -1,0 +1,30 @@
+use borrow.Author.Needs.{needs}
+use Prim.Native.Nat.{_-_}
+use lib.ListN.{length}
+use Rattle.vectors_loops.proofs.all.Statement.{statement}
+use Rattle.vectors_loops.proofs.all.Tie as tie
+
+abbrev Inv-loop : tie.InvT-loop
+Inv-loop blocks at₀ at = Unit {0}
+
+abbrev μ-loop : tie.MeasureT-loop
+μ-loop blocks at₀ at = length blocks - at
+
+loop-holds : tie.Need-loop-holds Inv-loop μ-loop
+loop-holds c = search needs
+
+one-requires : tie.Need-one-requires Inv-loop μ-loop
+one-requires c κs = search needs
+
+loop-less : tie.Need-loop-less Inv-loop μ-loop
+loop-less c = search needs
+
+loop-again : tie.Need-loop-again Inv-loop μ-loop
+loop-again c = search needs
+
+returns : tie.Need-returns Inv-loop μ-loop
+returns c = search needs
+
+pub all-spec : {M : Type 1} → statement M
+all-spec =
+    tie.close (tie.spec Inv-loop μ-loop loop-holds one-requires loop-less loop-again returns)

@@ -1,0 +1,41 @@
+// Writes the line of each block on standard input. A block is a byte with the number of its words, then the words, 4 bytes each and the lowest first.
+// The lines that are expected were made by an independent model of document 01.
+use libc::STDIN_FILENO;
+ghost use Prim.Native.Nat.{_≤_, _<_};
+ghost use lib.ListN.{length};
+
+mod line;
+
+fn wide(x: u8) -> usize
+    ensures { λ r. ⌜ r < 256 ⌝ }
+{
+    x as usize
+}
+
+// The block at a place, and where the next one starts. A block that the input cuts short ends it.
+fn one(blocks: &[u8], at: usize) -> usize
+    requires { ⌜ at < length (now blocks) ⌝ }
+    ensures { λ r. ⌜ at < r ⌝ }
+{
+    let n = wide(blocks[at]);
+    let from = at + 1;
+    if blocks.len() - from < 4 * n {
+        return blocks.len();
+    }
+    let to = from + 4 * n;
+    line::write(retry::check_bytes(&blocks[from..to]));
+    to
+}
+
+fn all(blocks: &[u8]) {
+    let mut at = 0;
+    while at < blocks.len() {
+        at = one(blocks, at);
+    }
+}
+
+fn main() {
+    let mut space = io::large_buffer();
+    let n = io::read_full(STDIN_FILENO, &mut space);
+    all(&space[..n]);
+}
