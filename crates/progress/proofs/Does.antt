@@ -1,0 +1,124 @@
+-- What a step at a word of a loop comes to, by what the loop checker sees of the word. Assumes nothing.
+use mathlib.Core.Path.{_≡_, refl, ap, ap₂, _∙_}
+use mathlib.Core.Logic.{_⊎_, inl, inr}
+use mathlib.Core.Bool.{Bool, true, false}
+use mathlib.Core.List.{List}
+use Prim.Native.Nat.{ℕ, _+_, _*_, _^_, _%_, _<_}
+use native.Mathlib.Omega.{arith}
+use lib.Dec.{eqb}
+use lib.ListN.{length}
+use lib.Seq.{getD-set-other}
+use borrow.Author.Tests.{eqb-false}
+use Rattle.word.specs.Word.{signExtend}
+use Rattle.word.specs.Bytes.{toLe}
+use Rattle.word.proofs.TestLaws.{bool-cases}
+use Rattle.reserve.specs.Range.{Inside}
+use Rattle.isa.specs.Width.{bitsOf, bytesOf}
+use Rattle.isa.specs.Wf.{Regs}
+use Rattle.isa.specs.declared.AtomicOp.{AtomicOp}
+use Rattle.isa.specs.declared.AtomicOp.the-variants as A
+use Rattle.isa.specs.declared.Atomic.{Atomic}
+use Rattle.isa.specs.declared.Instr.{Instr}
+use Rattle.isa.specs.declared.Instr.the-variants as I
+use Rattle.effect.specs.Effect.{Writes, none, one, Touch, nothing, reserve, scStore, Exec, effect, offset, nextOf}
+use Rattle.effect.specs.Integer.{execJump, execBranch, holdsOf}
+use Rattle.effect.specs.Memory.{valueAt}
+use Rattle.effect.specs.Atomic.{execLr}
+use Rattle.effect.specs.Execute.{regAt, execAtomic, execute}
+use Rattle.effect.proofs.TrapLaws.{access-retires, jump-retires, branch-taken, branch-passed, sc-succeeds}
+use Rattle.model.specs.Act.{setReg, written}
+use Rattle.retry.specs.Loop.{atomicView, viewOf}
+use Rattle.retry.specs.declared.View.{View}
+use Rattle.retry.specs.declared.View.the-variants.{Lr, Sc, Plain, Jump, Branch, Other}
+use Rattle.retry.proofs.Accepted.{Keeps}
+
+-- it retires, goes to a place with a touch, and leaves every register that a write of rd leaves
+pub record Moves (e : Exec) (rd to : ℕ) (t : Touch) : Type 0 where
+  pub ws : Writes
+  pub is : e ≡ effect ws to t
+  pub kept : (x : List ℕ) (h r : ℕ) → r < 32 → Keeps r rd → regAt (written h ws x) h r ≡ regAt x h r
+
+set-kept : (x : List ℕ) (h rd v r : ℕ) → rd < 32 → r < 32 → Keeps r rd → regAt (setReg h rd v x) h r ≡ regAt x h r
+unfolding setReg regAt
+set-kept x h rd v r d l k =
+    bool-cases (eqb (rd % 32) 0) (λ t. rw t)
+    (λ f.
+    rw f (getD-set-other x (h * 32 + rd % 32) (h * 32 + r % 32) v 0
+    (λ e. let s : r ≡ rd = omega arith in let z : r ≡ 0 = k s in eqb-false (rd % 32) 0 f (omega arith))))
+
+by-one : (e : Exec) (rd v to : ℕ) (t : Touch) → rd < 32 → e ≡ effect (one rd v) to t → Moves e rd to t
+by-one e rd v to t d q = record { ws = one rd v; is = q; kept = λ x h r l k. set-kept x h rd v r d l k }
+
+by-none : (e : Exec) (to : ℕ) (t : Touch) → e ≡ effect none to t → Moves e 0 to t
+by-none e to t q = record { ws = none; is = q; kept = λ x h r l k. refl }
+
+-- where the pc is pc
+abbrev pub Does : View → ℕ → Exec → Type 0
+Does (Lr rd s w) pc e = Unit {0}
+Does (Sc s w) pc e = Unit {0}
+Does (Plain rd) pc e = Moves e rd (pc + 4) nothing
+Does (Jump rd off) pc e = off % 4 ≡ 0 → Moves e rd ((pc + off) % 2 ^ 64) nothing
+Does (Branch off) pc e = off % 4 ≡ 0 → Moves e 0 (pc + 4) nothing ⊎ Moves e 0 ((pc + off) % 2 ^ 64) nothing
+Does Other pc e = Unit {0}
+
+module _ (pc : ℕ) (aligned : pc % 4 ≡ 0) (small : pc + 4 < 2 ^ 64) where
+  next : nextOf 64 pc ≡ pc + 4
+  next = omega arith
+
+  computes : (rd v : ℕ) → rd < 32 → Moves (effect (one rd v) (nextOf 64 pc) nothing) rd (pc + 4) nothing
+  computes rd v d = by-one _ rd v (pc + 4) nothing d (ap (λ (n : ℕ). effect (one rd v) n nothing) next)
+
+  jumps : (rd off : ℕ) → rd < 32 → off % 4 ≡ 0 → Moves (execJump 64 rd (offset 64 pc off) pc) rd ((pc + off) % 2 ^ 64) nothing
+  jumps rd off d o = by-one _ rd (nextOf 64 pc) ((pc + off) % 2 ^ 64) nothing d (jump-retires 64 pc rd (offset 64 pc off) (omega arith))
+
+  branches : (taken : Bool) (off : ℕ) → off % 4 ≡ 0
+      → Moves (execBranch 64 taken (offset 64 pc off) pc) 0 (pc + 4) nothing ⊎ Moves (execBranch 64 taken (offset 64 pc off) pc) 0 ((pc + off) % 2 ^ 64) nothing
+  branches true off o = inr (by-none _ ((pc + off) % 2 ^ 64) nothing (branch-taken 64 pc (offset 64 pc off) (omega arith)))
+  branches false off o =
+      inl (by-none _ (pc + 4) nothing (branch-passed 64 pc (offset 64 pc off) ∙ ap (λ (n : ℕ). effect none n nothing) next))
+
+  module _ (word : ℕ) (x : ℕ → ℕ) (base : ℕ) (mem : List ℕ) (covered : ℕ → ℕ → Bool) where
+    does-atomic : (op : AtomicOp) (a : Atomic) (e : Exec) → Does (atomicView op a) pc e
+    does-atomic A.Lr a e = tt
+    does-atomic A.Sc a e = tt
+    does-atomic A.Cas a e = tt
+    does-atomic A.CasPair a e = tt
+    does-atomic (A.Rmw op) a e = tt
+
+    pub does : (i : Instr) → Regs i → Does (viewOf i) pc (execute 64 i word x pc base mem covered)
+    unfolding viewOf execute
+    does I.Illegal r = tt
+    does (I.Lui rd imm) r = computes rd imm r
+    does (I.Auipc rd imm) r = computes rd (offset 64 pc imm) r
+    does (I.Jal rd imm) r = jumps rd imm r
+    does (I.Jalr rd rs1 imm) r = tt
+    does (I.Branch op rs1 rs2 imm) r = branches (holdsOf 64 op (x rs1) (x rs2)) imm
+    does (I.Load op rd rs1 imm) r = tt
+    does (I.Store op rs1 rs2 imm) r = tt
+    does (I.OpImm op rd rs1 imm) r = computes rd _ (r .0)
+    does (I.OpImm32 op rd rs1 imm) r = computes rd _ (r .0)
+    does (I.Op op rd rs1 rs2) r = computes rd _ (r .0)
+    does (I.Op32 op rd rs1 rs2) r = computes rd _ (r .0)
+    does (I.Fence rd rs1 imm) r = tt
+    does I.Ecall r = tt
+    does I.Ebreak r = tt
+    does (I.Amo a) r = does-atomic (a .op) a _
+
+    -- an LR whose bytes are aligned and in memory
+    pub does-lr : (a : Atomic) → a .op ≡ A.Lr → Regs (I.Amo a) → x (a .rs1) % bytesOf (a .width) ≡ 0
+        → Inside base (length mem) (x (a .rs1)) (bytesOf (a .width))
+        → Moves (execute 64 (I.Amo a) word x pc base mem covered) (a .rd) (pc + 4) (reserve (x (a .rs1)) (bytesOf (a .width)))
+    unfolding execute execAtomic execLr
+    does-lr a q r al i =
+        let v = signExtend 64 (bitsOf (a .width)) (valueAt base mem (x (a .rs1)) (bytesOf (a .width))) in
+        by-one _ (a .rd) v (pc + 4) _ (r .0)
+        (rw q (access-retires 4 5 (x (a .rs1)) (bytesOf (a .width)) base (length mem) (omega arith) (omega arith) _ al i
+        ∙ ap (λ (n : ℕ). effect (one (a .rd) v) n (reserve (x (a .rs1)) (bytesOf (a .width)))) next))
+
+    -- an SC of n bytes at addr, aligned and covered
+    pub does-sc : (a : Atomic) → a .op ≡ A.Sc → (addr n : ℕ) → x (a .rs1) ≡ addr → bytesOf (a .width) ≡ n → addr % n ≡ 0 → covered addr n ≡ true
+        → execute 64 (I.Amo a) word x pc base mem covered ≡ effect (one (a .rd) 0) (nextOf 64 pc) (scStore addr (toLe n (x (a .rs2))))
+    unfolding execute execAtomic
+    does-sc a q addr n s l al c =
+        rw q (sc-succeeds 64 pc (a .width) (a .rd) (x (a .rs1)) (x (a .rs2)) covered (rw (s, l) al) (rw (s, l) c)
+        ∙ ap₂ (λ (b k : ℕ). effect (one (a .rd) 0) (nextOf 64 pc) (scStore b (toLe k (x (a .rs2))))) s l)

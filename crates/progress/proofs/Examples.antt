@@ -1,0 +1,259 @@
+-- Loops that meet the start of the claim, and runs of them that finish in each of the three ways; and what a store into the set does. Computed.
+-- Assumes nothing.
+use mathlib.Core.Path.{_≡_, refl, sym}
+use mathlib.Core.Logic.{_≢_, _⊎_, inl, inr}
+use mathlib.Core.Bool.{true, false}
+use mathlib.Core.List.{List, [], _∷_, _++_}
+use Prim.Native.Nat.{ℕ, zero, suc, _+_, _-_, _*_, _≤_, _<_}
+use native.Mathlib.Omega.{arith}
+use lib.ListN.{length, getD, replicate}
+use Rattle.word.specs.Word.{signExtend, ofInt, toInt, low}
+use Rattle.word.specs.Bytes.{le, toLe}
+use Rattle.word.specs.Memory.{part, splice}
+use Rattle.word.specs.Each.{allBelow}
+use Rattle.word.proofs.TestLaws.{contrary}
+use Rattle.reserve.specs.Range.{Touch, touches, insideOf, setOf}
+use Rattle.reserve.specs.Reserve.{slot, coversOf, breaksOf, ownOf, observeOf, observeAllOf}
+use Rattle.reserve.specs.declared.Reservation.the-variants.{None, Held}
+use Rattle.reserve.specs.declared.Notice.the-variants as N
+use Rattle.isa.specs.Decode.{classOf, branchOf, storeOf, systemOf, sizedOf, lrOf, atomicOf, decodeOf}
+use Rattle.isa.specs.declared.Width.the-variants.{Word}
+use Rattle.isa.specs.declared.Atomic.{Atomic}
+use Rattle.isa.specs.declared.AtomicOp.the-variants as A
+use Rattle.reserve.proofs.RangeLaws.{inside-of}
+use Rattle.machine.specs.State.{memoryOk, reservationOk, hartOk, stateOk, refusalOf}
+use Rattle.machine.proofs.StateLaws.{refusal-0}
+use Rattle.effect.specs.Integer.{holdsOf, execBranch}
+use Rattle.effect.specs.Memory.{faultOf, checked, valueAt, execStore}
+use Rattle.effect.specs.Atomic.{execLr, execSc}
+use Rattle.effect.specs.Execute.{regAt, execAtomic, execute, executeWord}
+use Rattle.events.specs.declared.Event.{Event}
+use Rattle.events.specs.declared.Event.the-variants.{Step, Device, Yield}
+use Rattle.model.specs.Act.{setReg, apply, leaves}
+use Rattle.model.specs.Perform.{Machine, fetchOf, deviceOf, actOn, actOf, answerOf, memoryOf, nextOf, runOf}
+use Rattle.model.specs.Trace.{noticeAt, WritesInto}
+use Rattle.model.specs.declared.Outcome.{Outcome}
+use Rattle.model.specs.declared.Outcome.the-variants as O
+use Rattle.retry.specs.Reasons.{LrAt}
+use Rattle.retry.specs.declared.LoopAnswer.the-variants.{Accepted}
+use Rattle.retry.specs.Loop.{viewOf, pastSc, wrongOffset, clobbers, lowestOf, scanOf, startOf, checkOf}
+use Rattle.progress.specs.Claim.{answered, Start, Harmless, Finish, stored, left, back, Safe, Finishes, Calm, Unfinished}
+use Rattle.progress.proofs.Retry.{retry}
+
+-- Edge 12's loop: lr.w x6,(x5); bne x6,x0,+12; sc.w x7,x8,(x5); bne x7,x0,-12.
+abbrev leaving : List ℕ
+leaving = 0x1002A32F ∷ 0x00031663 ∷ 0x1882A3AF ∷ 0xFE039AE3 ∷ []
+
+-- One that goes round as long as the word isn't 0: lr.w x6,(x5); bne x6,x0,+8; sc.w x7,x8,(x5); bne x6,x0,-12.
+abbrev waiting : List ℕ
+waiting = 0x1002A32F ∷ 0x00031463 ∷ 0x1882A3AF ∷ 0xFE031AE3 ∷ []
+
+-- and the shortest: lr.w x6,(x5); sc.w x7,x8,(x5)
+abbrev shortest : List ℕ
+shortest = 0x1002A32F ∷ 0x1882A3AF ∷ []
+
+abbrev lr : Atomic
+lr = record { op = A.Lr; width = Word; aq = false; rl = false; rd = 6; rs1 = 5; rs2 = 0 }
+
+abbrev sc : Atomic
+sc = record { op = A.Sc; width = Word; aq = false; rl = false; rd = 7; rs1 = 5; rs2 = 8 }
+
+-- the bytes of words
+abbrev code : List ℕ → List ℕ
+code [] = []
+code (w ∷ ws) = toLe 4 w ++ code ws
+
+-- x5 is 1096, x8 is more than 32 bits
+abbrev registers : List ℕ
+registers = 0 ∷ 0 ∷ 0 ∷ 0 ∷ 0 ∷ 1096 ∷ 0 ∷ 0 ∷ 0x700000009 ∷ replicate 23 0
+
+-- Three harts. Hart 0 holds another reservation, hart 1 stands at a store, sw x8,8(x5), and hart 2 outside memory. 128 bytes at 1024: the loop first,
+-- hart 1's store at 1056, and the word v at 1096, in the set from 1088 on.
+abbrev begin : List ℕ → ℕ → Machine
+begin words v =
+    record {
+      state =
+          record {
+            count = 3;
+            x = registers ++ (registers ++ replicate 192 0);
+            pc = 1024 ∷ 1056 ∷ replicate 6 0;
+            res = slot (Held 1144 8) ∷ replicate 7 (slot None);
+          };
+      mem = code words ++ (replicate (32 - 4 * length words) 0 ++ (toLe 4 0x0082A423 ++ (replicate 36 0 ++ (toLe 4 v ++ replicate 52 0))));
+    }
+
+-- They meet the start, whatever the word at 1096.
+meets : (words : List ℕ) (v : ℕ) → length (begin words v .mem) ≡ 128 → length words ≤ 8 → checkOf words ≡ Accepted → LrAt words 0 lr
+    → ((k : ℕ) → k < length words → valueAt 1024 (begin words v .mem) (1024 + 4 * k) 4 ≡ getD words k 0)
+    → Start 1024 0 1024 1096 words lr (begin words v)
+unfolding refusalOf memoryOk stateOk hartOk reservationOk insideOf allBelow regAt
+meets words v len few accepted first placed =
+    record {
+      valid = refusal-0 1024 (length (begin words v .mem)) (begin words v .state) .0 (rw len refl);
+      shaped = record { registers = refl; counters = refl; reservations = refl };
+      used = omega arith;
+      here = refl;
+      accepted = accepted;
+      placed = placed;
+      mapped = λ k l. (omega arith, omega arith);
+      first = first;
+      address = refl;
+      aligned = refl;
+      reachable = (omega arith, omega arith);
+    }
+
+pub starts-leaving : (v : ℕ) → Start 1024 0 1024 1096 leaving lr (begin leaving v)
+unfolding toLe signExtend ofInt toInt low classOf branchOf sizedOf lrOf atomicOf decodeOf viewOf pastSc wrongOffset clobbers lowestOf scanOf startOf checkOf valueAt le part
+starts-leaving v = meets leaving v refl (omega arith) refl (record { inBlock = omega arith; decodes = refl }, refl) placed
+  where
+    placed : (k : ℕ) → k < 4 → valueAt 1024 (begin leaving v .mem) (1024 + 4 * k) 4 ≡ getD leaving k 0
+    placed zero l = refl
+    placed (suc zero) l = refl
+    placed (suc (suc zero)) l = refl
+    placed (suc (suc (suc zero))) l = refl
+    placed (suc (suc (suc (suc k)))) l = absurd (omega arith)
+
+pub starts-waiting : (v : ℕ) → Start 1024 0 1024 1096 waiting lr (begin waiting v)
+unfolding toLe signExtend ofInt toInt low classOf branchOf sizedOf lrOf atomicOf decodeOf viewOf pastSc wrongOffset clobbers lowestOf scanOf startOf checkOf valueAt le part
+starts-waiting v = meets waiting v refl (omega arith) refl (record { inBlock = omega arith; decodes = refl }, refl) placed
+  where
+    placed : (k : ℕ) → k < 4 → valueAt 1024 (begin waiting v .mem) (1024 + 4 * k) 4 ≡ getD waiting k 0
+    placed zero l = refl
+    placed (suc zero) l = refl
+    placed (suc (suc zero)) l = refl
+    placed (suc (suc (suc zero))) l = refl
+    placed (suc (suc (suc (suc k)))) l = absurd (omega arith)
+
+pub starts-shortest : (v : ℕ) → Start 1024 0 1024 1096 shortest lr (begin shortest v)
+unfolding toLe signExtend ofInt toInt low classOf branchOf sizedOf lrOf atomicOf decodeOf viewOf pastSc wrongOffset clobbers lowestOf scanOf startOf checkOf valueAt le part
+starts-shortest v = meets shortest v refl (omega arith) refl (record { inBlock = omega arith; decodes = refl }, refl) placed
+  where
+    placed : (k : ℕ) → k < 2 → valueAt 1024 (begin shortest v .mem) (1024 + 4 * k) 4 ≡ getD shortest k 0
+    placed zero l = refl
+    placed (suc zero) l = refl
+    placed (suc (suc k)) l = absurd (omega arith)
+
+-- so the claim holds of them
+pub leaving-finishes : (v : ℕ) → Finishes 1024 0 1024 1096 leaving lr (begin leaving v)
+leaving-finishes v = retry 1024 0 1024 1096 leaving lr (begin leaving v) (starts-leaving v)
+
+pub waiting-finishes : (v : ℕ) → Finishes 1024 0 1024 1096 waiting lr (begin waiting v)
+waiting-finishes v = retry 1024 0 1024 1096 waiting lr (begin waiting v) (starts-waiting v)
+
+-- ---- runs
+
+-- hart 0's LR and branch; between them a device write, a yield of hart 1, a trap of hart 2, and refused events
+abbrev so-far : List Event
+so-far = Step 0 ∷ Device 1060 2 513 ∷ Yield 1 ∷ Step 2 ∷ Step 7 ∷ Yield 9 ∷ Device 5000 1 0 ∷ Device 1096 9 0 ∷ []
+
+abbrev mixed : List Event
+mixed = so-far ++ Step 0 ∷ []
+
+-- the loop finishes by its SC
+pub by-sc : Finish 1024 0 1024 1096 leaving lr (runOf 1024 (begin leaving 0) mixed) (Step 0)
+unfolding toLe signExtend ofInt toInt low classOf branchOf sizedOf lrOf atomicOf decodeOf refusalOf memoryOk stateOk hartOk reservationOk insideOf allBelow valueAt le part splice regAt touches coversOf breaksOf ownOf observeOf observeAllOf holdsOf execBranch faultOf checked execLr execSc execAtomic execute executeWord setReg apply leaves fetchOf deviceOf actOn actOf answerOf memoryOf nextOf runOf
+by-sc =
+    stored
+    (record {
+      sc = sc;
+      fetches = record { inside = inside-of 1024 128 1032 4 refl; decodes = refl };
+      isSc = refl;
+      succeeds = refl;
+      address = refl;
+      width = refl;
+      bytes = refl;
+    })
+
+-- the other events before left it alone
+untold : (m : Machine) (e : Event) → noticeAt 1024 m e ≡ N.Quiet → Harmless 1024 0 1024 1096 leaving lr m e
+untold m e q = record { block = rw q (λ t. t); reserved = rw q (λ t. t); stays = λ y. let z : _≡_ {A = ℕ} 0 1 = cc in omega arith }
+
+pub by-sc-calm : Calm 1024 0 1024 1096 leaving lr (begin leaving 0) mixed
+unfolding toLe signExtend ofInt toInt low classOf branchOf sizedOf lrOf atomicOf decodeOf refusalOf memoryOk stateOk hartOk reservationOk insideOf allBelow valueAt le part splice regAt touches coversOf breaksOf ownOf observeOf observeAllOf holdsOf execBranch faultOf checked execLr execSc execAtomic execute executeWord setReg apply leaves fetchOf deviceOf actOn actOf answerOf memoryOf nextOf runOf Touch
+by-sc-calm = (
+  λ q. contrary refl q,
+  (
+    λ q. record { block = λ t. absurd (omega arith); reserved = λ t. absurd (omega arith); stays = λ y. let z : _≡_ {A = ℕ} 0 1 = cc in omega arith },
+    (
+      λ q. record { block = λ t. t; reserved = λ t. t; stays = λ y. let z : _≡_ {A = ℕ} 0 1 = cc in omega arith },
+      (λ q. untold _ _ refl, (λ q. untold _ _ refl, (λ q. untold _ _ refl, (λ q. untold _ _ refl, (λ q. untold _ _ refl, (λ q. contrary refl q, tt)))))),
+    ),
+  ),
+)
+
+-- and neither the LR nor the branch was the finish
+pub by-sc-unfinished : Unfinished 1024 0 1024 1096 leaving lr (begin leaving 0) mixed
+unfolding toLe signExtend ofInt toInt low classOf branchOf sizedOf lrOf atomicOf decodeOf refusalOf memoryOk stateOk hartOk reservationOk insideOf allBelow valueAt le part splice regAt touches coversOf breaksOf ownOf observeOf observeAllOf holdsOf execBranch faultOf checked execLr execSc execAtomic execute executeWord setReg apply leaves fetchOf deviceOf actOn actOf answerOf memoryOf nextOf runOf
+by-sc-unfinished = (not-lr, (never, (never, (never, (never, (never, (never, (never, (not-branch, tt)))))))))
+  where
+    never : {P : Type 0} → false ≡ true → P → ⊥
+    never q f = contrary refl (sym q)
+
+    not-lr : true ≡ true → Finish 1024 0 1024 1096 leaving lr (begin leaving 0) (Step 0) → ⊥
+    not-lr t (stored s) = let a : O.Retired ≡ O.ScStored = s .succeeds in let z : _≡_ {A = ℕ} 0 1 = cc in omega arith
+    not-lr t (left d) = d 1 (omega arith) refl
+    not-lr t (back q) = let z : _≡_ {A = ℕ} 1028 1024 = q in omega arith
+
+    not-branch : true ≡ true → Finish 1024 0 1024 1096 leaving lr (runOf 1024 (begin leaving 0) so-far) (Step 0) → ⊥
+    not-branch t (stored s) = let a : O.Retired ≡ O.ScStored = s .succeeds in let z : _≡_ {A = ℕ} 0 1 = cc in omega arith
+    not-branch t (left d) = d 2 (omega arith) refl
+    not-branch t (back q) = let z : _≡_ {A = ℕ} 1032 1024 = q in omega arith
+
+-- where the word isn't 0, edge 12's loop is left by its first branch, and the other comes back to place 0 by its last
+pub by-leaving : Finish 1024 0 1024 1096 leaving lr (runOf 1024 (begin leaving 5) (Step 0 ∷ [])) (Step 0)
+unfolding toLe signExtend ofInt toInt low classOf branchOf sizedOf lrOf atomicOf decodeOf refusalOf memoryOk stateOk hartOk reservationOk insideOf allBelow valueAt le part splice regAt touches coversOf breaksOf ownOf observeOf observeAllOf holdsOf execBranch faultOf checked execLr execSc execAtomic execute executeWord setReg apply leaves fetchOf deviceOf actOn actOf answerOf memoryOf nextOf runOf
+by-leaving = left (λ k l q. let z : 1040 ≡ 1024 + 4 * k = q in omega arith)
+
+pub by-coming-back : Finish 1024 0 1024 1096 waiting lr (runOf 1024 (begin waiting 5) (Step 0 ∷ Step 0 ∷ [])) (Step 0)
+unfolding toLe signExtend ofInt toInt low classOf branchOf sizedOf lrOf atomicOf decodeOf refusalOf memoryOk stateOk hartOk reservationOk insideOf allBelow valueAt le part splice regAt touches coversOf breaksOf ownOf observeOf observeAllOf holdsOf execBranch faultOf checked execLr execSc execAtomic execute executeWord setReg apply leaves fetchOf deviceOf actOn actOf answerOf memoryOf nextOf runOf
+by-coming-back = back refl
+
+-- ---- the bound can't be smaller
+
+pub tight : Safe 1024 0 1024 1096 shortest lr (length shortest - 1) (begin shortest 0) (Step 0 ∷ []) → ⊥
+unfolding toLe signExtend ofInt toInt low classOf branchOf sizedOf lrOf atomicOf decodeOf refusalOf memoryOk stateOk hartOk reservationOk insideOf allBelow valueAt le part splice regAt touches coversOf breaksOf ownOf observeOf observeAllOf holdsOf execBranch faultOf checked execLr execSc execAtomic execute executeWord setReg apply leaves fetchOf deviceOf actOn actOf answerOf memoryOf nextOf runOf
+tight s = go (s .1)
+  where
+    unfinished : Finish 1024 0 1024 1096 shortest lr (begin shortest 0) (Step 0) → ⊥
+    unfinished (stored f) = let a : O.Retired ≡ O.ScStored = f .succeeds in let z : _≡_ {A = ℕ} 0 1 = cc in omega arith
+    unfinished (left d) = d 1 (omega arith) refl
+    unfinished (back q) = let z : _≡_ {A = ℕ} 1028 1024 = q in omega arith
+
+    go : Finish 1024 0 1024 1096 shortest lr (begin shortest 0) (Step 0) ⊎ ((1 < 1) × Unit {0}) → ⊥
+    go (inl f) = unfinished f
+    go (inr f) = omega (arith, f .0)
+
+-- ---- what the claim asks of other events is needed
+
+-- hart 0's step after these events
+abbrev next : List Event → Outcome
+next es = answered 1024 (runOf 1024 (begin leaving 0) es) (Step 0)
+
+-- After the LR, hart 1 stores into the set, beside the LR's bytes. This, and nothing else that is asked, fails; and so does the SC.
+pub record Disturbed : Type 0 where
+  pub told : noticeAt 1024 (runOf 1024 (begin leaving 0) (Step 0 ∷ [])) (Step 1) ≡ N.Write 1 1104 4
+  pub writes : WritesInto (noticeAt 1024 (runOf 1024 (begin leaving 0) (Step 0 ∷ [])) (Step 1)) (setOf 64 1096) 64
+  pub not-block : WritesInto (noticeAt 1024 (runOf 1024 (begin leaving 0) (Step 0 ∷ [])) (Step 1)) 1024 (4 * length leaving) → ⊥
+  pub no-yield : noticeAt 1024 (runOf 1024 (begin leaving 0) (Step 0 ∷ [])) (Step 1) ≢ N.Yield 0
+  pub fails : next (Step 0 ∷ Step 1 ∷ Step 0 ∷ []) ≡ O.ScFailed
+
+pub disturbed : Disturbed
+unfolding toLe signExtend ofInt toInt low classOf branchOf storeOf sizedOf lrOf atomicOf decodeOf refusalOf memoryOk stateOk hartOk reservationOk insideOf allBelow valueAt le part splice regAt touches coversOf breaksOf ownOf observeOf observeAllOf holdsOf execBranch faultOf checked execStore execLr execSc execAtomic execute executeWord setReg apply leaves fetchOf deviceOf actOn actOf answerOf memoryOf nextOf runOf Touch
+disturbed =
+    record {
+      told = refl;
+      writes = (1104, omega arith, omega arith, omega arith, omega arith);
+      not-block = λ t. absurd (omega arith);
+      no-yield = λ y. let z : _≡_ {A = ℕ} 0 1 = cc in omega arith;
+      fails = refl;
+    }
+
+-- A yield of hart 0 makes its SC fail, and so does a device write to a byte that the LR read; a device write into the loop, of ECALL, makes it trap.
+pub record Broken : Type 0 where
+  pub yields : next (Step 0 ∷ Yield 0 ∷ Step 0 ∷ []) ≡ O.ScFailed
+  pub device : next (Step 0 ∷ Device 1099 1 0 ∷ Step 0 ∷ []) ≡ O.ScFailed
+  pub code-changes : next (Step 0 ∷ Device 1028 4 0x73 ∷ []) ≡ O.Trap 8 0
+
+pub broken : Broken
+unfolding toLe signExtend ofInt toInt low classOf branchOf systemOf sizedOf lrOf atomicOf decodeOf refusalOf memoryOk stateOk hartOk reservationOk insideOf allBelow valueAt le part splice regAt touches coversOf breaksOf ownOf observeOf observeAllOf holdsOf execBranch faultOf checked execLr execSc execAtomic execute executeWord setReg apply leaves fetchOf deviceOf actOn actOf answerOf memoryOf nextOf runOf
+broken = record { yields = refl; device = refl; code-changes = refl }

@@ -1,0 +1,4 @@
+-- Retry loops finish.
+pub mod Does
+pub mod Retry
+pub mod Examples

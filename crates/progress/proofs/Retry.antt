@@ -1,0 +1,553 @@
+-- Demand 3: an accepted retry loop that is left alone finishes. Assumes nothing.
+use mathlib.Core.Path.{_≡_, refl, sym, _∙_, ap, ap₂, subst}
+use mathlib.Core.Logic.{_≢_, _⊎_, inl, inr}
+use mathlib.Core.Bool.{Bool, true, false, cond}
+use mathlib.Core.List.{List, [], _∷_, _++_}
+use Prim.Native.Nat.{ℕ, suc, _+_, _*_, _-_, _/_, _^_, _%_, _≤_, _<_}
+use native.Mathlib.Omega.{arith}
+use native.Mathlib.Decide.{decLt}
+use lib.ListN.{length, getD}
+use lib.Seq.{getD-set-same}
+use borrow.Author.Tests.{eqb-true, eqb-false, eq-eqb}
+use Rattle.word.specs.Bytes.{toLe}
+use Rattle.word.specs.Memory.{part}
+use Rattle.word.proofs.BytesLaws.{length-toLe}
+use Rattle.word.proofs.MemoryLaws.{part-splice}
+use Rattle.reserve.specs.Range.{Touch, Inside, setOf}
+use Rattle.reserve.specs.Reserve.{coversOf, observeOf}
+use Rattle.reserve.specs.declared.Reservation.{Reservation}
+use Rattle.reserve.specs.declared.Reservation.the-variants.{Held}
+use Rattle.reserve.specs.declared.Notice.{Notice}
+use Rattle.reserve.specs.declared.Notice.the-variants as N
+use Rattle.reserve.proofs.RangeLaws.{of-inside}
+use Rattle.isa.specs.Width.{bytesOf}
+use Rattle.isa.specs.Wf.{Regs}
+use Rattle.isa.specs.Decode.{decodeOf}
+use Rattle.isa.specs.declared.Atomic.{Atomic}
+use Rattle.isa.specs.declared.AtomicOp.the-variants as A
+use Rattle.isa.specs.declared.Instr.{Instr}
+use Rattle.isa.specs.declared.Instr.the-variants as I
+use Rattle.isa.proofs.DecodeLaws.{regs-below}
+use Rattle.machine.specs.Rules.{Shaped}
+use Rattle.effect.specs.Effect.{Writes, one, Touch as Touched, nothing, reserve, scStore, Exec, noticeOf, nextOf as afterwards}
+use Rattle.effect.specs.Memory.{valueAt}
+use Rattle.effect.specs.Execute.{regAt, execute}
+use Rattle.effect.proofs.Sound.{width-is}
+use Rattle.events.specs.declared.Event.{Event}
+use Rattle.events.specs.declared.Event.the-variants.{Step, Device, Yield}
+use Rattle.model.specs.Act.{Act, change, told, retiredAs, actNotice, written, countersAfter, registersAfter, apply, leaves}
+use Rattle.model.specs.Perform.{Machine, reservationOf, ofExec, actOf, answerOf, memoryOf, nextOf, runOf}
+use Rattle.model.specs.Valid.{Valid}
+use Rattle.model.specs.Trace.{noticeAt, WritesInto, NotBy}
+use Rattle.model.specs.Fetch.{Fetches}
+use Rattle.model.specs.declared.Outcome.the-variants as O
+use Rattle.model.proofs.Valid.{valid-next, length-next}
+use Rattle.model.proofs.Frame.{count-next, shaped-next, other-reg, other-pc, not-by, res-next, observe-quiet, value-next, step-act}
+use Rattle.history.specs.History.{Spares}
+use Rattle.history.proofs.History.{made, kept}
+use Rattle.retry.specs.Loop.{viewOf, viewAt, checkOf}
+use Rattle.retry.specs.Reasons.{LrAt}
+use Rattle.retry.specs.declared.LoopAnswer.the-variants.{Accepted}
+use Rattle.retry.specs.declared.View.{View}
+use Rattle.retry.specs.declared.View.the-variants.{Lr, Sc, Plain, Jump, Branch, Other}
+use Rattle.retry.proofs.ViewLaws.{Seen, SeenLr, SeenSc, seen, lr-view}
+use Rattle.retry.proofs.Accepted.{Ahead, Home, Keeps, Before, After, Block, block}
+use Rattle.progress.specs.Claim.{answered, pcOf, isStep, Fine, Start, Harmless, Finish, stored, left, back, Safe, Finishes, Calm, Unfinished, steps, NextStep}
+use Rattle.progress.proofs.Does.{Moves, Does, does, does-lr, does-sc}
+
+-- ---- notices
+
+touch-in : (b k a n c l : ℕ) → c ≤ a → a + n ≤ c + l → Touch b k a n → Touch b k c l
+unfolding Touch
+touch-in b k a n c l low high t = (t .0, t .1, t .2, omega arith, omega arith)
+
+-- what writes into bytes writes into any that hold them
+writes-in : (nt : Notice) (a n c l : ℕ) → c ≤ a → a + n ≤ c + l → WritesInto nt a n → WritesInto nt c l
+writes-in N.Quiet a n c l low high t = t
+writes-in (N.LoadReserved g b w) a n c l low high t = t
+writes-in (N.ScDone g b k) a n c l low high t = touch-in b k a n c l low high t
+writes-in (N.ScFailed g) a n c l low high t = t
+writes-in (N.Write g b k) a n c l low high t = touch-in b k a n c l low high t
+writes-in (N.DeviceWrite b k) a n c l low high t = touch-in b k a n c l low high t
+writes-in (N.Yield g) a n c l low high t = t
+
+-- An event of others that doesn't write into the set, and no yield of the hart, spares what its LR reserved.
+spares : (h addr w : ℕ) → Inside (setOf 64 addr) 64 addr w → (nt : Notice) → NotBy h nt → (WritesInto nt (setOf 64 addr) 64 → ⊥) → nt ≢ N.Yield h
+    → Spares 64 h addr w nt
+unfolding Spares
+spares h addr w i N.Quiet d r y = tt
+spares h addr w i (N.LoadReserved g b v) d r y = d
+spares h addr w i (N.ScDone g b k) d r y = (d, r)
+spares h addr w i (N.ScFailed g) d r y = d
+spares h addr w i (N.Write g b k) d r y = λ z. r
+spares h addr w i (N.DeviceWrite b k) d r y = λ t. r (touch-in b k addr w (setOf 64 addr) 64 (i .0) (i .1) t)
+spares h addr w i (N.Yield g) d r y = λ z. y (ap N.Yield z)
+
+-- the bytes of an aligned LR lie in its set
+in-set : (addr w : ℕ) → (w ≡ 4) ⊎ (w ≡ 8) → addr % w ≡ 0 → Inside (setOf 64 addr) 64 addr w
+in-set addr w (inl q) e = let f : addr % 4 ≡ 0 = subst (λ (x : ℕ). addr % x ≡ 0) q e in (omega arith, omega arith)
+in-set addr w (inr q) e = let f : addr % 8 ≡ 0 = subst (λ (x : ℕ). addr % x ≡ 0) q e in (omega arith, omega arith)
+
+-- ---- events
+
+step-is : (h : ℕ) (e : Event) → isStep h e ≡ true → e ≡ Step h
+step-is h (Step g) t = ap Step (eqb-true g h t)
+step-is h (Device a n v) t = absurd (let z : _≡_ {A = ℕ} 0 1 = cc in omega arith)
+step-is h (Yield g) t = absurd (let z : _≡_ {A = ℕ} 0 1 = cc in omega arith)
+
+not-step : (h : ℕ) (e : Event) → isStep h e ≡ false → e ≢ Step h
+not-step h (Step g) f q = eqb-false g h f (let z : g ≡ h = cc in z)
+not-step h (Device a n v) f q = let z : _≡_ {A = ℕ} 0 1 = cc in omega arith
+not-step h (Yield g) f q = let z : _≡_ {A = ℕ} 0 1 = cc in omega arith
+
+-- ---- a step that retires, from its act
+
+module _ (base : ℕ) (m : Machine) (h : ℕ) (ws : Writes) (to : ℕ) (t : Touched) (q : actOf base (m .mem) (m .state) (Step h) ≡ change h ws to t) where
+  said : answered base m (Step h) ≡ retiredAs (noticeOf h t)
+  unfolding answerOf
+  said = ap told q
+
+  noticed : noticeAt base m (Step h) ≡ noticeOf h t
+  noticed = ap actNotice q
+
+  goes : h < length (m .state .pc) → pcOf (nextOf base m (Step h)) h ≡ to
+  unfolding nextOf answerOf apply
+  goes l = ap (λ (a : Act). getD (countersAfter a (m .state .pc)) h 0) q ∙ getD-set-same (m .state .pc) h to 0 l
+
+  regs : (r : ℕ) → regAt (nextOf base m (Step h) .state .x) h r ≡ regAt (written h ws (m .state .x)) h r
+  unfolding nextOf answerOf apply
+  regs r = ap (λ (a : Act). regAt (registersAfter a (m .state .x)) h r) q
+
+  leaves-mem : nextOf base m (Step h) .mem ≡ leaves base (m .mem) (change h ws to t)
+  unfolding nextOf memoryOf
+  leaves-mem = ap (leaves base (m .mem)) q
+
+-- ---- the loop: an LR at place 0, the first SC at place j
+
+module _ (base h p addr : ℕ) (words : List ℕ) (lr : Atomic) (j : ℕ)
+    (aligned : addr % bytesOf (lr .width) ≡ 0)
+    (first : decodeOf (getD words 0 0) ≡ I.Amo lr) (isLr : lr .op ≡ A.Lr)
+    (keeps : Keeps (lr .rs1) (lr .rd))
+    (j-pos : 0 < j) (j-in : j < length words)
+    (sc-view : viewAt words j ≡ Sc (lr .rs1) (bytesOf (lr .width)))
+    (before : (k : ℕ) → 0 < k → k < j → Before (lr .rs1) (viewAt words k))
+    (after : (k : ℕ) → j < k → k < length words → After k (viewAt words k)) where
+  own-set : Inside (setOf 64 addr) 64 addr (bytesOf (lr .width))
+  own-set = in-set addr (bytesOf (lr .width)) (width-is (lr .width)) aligned
+
+  lr-regs : Regs (I.Amo lr)
+  lr-regs = subst Regs first (regs-below (getD words 0 0))
+
+  -- what holds at every place
+  record Ground (m : Machine) : Type 0 where
+    valid : Valid base m
+    shaped : Shaped (m .state)
+    used : h < m .state .count
+    placed : (k : ℕ) → k < length words → valueAt base (m .mem) (p + 4 * k) 4 ≡ getD words k 0
+    mapped : (k : ℕ) → k < length words → Inside base (length (m .mem)) (p + 4 * k) 4
+    reachable : Inside base (length (m .mem)) addr (bytesOf (lr .width))
+
+  -- the hart stands at place i
+  record At (m : Machine) (i : ℕ) : Type 0 where
+    ground : Ground m
+    here : pcOf m h ≡ p + 4 * i
+    inLoop : i < length words
+    source : i ≤ j → regAt (m .state .x) h (lr .rs1) ≡ addr
+    holds : 0 < i → i ≤ j → reservationOf (m .state) h ≡ Held addr (bytesOf (lr .width))
+
+  ground-next : (m : Machine) (e : Event) → Ground m → (WritesInto (noticeAt base m e) p (4 * length words) → ⊥) → Ground (nextOf base m e)
+  ground-next m e g d =
+      record {
+        valid = valid-next base m (g .valid) e;
+        shaped = shaped-next base m e (g .shaped);
+        used = subst (λ (c : ℕ). h < c) (sym (count-next base m e)) (g .used);
+        placed = λ k l.
+            value-next base m e (g .valid) (p + 4 * k) 4 (g .mapped k l .0)
+            (λ t. d (writes-in (noticeAt base m e) (p + 4 * k) 4 p (4 * length words) (omega arith) (omega arith) t))
+            ∙ g .placed k l;
+        mapped = λ k l. subst (λ (n : ℕ). Inside base n (p + 4 * k) 4) (sym (length-next base m (g .valid) e)) (g .mapped k l);
+        reachable = subst (λ (n : ℕ). Inside base n addr (bytesOf (lr .width))) (sym (length-next base m (g .valid) e)) (g .reachable);
+      }
+
+  -- an event of others
+  stays : (m : Machine) (i : ℕ) (e : Event) → At m i → e ≢ Step h → Harmless base h p addr words lr m e → At (nextOf base m e) i
+  stays m i e a d s =
+      record {
+        ground = ground-next m e (a .ground) (s .block);
+        here = other-pc base m e h d ∙ a .here;
+        inLoop = a .inLoop;
+        source = λ l. other-reg base m e h d (lr .rs1) ∙ a .source l;
+        holds = λ o l.
+            res-next base m e (a .ground .valid) (a .ground .shaped) h (a .ground .used)
+            ∙ ap (observeOf 64 h (noticeAt base m e)) (a .holds o l)
+            ∙ kept 64 h addr (bytesOf (lr .width)) (noticeAt base m e)
+            (spares h addr (bytesOf (lr .width)) own-set (noticeAt base m e) (not-by base m e h d) (s .reserved) (s .stays));
+      }
+
+  -- ---- the hart's own step
+
+  Onward : Machine → ℕ → Type 0
+  Onward m i = Finish base h p addr words lr m (Step h) ⊎ ((i′ : ℕ) × (i < i′) × At (nextOf base m (Step h)) i′)
+
+  Good : Machine → ℕ → Type 0
+  Good m i = Fine (answered base m (Step h)) × Onward m i
+
+  module _ (m : Machine) (i : ℕ) (a : At m i) where
+    -- what an instruction does here, and the word at the place
+    abbrev by : Instr → Exec
+    by n =
+        execute 64 n (valueAt base (m .mem) (pcOf m h) 4) (regAt (m .state .x) h) (pcOf m h) base (m .mem) (coversOf 64 (reservationOf (m .state) h))
+
+    abbrev exec : Exec
+    exec = by (decodeOf (getD words i 0))
+
+    fetches : Fetches base m h (decodeOf (getD words i 0))
+    fetches =
+        record {
+          inside = subst (λ (x : ℕ). Inside base (length (m .mem)) x 4) (sym (a .here)) (a .ground .mapped i (a .inLoop));
+          decodes = ap decodeOf (ap (λ (x : ℕ). valueAt base (m .mem) x 4) (a .here) ∙ a .ground .placed i (a .inLoop));
+        }
+
+    act-is : actOf base (m .mem) (m .state) (Step h) ≡ ofExec h exec
+    act-is = step-act base m (a .ground .valid) h (a .ground .used) (decodeOf (getD words i 0)) fetches
+
+    hart-8 : h < 8
+    hart-8 = omega (arith, a .ground .used, a .ground .valid .1 .1)
+
+    low : p + 4 * i + 4 ≤ 2 ^ 41
+    low = omega (arith, a .ground .mapped i (a .inLoop) .1, a .ground .valid .0 .1, a .ground .valid .0 .4)
+
+    pc-low : pcOf m h + 4 < 2 ^ 64
+    pc-low = omega (arith, a .here, low)
+
+    pc-aligned : pcOf m h % 4 ≡ 0
+    pc-aligned = a .ground .valid .1 .2 h (a .ground .used) .1
+
+    -- it retires and goes to a later place: there, or out of the loop
+    module _ (rd i′ : ℕ) (t : Touched) (mv : Moves exec rd (p + 4 * i′) t) (on : i < i′)
+        (quiet : WritesInto (noticeOf h t) p (4 * length words) → ⊥) (rs1-kept : i′ ≤ j → Keeps (lr .rs1) rd)
+        (res-held : i′ ≤ j → observeOf 64 h (noticeOf h t) (reservationOf (m .state) h) ≡ Held addr (bytesOf (lr .width))) where
+      changed : actOf base (m .mem) (m .state) (Step h) ≡ change h (mv .ws) (p + 4 * i′) t
+      changed = act-is ∙ ap (ofExec h) (mv .is)
+
+      to-there : pcOf (nextOf base m (Step h)) h ≡ p + 4 * i′
+      to-there = goes base m h (mv .ws) (p + 4 * i′) t changed (omega (arith, hart-8, a .ground .shaped .counters))
+
+      arrive : Onward m i
+      unfolding Onward
+      arrive = go (decLt i′ (length words))
+        where
+          go : Dec (i′ < length words) → Finish base h p addr words lr m (Step h) ⊎ ((i′ : ℕ) × (i < i′) × At (nextOf base m (Step h)) i′)
+          go (yes b) =
+              inr (
+                i′,
+                on,
+                record {
+                  ground = ground-next m (Step h) (a .ground)
+                      (subst (λ (n : Notice). WritesInto n p (4 * length words) → ⊥) (sym (noticed base m h (mv .ws) (p + 4 * i′) t changed)) quiet);
+                  here = to-there;
+                  inLoop = b;
+                  source = λ l.
+                      regs base m h (mv .ws) (p + 4 * i′) t changed (lr .rs1) ∙ mv .kept (m .state .x) h (lr .rs1) (lr-regs .1) (rs1-kept l)
+                      ∙ a .source (omega arith);
+                  holds = λ z l.
+                      res-next base m (Step h) (a .ground .valid) (a .ground .shaped) h (a .ground .used)
+                      ∙ ap (λ (n : Notice). observeOf 64 h n (reservationOf (m .state) h)) (noticed base m h (mv .ws) (p + 4 * i′) t changed)
+                      ∙ res-held l;
+                },
+              )
+          go (no b) = inl (left (λ k l x. let y : p + 4 * k ≡ p + 4 * i′ = sym x ∙ to-there in b (omega arith)))
+
+      fine : Fine (retiredAs (noticeOf h t)) → Fine (answered base m (Step h))
+      fine f = subst Fine (sym (said base m h (mv .ws) (p + 4 * i′) t changed)) f
+
+    -- a word that tells nothing
+    silent : (rd i′ : ℕ) → Moves exec rd (p + 4 * i′) nothing → i < i′ → 0 < i → (i < j → Keeps (lr .rs1) rd) → Good m i
+    unfolding Good
+    silent rd i′ mv on z ks = (
+      fine rd i′ nothing mv on (λ t. t) (λ l. ks (omega arith)) (λ l. observe-quiet 64 h _ ∙ a .holds z (omega arith)) tt,
+      arrive rd i′ nothing mv on (λ t. t) (λ l. ks (omega arith)) (λ l. observe-quiet 64 h _ ∙ a .holds z (omega arith)),
+    )
+
+    forward : (rd off : ℕ) → Moves exec rd ((pcOf m h + off) % 2 ^ 64) nothing → Ahead off → 0 < i → (i < j → Keeps (lr .rs1) rd) → Good m i
+    forward rd off mv f z ks =
+        silent rd (i + off / 4) (subst (λ (x : ℕ). Moves exec rd x nothing) (omega (arith, low, a .here)) mv) (omega arith) z ks
+
+    in-order : (rd : ℕ) → Moves exec rd (pcOf m h + 4) nothing → 0 < i → (i < j → Keeps (lr .rs1) rd) → Good m i
+    in-order rd mv z ks =
+        silent rd (i + 1) (subst (λ (x : ℕ). Moves exec rd x nothing) (omega (arith, a .here)) mv) (omega arith) z ks
+
+    home : (rd off : ℕ) → Moves exec rd ((pcOf m h + off) % 2 ^ 64) nothing → Home i off → Good m i
+    unfolding Good Onward
+    home rd off mv f =
+        let q : actOf base (m .mem) (m .state) (Step h) ≡ change h (mv .ws) ((pcOf m h + off) % 2 ^ 64) nothing = act-is ∙ ap (ofExec h) (mv .is) in (
+          subst Fine (sym (said base m h (mv .ws) ((pcOf m h + off) % 2 ^ 64) nothing q)) tt,
+          inl (back (goes base m h (mv .ws) ((pcOf m h + off) % 2 ^ 64) nothing q (omega (arith, hart-8, a .ground .shaped .counters)) ∙ omega (arith, low, a .here))),
+        )
+
+    -- between the LR and the first SC
+    middle : 0 < i → (v : View) → Before (lr .rs1) v → Does v (pcOf m h) exec → Good m i
+    middle z (Lr rd s u) b d = absurd b
+    middle z (Sc s u) b d = absurd b
+    middle z (Plain rd) b d = in-order rd d z (λ l. b)
+    middle z (Jump rd off) b d = forward rd off (d (b .0 .0)) (b .0) z (λ l. b .1)
+    middle z (Branch off) b d = go (d (b .0))
+      where
+        go : Moves exec 0 (pcOf m h + 4) nothing ⊎ Moves exec 0 ((pcOf m h + off) % 2 ^ 64) nothing → Good m i
+        go (inl mv) = in-order 0 mv z (λ l q. q)
+        go (inr mv) = forward 0 off mv b z (λ l q. q)
+    middle z Other b d = absurd b
+
+    -- after the first SC
+    turn : (rd off : ℕ) → j < i → Moves exec rd ((pcOf m h + off) % 2 ^ 64) nothing → Ahead off ⊎ Home i off → Good m i
+    turn rd off z mv (inl f) = forward rd off mv f (omega arith) (λ l. absurd (omega arith))
+    turn rd off z mv (inr f) = home rd off mv f
+
+    multiple : (off : ℕ) → Ahead off ⊎ Home i off → off % 4 ≡ 0
+    multiple off (inl f) = f .0
+    multiple off (inr f) = f .0
+
+    late : j < i → (v : View) → After i v → Does v (pcOf m h) exec → Good m i
+    late z (Lr rd s u) b d = absurd b
+    late z (Sc s u) b d = absurd b
+    late z (Plain rd) b d = in-order rd d (omega arith) (λ l. absurd (omega arith))
+    late z (Jump rd off) b d = turn rd off z (d (multiple off b)) b
+    late z (Branch off) b d = go (d (multiple off b))
+      where
+        go : Moves exec 0 (pcOf m h + 4) nothing ⊎ Moves exec 0 ((pcOf m h + off) % 2 ^ 64) nothing → Good m i
+        go (inl mv) = in-order 0 mv (omega arith) (λ l. absurd (omega arith))
+        go (inr mv) = turn 0 off z mv b
+    late z Other b d = absurd b
+
+    -- place 0
+    opening : i ≡ 0 → Good m i
+    unfolding Good
+    opening z = (
+      fine (lr .rd) 1 (reserve addr (bytesOf (lr .width))) mv (omega arith) (λ t. t) (λ l. keeps) (λ l. made 64 h addr (bytesOf (lr .width)) _) tt,
+      arrive (lr .rd) 1 (reserve addr (bytesOf (lr .width))) mv (omega arith) (λ t. t) (λ l. keeps) (λ l. made 64 h addr (bytesOf (lr .width)) _),
+    )
+      where
+        src : regAt (m .state .x) h (lr .rs1) ≡ addr
+        src = a .source (omega arith)
+
+        is : decodeOf (getD words i 0) ≡ I.Amo lr
+        is = ap (λ (k : ℕ). decodeOf (getD words k 0)) z ∙ first
+
+        at-lr : Moves (by (I.Amo lr)) (lr .rd) (pcOf m h + 4) (reserve (regAt (m .state .x) h (lr .rs1)) (bytesOf (lr .width)))
+        at-lr =
+            does-lr (pcOf m h) pc-aligned pc-low (valueAt base (m .mem) (pcOf m h) 4) (regAt (m .state .x) h) base (m .mem)
+            (coversOf 64 (reservationOf (m .state) h)) lr isLr lr-regs (ap (λ (x : ℕ). x % bytesOf (lr .width)) src ∙ aligned)
+            (subst (λ (x : ℕ). Inside base (length (m .mem)) x (bytesOf (lr .width))) (sym src) (a .ground .reachable))
+
+        next : pcOf m h + 4 ≡ p + 4 * 1
+        next = omega (arith, a .here)
+
+        mv : Moves exec (lr .rd) (p + 4 * 1) (reserve addr (bytesOf (lr .width)))
+        mv =
+            subst (λ (n : Instr). Moves (by n) (lr .rd) (p + 4 * 1) (reserve addr (bytesOf (lr .width)))) (sym is)
+            (subst (λ (x : ℕ). Moves (by (I.Amo lr)) (lr .rd) x (reserve addr (bytesOf (lr .width)))) next
+            (subst (λ (x : ℕ). Moves (by (I.Amo lr)) (lr .rd) (pcOf m h + 4) (reserve x (bytesOf (lr .width)))) src at-lr))
+
+    -- the place of the first SC
+    closing : i ≡ j → Good m i
+    unfolding Good Onward coversOf leaves
+    closing z = (
+      subst Fine (sym succeeds) tt,
+      inl
+          (stored
+          (record {
+            sc = s .of;
+            fetches = subst (Fetches base m h) (s .is) fetches;
+            isSc = s .kind;
+            succeeds = succeeds;
+            address = src;
+            width = s .width-is;
+            bytes = bytes;
+          })),
+    )
+      where
+        s : SeenSc (decodeOf (getD words i 0)) (lr .rs1) (bytesOf (lr .width))
+        s = subst (Seen (decodeOf (getD words i 0))) (ap (viewAt words) z ∙ sc-view) (seen (decodeOf (getD words i 0)))
+
+        new : List ℕ
+        new = toLe (bytesOf (lr .width)) (regAt (m .state .x) h (s .of .rs2))
+
+        src : regAt (m .state .x) h (s .of .rs1) ≡ addr
+        src = ap (regAt (m .state .x) h) (s .rs1-is) ∙ a .source (omega arith)
+
+        covered : coversOf 64 (reservationOf (m .state) h) addr (bytesOf (lr .width)) ≡ true
+        covered =
+            ap (λ (r : Reservation). coversOf 64 r addr (bytesOf (lr .width))) (a .holds (omega arith) (omega arith))
+            ∙ of-inside (setOf 64 addr) 64 addr (bytesOf (lr .width)) own-set
+
+        act : actOf base (m .mem) (m .state) (Step h) ≡ change h (one (s .of .rd) 0) (afterwards 64 (pcOf m h)) (scStore addr new)
+        act =
+            act-is
+            ∙ ap (λ (n : Instr). ofExec h (by n)) (s .is)
+            ∙ ap (ofExec h)
+            (does-sc (pcOf m h) pc-aligned pc-low (valueAt base (m .mem) (pcOf m h) 4) (regAt (m .state .x) h) base (m .mem)
+            (coversOf 64 (reservationOf (m .state) h)) (s .of) (s .kind) addr (bytesOf (lr .width)) src (s .width-is) aligned covered)
+
+        succeeds : answered base m (Step h) ≡ O.ScStored
+        succeeds = said base m h (one (s .of .rd) 0) (afterwards 64 (pcOf m h)) (scStore addr new) act
+
+        size : length new ≡ bytesOf (lr .width)
+        size = length-toLe (bytesOf (lr .width)) (regAt (m .state .x) h (s .of .rs2))
+
+        bytes : part (nextOf base m (Step h) .mem) (addr - base) (bytesOf (lr .width)) ≡ new
+        bytes =
+            ap₂ (λ (l : List ℕ) (n : ℕ). part l (addr - base) n)
+            (leaves-mem base m h (one (s .of .rd) 0) (afterwards 64 (pcOf m h)) (scStore addr new) act) (sym size)
+            ∙ part-splice (m .mem) (addr - base) new (omega (arith, size, a .ground .reachable .0, a .ground .reachable .1))
+
+    data Place : Type 0 where
+      at-lr : i ≡ 0 → Place
+      at-middle : 0 < i → i < j → Place
+      at-sc : i ≡ j → Place
+      at-late : j < i → Place
+
+    place : Place
+    place = go (decLt 0 i) (decLt i j) (decLt j i)
+      where
+        go : Dec (0 < i) → Dec (i < j) → Dec (j < i) → Place
+        go (no x) y z = at-lr (omega arith)
+        go (yes x) (yes y) z = at-middle x y
+        go (yes x) (no y) (yes z) = at-late z
+        go (yes x) (no y) (no z) = at-sc (omega arith)
+
+    -- the hart's step, at whatever place
+    own : Good m i
+    own = go place
+      where
+        d : Does (viewAt words i) (pcOf m h) exec
+        d =
+            does (pcOf m h) pc-aligned pc-low (valueAt base (m .mem) (pcOf m h) 4) (regAt (m .state .x) h) base (m .mem)
+            (coversOf 64 (reservationOf (m .state) h)) (decodeOf (getD words i 0)) (regs-below (getD words i 0))
+
+        go : Place → Good m i
+        go (at-lr z) = opening z
+        go (at-middle z l) = middle z (viewAt words i) (before i z l) d
+        go (at-sc z) = closing z
+        go (at-late z) = late z (viewAt words i) (after i z (a .inLoop)) d
+
+  -- the claim, from any place at which enough steps are left
+  safe : (es : List Event) (m : Machine) (i k : ℕ) → At m i → length words ≤ k + i → Safe base h p addr words lr k m es
+  unfolding Good Onward
+  safe [] m i k a l = tt
+  safe (e ∷ es) m i k a l = go (isStep h e) refl (λ i′ k′. safe es (nextOf base m e) i′ k′)
+    where
+      go : (t : Bool) → isStep h e ≡ t
+          → ((i′ k′ : ℕ) → At (nextOf base m e) i′ → length words ≤ k′ + i′ → Safe base h p addr words lr k′ (nextOf base m e) es)
+          → cond t
+          (Fine (answered base m e) × (Finish base h p addr words lr m e ⊎ ((1 < k) × Safe base h p addr words lr (k - 1) (nextOf base m e) es)))
+          (Harmless base h p addr words lr m e → Safe base h p addr words lr k (nextOf base m e) es)
+      go false q ih = λ s. ih i k (stays m i e a (not-step h e q) s) l
+      go true q ih = (g .0, on (g .1))
+        where
+          g : Fine (answered base m e) × (Finish base h p addr words lr m e ⊎ ((i′ : ℕ) × (i < i′) × At (nextOf base m e) i′))
+          g =
+              subst (λ (d : Event). Fine (answered base m d) × (Finish base h p addr words lr m d ⊎ ((i′ : ℕ) × (i < i′) × At (nextOf base m d) i′)))
+              (sym (step-is h e q)) (own m i a)
+
+          on : Finish base h p addr words lr m e ⊎ ((i′ : ℕ) × (i < i′) × At (nextOf base m e) i′)
+              → Finish base h p addr words lr m e ⊎ ((1 < k) × Safe base h p addr words lr (k - 1) (nextOf base m e) es)
+          on (inl f) = inl f
+          on (inr s) = let b : s .0 < length words = s .2 .inLoop in inr (omega arith, ih (s .0) (k - 1) (s .2) (omega arith))
+
+-- Every accepted block has the LR that the start names.
+pub has-lr : (words : List ℕ) → checkOf words ≡ Accepted → (lr : Atomic) × LrAt words 0 lr
+has-lr words q =
+    let b : Block words = block words q in
+    let s : SeenLr (decodeOf (getD words 0 0)) (b .rd) (b .rs1) (b .width) = subst (Seen (decodeOf (getD words 0 0))) (b .lr-is) (seen (decodeOf (getD words 0 0))) in
+    (s .of, (record { inBlock = omega (arith, b .inBlock); decodes = s .is }, s .kind))
+
+module _ (base h p addr : ℕ) (words : List ℕ) (lr : Atomic) (m : Machine) (st : Start base h p addr words lr m) where
+  b : Block words
+  b = block words (st .accepted)
+
+  -- the LR that acceptance tells of is the start's
+  same : Lr (b .rd) (b .rs1) (b .width) ≡ Lr (lr .rd) (lr .rs1) (bytesOf (lr .width))
+  same = sym (b .lr-is) ∙ ap viewOf (st .first .0 .decodes) ∙ lr-view lr (st .first .1)
+
+  rd-same : b .rd ≡ lr .rd
+  rd-same = cc same
+
+  rs1-same : b .rs1 ≡ lr .rs1
+  rs1-same = cc same
+
+  width-same : b .width ≡ bytesOf (lr .width)
+  width-same = cc same
+
+  -- Demand 3: from a start, every list of events is safe for as many steps of the hart as the block has words.
+  pub retry : Finishes base h p addr words lr m
+  retry es =
+      safe base h p addr words lr (b .sc) (st .aligned) (st .first .0 .decodes) (st .first .1)
+      (λ q. let f : b .rs1 ≡ 0 = b .keeps (rs1-same ∙ q ∙ sym rd-same) in sym rs1-same ∙ f) (b .later) (b .inBlock)
+      (b .sc-is-first ∙ ap₂ Sc rs1-same width-same)
+      (λ k z l. subst (λ (r : ℕ). Before r (viewAt words k)) rs1-same (b .before k z l)) (b .after) es m 0 _
+      (record {
+        ground =
+            record { valid = st .valid; shaped = st .shaped; used = st .used; placed = st .placed; mapped = st .mapped; reachable = st .reachable };
+        here = omega (arith, st .here);
+        inLoop = omega (arith, b .inBlock);
+        source = λ l. st .address;
+        holds = λ z l. absurd (omega arith);
+      })
+      (omega arith)
+
+-- ---- the claim without recursion
+
+module _ (base h p addr : ℕ) (words : List ℕ) (lr : Atomic) where
+  -- with k steps left
+  record Told (k : ℕ) (m : Machine) (so-far : List Event) : Type 0 where
+    fine : Fine (answered base (runOf base m so-far) (Step h))
+    bounded : steps h so-far < k
+    finishes : suc (steps h so-far) ≡ k → Finish base h p addr words lr (runOf base m so-far) (Step h)
+
+  flat : (so-far : List Event) (k : ℕ) (m : Machine) → 0 < k → Calm base h p addr words lr m so-far → Unfinished base h p addr words lr m so-far
+      → Safe base h p addr words lr k m (so-far ++ Step h ∷ []) → Told k m so-far
+  unfolding runOf
+  flat [] k m z c u s = record { fine = g .0; bounded = z; finishes = last (g .1) }
+    where
+      g : Fine (answered base m (Step h)) × (Finish base h p addr words lr m (Step h) ⊎ ((1 < k) × Unit {0}))
+      g =
+          subst (λ (t : Bool).
+          cond t (Fine (answered base m (Step h)) × (Finish base h p addr words lr m (Step h) ⊎ ((1 < k) × Unit {0})))
+          (Harmless base h p addr words lr m (Step h) → Unit {0})) (eq-eqb h h refl) s
+
+      last : Finish base h p addr words lr m (Step h) ⊎ ((1 < k) × Unit {0}) → 1 ≡ k → Finish base h p addr words lr m (Step h)
+      last (inl f) q = f
+      last (inr f) q = absurd (omega arith)
+  flat (d ∷ so-far) k m z c u s = go (isStep h d) refl s (λ k′ z′ s′. flat so-far k′ (nextOf base m d) z′ (c .1) (u .1) s′)
+    where
+      go : (t : Bool) → isStep h d ≡ t
+          → cond t
+          (Fine (answered base m d)
+          × (Finish base h p addr words lr m d ⊎ ((1 < k) × Safe base h p addr words lr (k - 1) (nextOf base m d) (so-far ++ Step h ∷ []))))
+          (Harmless base h p addr words lr m d → Safe base h p addr words lr k (nextOf base m d) (so-far ++ Step h ∷ []))
+          → ((k′ : ℕ) → 0 < k′ → Safe base h p addr words lr k′ (nextOf base m d) (so-far ++ Step h ∷ []) → Told k′ (nextOf base m d) so-far)
+          → Told k m (d ∷ so-far)
+      go false q x ih =
+          let y : Told k (nextOf base m d) so-far = ih k z (x (c .0 q)) in
+          let l : steps h (d ∷ so-far) ≡ steps h so-far = rw q in
+          let b : steps h so-far < k = y .bounded in
+          record { fine = y .fine; bounded = omega arith; finishes = λ r. y .finishes (omega arith) }
+      go true q x ih = on (x .1)
+        where
+          on : Finish base h p addr words lr m d ⊎ ((1 < k) × Safe base h p addr words lr (k - 1) (nextOf base m d) (so-far ++ Step h ∷ []))
+              → Told k m (d ∷ so-far)
+          on (inl f) = absurd (u .0 q f)
+          on (inr f) =
+              let o : 1 < k = f .0 in
+              let y : Told (k - 1) (nextOf base m d) so-far = ih (k - 1) (omega arith) (f .1) in
+              let l : steps h (d ∷ so-far) ≡ suc (steps h so-far) = rw q in
+              let b : steps h so-far < k - 1 = y .bounded in
+              record { fine = y .fine; bounded = omega arith; finishes = λ r. y .finishes (omega arith) }
+
+  -- Demand 3 without recursion.
+  pub next-step : (m : Machine) → Start base h p addr words lr m → (so-far : List Event) → Calm base h p addr words lr m so-far
+      → Unfinished base h p addr words lr m so-far → NextStep base h p addr words lr m so-far
+  next-step m st so-far c u =
+      let r : Told (length words) m so-far =
+      flat so-far (length words) m (omega (arith, st .first .0 .inBlock)) c u (retry base h p addr words lr m st (so-far ++ Step h ∷ [])) in
+      record { fine = r .fine; bounded = r .bounded; finishes = r .finishes }

@@ -1,0 +1,141 @@
+-- Demand 3, "an accepted retry loop left alone finishes within as many steps of its hart as it has words, without a refusal, a trap or a failed SC
+-- of that hart", in the words of 01 ("The words of demand 3"). The events are those of `perform`: answerOf and nextOf are what it computes.
+use mathlib.Core.Path.{_≡_}
+use mathlib.Core.Logic.{_≢_, _⊎_}
+use mathlib.Core.Bool.{Bool, true, false, cond}
+use mathlib.Core.List.{List, [], _∷_}
+use Prim.Native.Nat.{ℕ, suc, _+_, _*_, _-_, _%_, _<_}
+use lib.Dec.{eqb}
+use lib.ListN.{length, getD}
+use Rattle.word.specs.Bytes.{toLe}
+use Rattle.word.specs.Memory.{part}
+use Rattle.reserve.specs.Range.{Inside, setOf}
+use Rattle.reserve.specs.declared.Notice.the-variants as N
+use Rattle.isa.specs.Width.{bytesOf}
+use Rattle.isa.specs.declared.Atomic.{Atomic}
+use Rattle.isa.specs.declared.AtomicOp.the-variants.{Sc}
+use Rattle.isa.specs.declared.Instr.the-variants.{Amo}
+use Rattle.machine.specs.Rules.{Shaped}
+use Rattle.effect.specs.Execute.{regAt}
+use Rattle.effect.specs.Memory.{valueAt}
+use Rattle.events.specs.declared.Event.{Event}
+use Rattle.events.specs.declared.Event.the-variants.{Step, Device, Yield}
+use Rattle.model.specs.Perform.{Machine, answerOf, nextOf, runOf}
+use Rattle.model.specs.Valid.{Valid}
+use Rattle.model.specs.Trace.{noticeAt, WritesInto}
+use Rattle.model.specs.Fetch.{Fetches}
+use Rattle.model.specs.declared.Outcome.{Outcome}
+use Rattle.model.specs.declared.Outcome.the-variants as O
+use Rattle.retry.specs.Loop.{checkOf}
+use Rattle.retry.specs.Reasons.{LrAt}
+use Rattle.retry.specs.declared.LoopAnswer.the-variants.{Accepted}
+
+-- the answer to an event
+abbrev pub answered : ℕ → Machine → Event → Outcome
+answered base m e = answerOf base (m .mem) (m .state) e .outcome
+
+-- a hart's pc
+abbrev pub pcOf : Machine → ℕ → ℕ
+pcOf m h = getD (m .state .pc) h 0
+
+-- the event is a step of hart h
+abbrev pub isStep : ℕ → Event → Bool
+isStep h (Step g) = eqb g h
+isStep h (Device a n v) = false
+isStep h (Yield g) = false
+
+-- how many of the events are steps of hart h
+abbrev pub steps : ℕ → List Event → ℕ
+steps h [] = 0
+steps h (e ∷ es) = cond (isStep h e) (suc (steps h es)) (steps h es)
+
+-- "without a refusal, a trap or a failed SC"
+abbrev pub Fine : Outcome → Type 0
+Fine O.Retired = Unit {0}
+Fine O.ScStored = Unit {0}
+Fine O.ScFailed = ⊥
+Fine (O.Trap cause value) = ⊥
+Fine (O.Refused number) = ⊥
+
+-- A memory at base; hart h; a block of words whose place 0 stands at p and is the LR lr; the LR's address addr.
+module _ (base h p addr : ℕ) (words : List ℕ) (lr : Atomic) where
+  -- where the claim starts
+  pub record Start (m : Machine) : Type 0 where
+    -- "a memory and a state that 1 and 2 don't refuse, with any reservations": a value of the state's type, whose arrays have their lengths
+    pub valid : Valid base m
+    pub shaped : Shaped (m .state)
+    -- "and a hart below the count"
+    pub used : h < m .state .count
+    -- "Its pc is the address of place 0"
+    pub here : pcOf m h ≡ p
+    -- "of an accepted block"
+    pub accepted : checkOf words ≡ Accepted
+    -- "the word at place k stands at that address plus 4k"
+    pub placed : (k : ℕ) → k < length words → valueAt base (m .mem) (p + 4 * k) 4 ≡ getD words k 0
+    -- "every word of the block inside memory"
+    pub mapped : (k : ℕ) → k < length words → Inside base (length (m .mem)) (p + 4 * k) 4
+    -- "The LR's address is the value of its rs1 in this state"
+    pub first : LrAt words 0 lr
+    pub address : regAt (m .state .x) h (lr .rs1) ≡ addr
+    -- "aligned to the LR's width"
+    pub aligned : addr % bytesOf (lr .width) ≡ 0
+    -- "its 4 or 8 bytes inside memory"
+    pub reachable : Inside base (length (m .mem)) addr (bytesOf (lr .width))
+
+  -- The event leaves the loop alone: it is no write into the loop's words, nor into the reserved set, "the set around it, from the first event on",
+  -- and no yield of the hart. A refused event and a trap do none of these.
+  pub record Harmless (m : Machine) (e : Event) : Type 0 where
+    pub block : WritesInto (noticeAt base m e) p (4 * length words) → ⊥
+    pub reserved : WritesInto (noticeAt base m e) (setOf 64 addr) 64 → ⊥
+    pub stays : noticeAt base m e ≢ N.Yield h
+
+  -- With the event hart h makes an SC that succeeds at the LR's address: "An SC succeeds or fails by the rule above, also where its rd is x0; the
+  -- successful one leaves the low 4 or 8 bytes of rs2 at the LR's address."
+  pub record Stored (m : Machine) (e : Event) : Type 0 where
+    pub sc : Atomic
+    pub fetches : Fetches base m h (Amo sc)
+    pub isSc : sc .op ≡ Sc
+    pub succeeds : answered base m e ≡ O.ScStored
+    pub address : regAt (m .state .x) h (sc .rs1) ≡ addr
+    pub width : bytesOf (sc .width) ≡ bytesOf (lr .width)
+    pub bytes : part (nextOf base m e .mem) (addr - base) (bytesOf (lr .width)) ≡ toLe (bytesOf (lr .width)) (regAt (m .state .x) h (sc .rs2))
+
+  -- "The hart has left the loop when its pc is the address of none of the block's words, and has come back when, after a step, its pc is that of
+  -- place 0."
+  pub data Finish (m : Machine) (e : Event) : Type 0 where
+    stored : Stored m e → Finish m e
+    left : ((k : ℕ) → k < length words → pcOf (nextOf base m e) h ≢ p + 4 * k) → Finish m e
+    back : pcOf (nextOf base m e) h ≡ p → Finish m e
+
+  -- From m on, hart h makes no step but fine ones up to its finish, which is at most its k-th, as long as all other events leave the loop alone:
+  -- "a single claim about the whole list of events"; "Each event gets the state and the memory as the event before returned or left them";
+  -- "Refused events and traps stay in the list"; "What comes after the finish is free".
+  abbrev pub Safe : ℕ → Machine → List Event → Type 0
+  Safe k m [] = Unit {0}
+  Safe k m (e ∷ es) =
+      cond (isStep h e)
+      (Fine (answered base m e) × (Finish m e ⊎ ((1 < k) × Safe (k - 1) (nextOf base m e) es)))
+      (Harmless m e → Safe k (nextOf base m e) es)
+
+  -- "within as many steps of its hart as it has words", for every list of events
+  abbrev pub Finishes : Machine → Type 0
+  Finishes m = (es : List Event) → Safe (length words) m es
+
+  -- ---- the same without recursion
+
+  -- the other events so far left the loop alone
+  abbrev pub Calm : Machine → List Event → Type 0
+  Calm m [] = Unit {0}
+  Calm m (e ∷ es) = (isStep h e ≡ false → Harmless m e) × Calm (nextOf base m e) es
+
+  -- none of the hart's steps so far was its finish
+  abbrev pub Unfinished : Machine → List Event → Type 0
+  Unfinished m [] = Unit {0}
+  Unfinished m (e ∷ es) = (isStep h e ≡ true → Finish m e → ⊥) × Unfinished (nextOf base m e) es
+
+  -- After any events so far, of which the others left the loop alone and none was the finish: if the hart steps next, the step is fine and at most the
+  -- hart's n-th, where the block has n words, and the n-th is the finish.
+  pub record NextStep (m : Machine) (so-far : List Event) : Type 0 where
+    pub fine : Fine (answered base (runOf base m so-far) (Step h))
+    pub bounded : steps h so-far < length words
+    pub finishes : suc (steps h so-far) ≡ length words → Finish (runOf base m so-far) (Step h)

@@ -1,0 +1,1 @@
+// Theorems only: an accepted retry loop that is left alone finishes.
