@@ -26,7 +26,6 @@ use Rattle.casefile.proofs.refused.Reads as refused-reads
 use Rattle.events.proofs.check.Reads as check-reads
 use Rattle.word.proofs.bytes.load_at.Reads as load-at-reads
 
--- helpers
 abbrev harts : (c : tie.Else1) → List ℕ
 harts c = take (c .before .before .before .before .args .memory - 40) (drop 40 (c .before .before .before .before .args .file .now))
 
@@ -51,8 +50,6 @@ seen : (c : tie.After-check) → checkedOf (countOf (harts (c .before .before .b
 seen c =
     let size : length (memory (c .before .before .before .before)) ≡ c .before .before .before .before .before .before .before .before .before .before .before .args .events - c .before .before .before .before .before .before .before .before .before .before .before .args .memory = simp (length-take, length-drop) (omega arith) in
     sym (c .check .ensures .0 ∙ rw (c .before .before .field .ensures .0, c .before .before .before .load-at .ensures, size, rest (c .before .before .before .before .before .before .before .before .before .before .before .args .file .now) (c .before .before .before .before .before .before .before .before .before .before .before .args .events)))
-
--- end of helpers
 
 sub-harts : tie.Need-sub-harts
 sub-harts c = search needs

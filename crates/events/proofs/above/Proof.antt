@@ -11,32 +11,25 @@ use Rattle.events.proofs.above.Reads as reads
 use Rattle.events.proofs.above.Lts as lts
 use Rattle.word.proofs.bytes.load_le.Reads as load-le-reads
 
--- src/lib.rt:40:9
 returns : tie.Need-returns
 unfolding le
 returns c = sym (ap le (drop-of-length-le (c .before .before .args .e .now) {i = 16 + c .before .before .args .size} (omega arith)))
 
--- src/lib.rt:42:14
 add-at : tie.Need-add-at
 add-at c = search needs
 
--- src/lib.rt:43:13
 sub-load-le : tie.Need-sub-load-le
 sub-load-le c = search needs
 
--- src/lib.rt:43:13
 part-load-le-start : tie.Need-part-load-le-start
 part-load-le-start c = search needs
 
--- src/lib.rt:43:13
 part-load-le-end : tie.Need-part-load-le-end
 part-load-le-end c = search needs
 
--- src/lib.rt:43:5
 load-le-requires : tie.Need-load-le-requires
 load-le-requires c κs = search needs
 
--- src/lib.rt:35:1
 returns-2 : tie.Need-returns-2
 returns-2 c =
     let x = c .before .before .before .before .args in

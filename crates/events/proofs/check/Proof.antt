@@ -30,54 +30,43 @@ seen c t e =
     let x = c .before .before .before .before .before .before .args in
     ap (goodEvent (x .count) (x .base) (x .len)) (sym (lent-part (x .body .now) (c .before .before .before .loop .at) 24)) ∙ sym (c .good-event .ensures) ∙ e
 
--- src/lib.rt:83:9
 returns : tie.Need-returns Inv-loop μ-loop
 unfolding checkedOf
 returns c = (rw (ne-eqb _ _ (c .if1 .taken)), omega arith)
 
--- src/lib.rt:86:5
 loop-holds : tie.Need-loop-holds Inv-loop μ-loop
 unfolding checkedOf
 loop-holds c = (omega arith, rw sub-zero (c .if1 .left), rw (eq-eqb _ _ (c .if1 .left), sub-zero))
 
--- src/lib.rt:87:34
 add-good-event : tie.Need-add-good-event Inv-loop μ-loop
 add-good-event c = omega arith
 
--- src/lib.rt:87:24
 sub-good-event : tie.Need-sub-good-event Inv-loop μ-loop
 sub-good-event c = omega arith
 
--- src/lib.rt:87:24
 part-good-event-start : tie.Need-part-good-event-start Inv-loop μ-loop
 part-good-event-start c = omega arith
 
--- src/lib.rt:87:24
 part-good-event-end : tie.Need-part-good-event-end Inv-loop μ-loop
 part-good-event-end c = omega arith
 
--- src/lib.rt:87:13
 good-event-requires : tie.Need-good-event-requires Inv-loop μ-loop
 good-event-requires c κs =
     let x = c .before .before .before .before .before .args in
     simp (length-take, length-drop) (omega arith)
 
--- src/lib.rt:88:13
 returns-2 : tie.Need-returns-2 Inv-loop μ-loop
 returns-2 c =
     let x = c .before .before .before .before .before .before .before .args in
     let p = c .before .before .before .before .loop in
     (sym (p .inv .2 ∙ firstBad-bad (x .count) (x .base) (x .len) (x .body .now) _ (p .at) (omega arith) (seen (c .before) false (not-true _ (c .if2 .taken)))), omega arith)
 
--- src/lib.rt:90:9
 add-at : tie.Need-add-at Inv-loop μ-loop
 add-at c = omega arith
 
--- src/lib.rt:86:5
 loop-less : tie.Need-loop-less Inv-loop μ-loop
 loop-less c = omega arith
 
--- src/lib.rt:86:5
 loop-again : tie.Need-loop-again Inv-loop μ-loop
 loop-again c =
     let x = c .before .before .before .before .before .before .before .args in
@@ -89,7 +78,6 @@ loop-again c =
           ∙ ap (λ (n : ℕ). firstBad (x .count) (x .base) (x .len) (x .body .now) n (p .at + 24)) less,
     )
 
--- src/lib.rt:78:1
 returns-3 : tie.Need-returns-3 Inv-loop μ-loop
 returns-3 c = (sym (c .before .loop .inv .2 ∙ firstBad-none _ _ _ _ _ _ (omega arith)), omega arith)
 

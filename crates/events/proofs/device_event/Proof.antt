@@ -9,31 +9,24 @@ use Rattle.reserve.proofs.inside.Reads as inside-reads
 use Rattle.word.proofs.bytes.load_at.Reads as load-at-reads
 use Rattle.word.proofs.bytes.wide.Reads as wide-reads
 
--- src/lib.rt:51:21
 shared-slice-read-wide : tie.Need-shared-slice-read-wide
 shared-slice-read-wide c = search needs
 
--- src/lib.rt:51:9
 wide-requires : tie.Need-wide-requires
 wide-requires c κs = search needs
 
--- src/lib.rt:52:52
 load-at-requires : tie.Need-load-at-requires
 load-at-requires c κs = search needs
 
--- src/lib.rt:52:9
 inside-requires : tie.Need-inside-requires
 inside-requires c κs = search needs
 
--- src/lib.rt:53:6
 shared-slice-read-result : tie.Need-shared-slice-read-result
 shared-slice-read-result c = search needs
 
--- src/lib.rt:53:60
 above-requires : tie.Need-above-requires
 above-requires c κs = search needs
 
--- src/lib.rt:47:1
 returns : tie.Need-returns
 unfolding deviceEvent
 returns c = rw (c .above .ensures, c .before .before .inside .ensures, c .before .before .before .load-at .ensures, c .before .before .before .before .wide .ensures)

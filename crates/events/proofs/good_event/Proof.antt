@@ -14,54 +14,41 @@ use Rattle.events.proofs.device_event.Reads as device-event-reads
 use Rattle.events.proofs.hart_event.Reads as hart-event-reads
 use Rattle.word.proofs.bytes.load_at.Reads as load-at-reads
 
--- helpers
 zeros : (c : tie.Else1) → eqb (le (part (c .before .before .before .args .e .now) 3 5)) 0 ≡ true
 zeros c = eq-eqb _ _ (sym (c .before .load-at .ensures) ∙ c .if1 .left)
 
--- end of helpers
-
--- src/lib.rt:61:8
 load-at-requires : tie.Need-load-at-requires
 load-at-requires c κs = search needs
 
--- src/lib.rt:62:9
 returns : tie.Need-returns
 unfolding goodEvent
 returns c = rw (ne-eqb _ _ (λ z. c .if1 .taken (c .before .load-at .ensures ∙ z)))
 
--- src/lib.rt:64:16
 shared-slice-read-kind : tie.Need-shared-slice-read-kind
 shared-slice-read-kind c = search needs
 
--- src/lib.rt:66:9
 device-event-requires : tie.Need-device-event-requires
 device-event-requires c κs = search needs
 
--- src/lib.rt:66:9
 returns-2 : tie.Need-returns-2
 unfolding goodEvent
 returns-2 c = rw (zeros (c .before .before .before), eq-eqb _ _ (c .before .if2 .taken)) (c .device-event .ensures)
 
--- src/lib.rt:69:9
 hart-event-requires : tie.Need-hart-event-requires
 hart-event-requires c κs = search needs
 
--- src/lib.rt:69:9
 returns-3 : tie.Need-returns-3
 unfolding goodEvent
 returns-3 c = rw (zeros (c .before .before .before .before), ne-eqb _ _ (c .before .before .if2 .left), eq-eqb _ _ (c .before .if3 .taken)) (c .hart-event .ensures)
 
--- src/lib.rt:72:9
 hart-event-requires-2 : tie.Need-hart-event-requires-2
 hart-event-requires-2 c κs = search needs
 
--- src/lib.rt:72:9
 returns-4 : tie.Need-returns-4
 unfolding goodEvent
 returns-4 c =
     rw (zeros (c .before .before .before .before .before), ne-eqb _ _ (c .before .before .before .if2 .left), ne-eqb _ _ (c .before .before .if3 .left), eq-eqb _ _ (c .before .if4 .taken)) (c .hart-event2 .ensures)
 
--- src/lib.rt:57:1
 returns-5 : tie.Need-returns-5
 unfolding goodEvent
 returns-5 c = rw (zeros (c .before .before .before .before), ne-eqb _ _ (c .before .before .if2 .left), ne-eqb _ _ (c .before .if3 .left), ne-eqb _ _ (c .if4 .left))

@@ -7,27 +7,21 @@ use Rattle.events.proofs.hart_event.Lts as lts
 use Rattle.word.proofs.bytes.load_at.Reads as load-at-reads
 use Rattle.word.proofs.bytes.wide.Reads as wide-reads
 
--- src/lib.rt:30:11
 shared-slice-read-wide : tie.Need-shared-slice-read-wide
 shared-slice-read-wide c = search needs
 
--- src/lib.rt:30:6
 wide-requires : tie.Need-wide-requires
 wide-requires c κs = search needs
 
--- src/lib.rt:31:13
 shared-slice-read-result : tie.Need-shared-slice-read-result
 shared-slice-read-result c = search needs
 
--- src/lib.rt:31:28
 load-at-requires : tie.Need-load-at-requires
 load-at-requires c κs = search needs
 
--- src/lib.rt:31:54
 load-at-requires-2 : tie.Need-load-at-requires-2
 load-at-requires-2 c κs = search needs
 
--- src/lib.rt:26:1
 returns : tie.Need-returns
 unfolding hartEvent
 returns c = rw (c .load-at2 .ensures, c .before .load-at .ensures, c .before .before .before .wide .ensures)

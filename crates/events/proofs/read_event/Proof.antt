@@ -9,45 +9,35 @@ use Rattle.events.proofs.read_event.Lts as lts
 use Rattle.word.proofs.bytes.load_at.Reads as load-at-reads
 use Rattle.word.proofs.bytes.wide.Reads as wide-reads
 
--- src/lib.rt:100:16
 shared-slice-read-kind : tie.Need-shared-slice-read-kind
 shared-slice-read-kind c = search needs
 
--- src/lib.rt:101:21
 shared-slice-read-wide : tie.Need-shared-slice-read-wide
 shared-slice-read-wide c = search needs
 
--- src/lib.rt:101:16
 wide-requires : tie.Need-wide-requires
 wide-requires c κs = search needs
 
--- src/lib.rt:103:9
 returns : tie.Need-returns
 unfolding eventOf
 returns c = rw (eq-eqb _ _ (c .if1 .taken), c .before .wide .ensures)
 
--- src/lib.rt:107:19
 load-at-requires : tie.Need-load-at-requires
 load-at-requires c κs = search needs
 
--- src/lib.rt:108:24
 shared-slice-read-wide-2 : tie.Need-shared-slice-read-wide-2
 shared-slice-read-wide-2 c = search needs
 
--- src/lib.rt:108:19
 wide-requires-2 : tie.Need-wide-requires-2
 wide-requires-2 c κs = search needs
 
--- src/lib.rt:109:19
 load-at-requires-2 : tie.Need-load-at-requires-2
 load-at-requires-2 c κs = search needs
 
--- src/lib.rt:106:9
 returns-2 : tie.Need-returns-2
 unfolding eventOf
 returns-2 c = rw (ne-eqb _ _ (c .before .before .before .before .before .if1 .left), eq-eqb _ _ (c .before .before .before .before .if2 .taken), c .load-at2 .ensures, c .before .wide2 .ensures, c .before .before .before .load-at .ensures)
 
--- src/lib.rt:96:1
 returns-3 : tie.Need-returns-3
 unfolding eventOf
 returns-3 c = rw (ne-eqb _ _ (c .before .if1 .left), ne-eqb _ _ (c .if2 .left), c .before .before .wide .ensures)

@@ -6,11 +6,9 @@ use Rattle.machine.proofs.hart_ok.Reads as reads
 use Rattle.machine.proofs.hart_ok.Lts as lts
 use Rattle.machine.proofs.reservation_ok.Reads as reservation-ok-reads
 
--- src/lib.rt:43:34
 reservation-ok-requires : tie.Need-reservation-ok-requires
 reservation-ok-requires c κs = search needs
 
--- src/lib.rt:40:1
 returns : tie.Need-returns
 unfolding hartOk
 returns c = rw (c .reservation-ok .ensures)

@@ -20,58 +20,45 @@ Inv-loop base len count x pc res k₀ k =
 abbrev μ-loop : tie.MeasureT-loop
 μ-loop base len count x pc res k₀ k = count - k
 
--- src/lib.rt:57:5
 loop-holds : tie.Need-loop-holds Inv-loop μ-loop
 loop-holds c = (search needs, all-none _)
 
--- src/lib.rt:58:17
 mul-s : tie.Need-mul-s Inv-loop μ-loop
 mul-s c = search needs
 
--- src/lib.rt:58:17
 array-copy-out-s : tie.Need-array-copy-out-s Inv-loop μ-loop
 array-copy-out-s c = search needs
 
--- src/lib.rt:60:34
 mul-hart-ok : tie.Need-mul-hart-ok Inv-loop μ-loop
 mul-hart-ok c = search needs
 
--- src/lib.rt:60:32
 mul-hart-ok-2 : tie.Need-mul-hart-ok-2 Inv-loop μ-loop
 mul-hart-ok-2 c = search needs
 
--- src/lib.rt:60:32
 element-copy-out-hart-ok : tie.Need-element-copy-out-hart-ok Inv-loop μ-loop
 element-copy-out-hart-ok c = search needs
 
--- src/lib.rt:60:43
 mul-hart-ok-3 : tie.Need-mul-hart-ok-3 Inv-loop μ-loop
 mul-hart-ok-3 c = search needs
 
--- src/lib.rt:60:43
 element-copy-out-hart-ok-2 : tie.Need-element-copy-out-hart-ok-2 Inv-loop μ-loop
 element-copy-out-hart-ok-2 c = search needs
 
--- src/lib.rt:60:13
 hart-ok-requires : tie.Need-hart-ok-requires Inv-loop μ-loop
 hart-ok-requires c κs = search needs
 
--- src/lib.rt:61:13
 returns : tie.Need-returns Inv-loop μ-loop
 returns c =
     let a = c .before .before .before .before .before .before .before .args in
     sym (all-fails (hartAt (a .base) (a .len) (record { count = a .count; x = a .x .now; pc = a .pc .now; res = a .t6 })) (c .before .before .before .before .before .before .loop .k) (a .count) (omega arith)
     (sym (c .before .hart-ok .ensures) ∙ not-true _ (c .if1 .taken)))
 
--- src/lib.rt:63:9
 add-k : tie.Need-add-k Inv-loop μ-loop
 add-k c = search needs
 
--- src/lib.rt:57:5
 loop-less : tie.Need-loop-less Inv-loop μ-loop
 loop-less c = search needs
 
--- src/lib.rt:57:5
 loop-again : tie.Need-loop-again Inv-loop μ-loop
 loop-again c =
     let a = c .before .before .before .before .before .before .before .args in (
@@ -80,7 +67,6 @@ loop-again c =
           (sym (c .before .hart-ok .ensures) ∙ not-false _ (c .if1 .left)),
     )
 
--- src/lib.rt:45:1
 returns-2 : tie.Need-returns-2 Inv-loop μ-loop
 returns-2 c =
     let e : c .before .loop .k ≡ c .before .before .args .count = omega arith in

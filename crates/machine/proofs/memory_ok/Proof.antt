@@ -5,7 +5,6 @@ use Rattle.machine.proofs.memory_ok.Tie as tie
 use Rattle.machine.proofs.memory_ok.Reads as reads
 use Rattle.machine.proofs.memory_ok.Lts as lts
 
--- src/lib.rt:18:1
 returns : tie.Need-returns
 unfolding memoryOk
 returns c = refl

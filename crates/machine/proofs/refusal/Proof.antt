@@ -13,32 +13,26 @@ use Rattle.machine.proofs.refusal.Lts as lts
 use Rattle.machine.proofs.harts_ok.Reads as harts-ok-reads
 use Rattle.machine.proofs.memory_ok.Reads as memory-ok-reads
 
--- src/lib.rt:81:9
 memory-ok-requires : tie.Need-memory-ok-requires
 memory-ok-requires c κs = search needs
 
--- src/lib.rt:82:9
 returns : tie.Need-returns
 unfolding refusalOf
 returns c = rw (sym (c .before .memory-ok .ensures) ∙ not-true _ (c .if1 .taken))
 
--- src/lib.rt:85:9
 returns-2 : tie.Need-returns-2
 unfolding refusalOf stateOk
 returns-2 c =
     rw (sym (c .before .before .memory-ok .ensures) ∙ not-false _ (c .before .if1 .left), lt-leb 1 (c .before .before .before .args .count) (omega arith))
 
--- src/lib.rt:88:9
 returns-3 : tie.Need-returns-3
 unfolding refusalOf stateOk
 returns-3 c =
     rw (sym (c .before .before .before .memory-ok .ensures) ∙ not-false _ (c .before .before .if1 .left), le-leb 1 (c .before .before .before .before .args .count) (omega arith), lt-leb _ _ (c .if3 .taken))
 
--- src/lib.rt:90:8
 harts-ok-requires : tie.Need-harts-ok-requires
 harts-ok-requires c κs = search needs
 
--- src/lib.rt:71:1
 returns-4 : tie.Need-returns-4
 unfolding refusalOf stateOk
 returns-4 c =
@@ -49,7 +43,6 @@ returns-4 c =
       sym (c .before .harts-ok .ensures) ∙ c .if4 .taken,
     )
 
--- src/lib.rt:71:1
 returns-5 : tie.Need-returns-5
 unfolding refusalOf stateOk
 returns-5 c =

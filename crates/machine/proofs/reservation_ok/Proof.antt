@@ -14,35 +14,28 @@ use Rattle.machine.proofs.reservation_ok.Reads as reads
 use Rattle.machine.proofs.reservation_ok.Lts as lts
 use Rattle.reserve.proofs.inside.Reads as inside-reads
 
--- src/lib.rt:29:30
 enum-told : tie.Need-enum-told
 enum-told c = search needs
 
--- src/lib.rt:30:29
 enum-known-r : tie.Need-enum-known-r
 enum-known-r c = search needs
 
--- src/lib.rt:32:25
 rem-result : tie.Need-rem-result
 rem-result c =
     let w = c .before .before .r .given .0 .1 .0 in
     ⊎-elim (λ (e : eqb w 4 ≡ true). omega (arith, eqb-true w 4 e)) (λ (e : eqb w 8 ≡ true). omega (arith, eqb-true w 8 e)) (or-either _ _ (c .if1 .taken))
 
--- src/lib.rt:32:46
 inside-requires : tie.Need-inside-requires
 inside-requires c κs = search needs
 
--- src/lib.rt:32:17
 returns : tie.Need-returns
 unfolding reservationOk
 returns c = rw (c .before .before .before .r .given .1, c .before .if1 .taken, c .inside .ensures)
 
--- src/lib.rt:25:1
 returns-2 : tie.Need-returns-2
 unfolding reservationOk
 returns-2 c = rw (c .enum-told .given .1)
 
--- src/lib.rt:25:1
 returns-3 : tie.Need-returns-3
 unfolding reservationOk
 returns-3 c = rw (c .before .before .r .given .1, c .if1 .left)

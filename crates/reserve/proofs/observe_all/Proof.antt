@@ -17,11 +17,8 @@ use Rattle.reserve.proofs.own.Reads as own-reads
 use Rattle.reserve.proofs.unless.Reads as unless-reads
 use Rattle.reserve.proofs.weight.Reads as weight-reads
 
--- helpers
 pow-small : (k : ℕ) → k ≤ 8 → 2 ^ k ≤ 256
 pow-small k h = pow-le-pow-right (omega arith) h
-
--- end of helpers
 
 abbrev Inv-loop : tie.InvT-loop
 Inv-loop count size n slots out₀ broken₀ bit₀ k₀ out broken bit k =
@@ -30,60 +27,46 @@ Inv-loop count size n slots out₀ broken₀ bit₀ k₀ out broken bit k =
 abbrev μ-loop : tie.MeasureT-loop
 μ-loop count size n slots out₀ broken₀ bit₀ k₀ out broken bit k = count - k
 
--- src/lib.rt:163:5
 loop-holds : tie.Need-loop-holds Inv-loop μ-loop
 unfolding brokenOf
 loop-holds c = search needs
 
--- src/lib.rt:164:17
 mul-s : tie.Need-mul-s Inv-loop μ-loop
 mul-s c = search needs
 
--- src/lib.rt:164:17
 array-copy-out-s : tie.Need-array-copy-out-s Inv-loop μ-loop
 array-copy-out-s c = search needs
 
--- src/lib.rt:166:13
 breaks-requires : tie.Need-breaks-requires Inv-loop μ-loop
 breaks-requires c κs = search needs
 
--- src/lib.rt:168:36
 own-requires : tie.Need-own-requires Inv-loop μ-loop
 own-requires c κs = search needs
 
--- src/lib.rt:168:26
 unless-requires : tie.Need-unless-requires Inv-loop μ-loop
 unless-requires c κs = search needs
 
--- src/lib.rt:167:9
 mul-out : tie.Need-mul-out Inv-loop μ-loop
 mul-out c = search needs
 
--- src/lib.rt:167:9
 array-set-from-out : tie.Need-array-set-from-out Inv-loop μ-loop
 array-set-from-out c = search needs
 
--- src/lib.rt:170:27
 weight-requires : tie.Need-weight-requires Inv-loop μ-loop
 weight-requires c κs = search needs
 
--- src/lib.rt:170:18
 add-broken : tie.Need-add-broken Inv-loop μ-loop
 add-broken c = omega (arith, pow-small (c .before .before .before .before .before .before .loop .k) (omega arith))
 
--- src/lib.rt:171:15
 mul-bit : tie.Need-mul-bit Inv-loop μ-loop
 mul-bit c = omega (arith, pow-small (c .before .before .before .before .before .before .loop .k) (omega arith))
 
--- src/lib.rt:172:9
 add-k : tie.Need-add-k Inv-loop μ-loop
 add-k c = search needs
 
--- src/lib.rt:163:5
 loop-less : tie.Need-loop-less Inv-loop μ-loop
 loop-less c = search needs
 
--- src/lib.rt:163:5
 loop-again : tie.Need-loop-again Inv-loop μ-loop
 unfolding brokenOf observeOf
 loop-again c =
@@ -98,7 +81,6 @@ loop-again c =
       rw (add-one, pow-suc) (omega arith),
     )
 
--- src/lib.rt:155:1
 returns : tie.Need-returns Inv-loop μ-loop
 unfolding observeAllOf
 returns c =

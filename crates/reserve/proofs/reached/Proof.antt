@@ -8,87 +8,66 @@ use Rattle.reserve.proofs.reached.Lts as lts
 use Rattle.reserve.proofs.set_of.Reads as set-of-reads
 use Rattle.reserve.proofs.touch.Reads as touch-reads
 
--- src/lib.rt:86:26
 enum-told : tie.Need-enum-told
 enum-told c = search needs
 
--- src/lib.rt:91:14
 enum-told-2 : tie.Need-enum-told-2
 enum-told-2 c = search needs
 
--- src/lib.rt:92:26
 enum-known-n : tie.Need-enum-known-n
 enum-known-n c = search needs
 
--- src/lib.rt:93:30
 set-of-requires : tie.Need-set-of-requires
 set-of-requires c κs = search needs
 
--- src/lib.rt:93:16
 touch-requires : tie.Need-touch-requires
 touch-requires c κs = search needs
 
--- src/lib.rt:94:41
 enum-told-3 : tie.Need-enum-told-3
 enum-told-3 c = search needs
 
--- src/lib.rt:95:25
 enum-known-n-2 : tie.Need-enum-known-n-2
 enum-known-n-2 c = search needs
 
--- src/lib.rt:96:30
 set-of-requires-2 : tie.Need-set-of-requires-2
 set-of-requires-2 c κs = search needs
 
--- src/lib.rt:96:16
 touch-requires-2 : tie.Need-touch-requires-2
 touch-requires-2 c κs = search needs
 
--- src/lib.rt:97:37
 enum-known-n-3 : tie.Need-enum-known-n-3
 enum-known-n-3 c = search needs
 
--- src/lib.rt:97:49
 touch-requires-3 : tie.Need-touch-requires-3
 touch-requires-3 c κs = search needs
 
--- src/lib.rt:98:38
 enum-told-4 : tie.Need-enum-told-4
 enum-told-4 c = search needs
 
--- src/lib.rt:81:1
 returns : tie.Need-returns
 returns c = search needs
 
--- src/lib.rt:81:1
 returns-2 : tie.Need-returns-2
 returns-2 c = search needs
 
--- src/lib.rt:81:1
 returns-3 : tie.Need-returns-3
 returns-3 c = rw (c .before .before .before .before .n .given .1, ← c .before .set-of .ensures, ne-eqb _ _ (c .before .before .if1 .taken)) (c .touch .ensures)
 
--- src/lib.rt:81:1
 returns-4 : tie.Need-returns-4
 returns-4 c = rw (c .before .before .n .given .1, eq-eqb _ _ (c .if1 .left))
 
--- src/lib.rt:81:1
 returns-5 : tie.Need-returns-5
 returns-5 c = search needs
 
--- src/lib.rt:81:1
 returns-6 : tie.Need-returns-6
 returns-6 c = rw (c .before .before .before .before .n2 .given .1, ← c .before .set-of2 .ensures, ne-eqb _ _ (c .before .before .if2 .taken)) (c .touch2 .ensures)
 
--- src/lib.rt:81:1
 returns-7 : tie.Need-returns-7
 returns-7 c = rw (c .before .before .n2 .given .1, eq-eqb _ _ (c .if2 .left))
 
--- src/lib.rt:81:1
 returns-8 : tie.Need-returns-8
 returns-8 c = rw (c .before .before .n3 .given .1) (c .touch3 .ensures)
 
--- src/lib.rt:81:1
 returns-9 : tie.Need-returns-9
 returns-9 c = search needs
 

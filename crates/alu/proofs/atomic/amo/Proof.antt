@@ -13,109 +13,85 @@ use Rattle.alu.proofs.atomic.min_unsigned.Reads as min-unsigned-reads
 use Rattle.alu.proofs.integer.add.Reads as add-reads
 use Rattle.isa.proofs.bits_of.Reads as bits-of-reads
 
--- src/atomic.rt:59:24
 enum-told : tie.Need-enum-told
 enum-told c = search needs
 
--- src/atomic.rt:60:57
 enum-told-2 : tie.Need-enum-told-2
 enum-told-2 c = search needs
 
--- src/atomic.rt:60:57
 bits-of-requires : tie.Need-bits-of-requires
 bits-of-requires c κs = search needs
 
--- src/atomic.rt:60:23
 add-requires : tie.Need-add-requires
 add-requires c κs = search needs
 
--- src/atomic.rt:61:23
 enum-told-3 : tie.Need-enum-told-3
 enum-told-3 c = search needs
 
--- src/atomic.rt:62:23
 enum-told-4 : tie.Need-enum-told-4
 enum-told-4 c = search needs
 
--- src/atomic.rt:63:22
 enum-told-5 : tie.Need-enum-told-5
 enum-told-5 c = search needs
 
--- src/atomic.rt:64:23
 enum-told-6 : tie.Need-enum-told-6
 enum-told-6 c = search needs
 
--- src/atomic.rt:64:23
 min-signed-requires : tie.Need-min-signed-requires
 min-signed-requires c κs = search needs
 
--- src/atomic.rt:65:23
 enum-told-7 : tie.Need-enum-told-7
 enum-told-7 c = search needs
 
--- src/atomic.rt:65:23
 max-signed-requires : tie.Need-max-signed-requires
 max-signed-requires c κs = search needs
 
--- src/atomic.rt:66:24
 enum-told-8 : tie.Need-enum-told-8
 enum-told-8 c = search needs
 
--- src/atomic.rt:66:24
 min-unsigned-requires : tie.Need-min-unsigned-requires
 min-unsigned-requires c κs = search needs
 
--- src/atomic.rt:67:24
 enum-told-9 : tie.Need-enum-told-9
 enum-told-9 c = search needs
 
--- src/atomic.rt:67:24
 max-unsigned-requires : tie.Need-max-unsigned-requires
 max-unsigned-requires c κs = search needs
 
--- src/atomic.rt:54:1
 returns : tie.Need-returns
 unfolding amoOf
 returns c = rw (c .enum-told .given .1)
 
--- src/atomic.rt:54:1
 returns-2 : tie.Need-returns-2
 unfolding amoOf
 returns-2 c =
     let x = c .before .before .before .before .args in
     rw (c .before .before .enum-told2 .given .1) (c .add .ensures ∙ ap (λ (k : ℕ). (x .old + x .operand) % 2 ^ k) (c .before .bits-of .ensures .0))
 
--- src/atomic.rt:54:1
 returns-3 : tie.Need-returns-3
 unfolding amoOf
 returns-3 c = rw (c .enum-told3 .given .1)
 
--- src/atomic.rt:54:1
 returns-4 : tie.Need-returns-4
 unfolding amoOf
 returns-4 c = rw (c .enum-told4 .given .1)
 
--- src/atomic.rt:54:1
 returns-5 : tie.Need-returns-5
 unfolding amoOf
 returns-5 c = rw (c .enum-told5 .given .1)
 
--- src/atomic.rt:54:1
 returns-6 : tie.Need-returns-6
 unfolding amoOf
 returns-6 c = rw (c .before .enum-told6 .given .1) (c .min-signed .ensures)
 
--- src/atomic.rt:54:1
 returns-7 : tie.Need-returns-7
 unfolding amoOf
 returns-7 c = rw (c .before .enum-told7 .given .1) (c .max-signed .ensures)
 
--- src/atomic.rt:54:1
 returns-8 : tie.Need-returns-8
 unfolding amoOf
 returns-8 c = rw (c .before .enum-told8 .given .1) (c .min-unsigned .ensures)
 
--- src/atomic.rt:54:1
 returns-9 : tie.Need-returns-9
 unfolding amoOf
 returns-9 c = rw (c .before .enum-told9 .given .1) (c .max-unsigned .ensures)

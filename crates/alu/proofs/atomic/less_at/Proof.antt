@@ -8,39 +8,30 @@ use Rattle.alu.proofs.atomic.less_at.Lts as lts
 use Rattle.word.proofs.num.to_i32.Reads as to-i32-reads
 use Rattle.word.proofs.num.to_i64.Reads as to-i64-reads
 
--- src/atomic.rt:22:31
 enum-told : tie.Need-enum-told
 enum-told c = search needs
 
--- src/atomic.rt:22:31
 cast-to-i32 : tie.Need-cast-to-i32
 cast-to-i32 c = record { fits = rw (c .enum-told .given .1) at (c .before .before .pre .0) }
 
--- src/atomic.rt:22:24
 to-i32-requires : tie.Need-to-i32-requires
 to-i32-requires c κs = search needs
 
--- src/atomic.rt:22:50
 cast-to-i32-2 : tie.Need-cast-to-i32-2
 cast-to-i32-2 c = record { fits = rw (c .before .enum-told .given .1) at (c .before .before .before .pre .1) }
 
--- src/atomic.rt:22:43
 to-i32-requires-2 : tie.Need-to-i32-requires-2
 to-i32-requires-2 c κs = search needs
 
--- src/atomic.rt:23:26
 enum-told-2 : tie.Need-enum-told-2
 enum-told-2 c = search needs
 
--- src/atomic.rt:23:26
 to-i64-requires : tie.Need-to-i64-requires
 to-i64-requires c κs = search needs
 
--- src/atomic.rt:23:38
 to-i64-requires-2 : tie.Need-to-i64-requires-2
 to-i64-requires-2 c κs = search needs
 
--- src/atomic.rt:17:1
 returns : tie.Need-returns
 returns c =
     let x = c .before .to-i32 in
@@ -48,7 +39,6 @@ returns c =
     rw (c .before .before .enum-told .given .1)
     (sym (plain-lt (x .result) (y .result) (record { sfits = x .ok }) (record { sfits = y .ok }) (x .ensures) (y .ensures) refl))
 
--- src/atomic.rt:17:1
 returns-2 : tie.Need-returns-2
 returns-2 c =
     let x = c .before .to-i64 in

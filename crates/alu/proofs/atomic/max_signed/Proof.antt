@@ -7,16 +7,13 @@ use Rattle.alu.proofs.atomic.max_signed.Reads as reads
 use Rattle.alu.proofs.atomic.max_signed.Lts as lts
 use Rattle.alu.proofs.atomic.less_at.Reads as less-at-reads
 
--- src/atomic.rt:38:8
 less-at-requires : tie.Need-less-at-requires
 less-at-requires c κs = search needs
 
--- src/atomic.rt:34:1
 returns : tie.Need-returns
 unfolding maxOf
 returns c = rw (sym (c .before .less-at .ensures) ∙ c .if1 .taken) refl
 
--- src/atomic.rt:34:1
 returns-2 : tie.Need-returns-2
 unfolding maxOf
 returns-2 c = rw (sym (c .before .less-at .ensures) ∙ c .if1 .left) refl

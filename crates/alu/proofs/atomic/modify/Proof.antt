@@ -14,25 +14,20 @@ use Rattle.alu.proofs.atomic.amo.Reads as amo-reads
 use Rattle.word.proofs.bytes.load_le.Reads as load-le-reads
 use Rattle.word.proofs.bytes.store_le.Reads as store-le-reads
 
--- src/atomic.rt:78:9
 load-le-requires : tie.Need-load-le-requires
 load-le-requires c κs = omega (arith, c .before .before .pre .0, bytes-most (c .before .before .args .w))
 
--- src/atomic.rt:79:43
 amo-requires : tie.Need-amo-requires
 amo-requires c κs =
     let x = c .before .before .before .before .args in
     (rw (c .before .load-le .ensures) (le-fits (x .w) (x .bytes .now) (λ i. c .before .before .before .slice-known .given i .fits) (c .before .before .before .before .pre .0)), c .before .before .before .before .pre .1)
 
--- src/atomic.rt:79:5
 store-le-requires : tie.Need-store-le-requires
 store-le-requires c κs = search needs
 
--- src/atomic.rt:72:1
 same-length : tie.Need-same-length
 same-length c = search needs
 
--- src/atomic.rt:72:1
 returns : tie.Need-returns
 returns c =
     let x = c .before .before .before .before .before .before .before .before .args in

@@ -16,35 +16,27 @@ use Rattle.alu.proofs.atomic.modify_at.Lts as lts
 use Rattle.alu.proofs.atomic.modify.Reads as modify-reads
 use Rattle.isa.proofs.bytes_of.Reads as bytes-of-reads
 
--- src/atomic.rt:90:9
 bytes-of-requires : tie.Need-bytes-of-requires
 bytes-of-requires c κs = search needs
 
--- src/atomic.rt:91:25
 add-modify : tie.Need-add-modify
 add-modify c = search needs
 
--- src/atomic.rt:91:12
 sub-modify : tie.Need-sub-modify
 sub-modify c = search needs
 
--- src/atomic.rt:91:12
 part-modify-start : tie.Need-part-modify-start
 part-modify-start c = search needs
 
--- src/atomic.rt:91:12
 part-modify-end : tie.Need-part-modify-end
 part-modify-end c = search needs
 
--- src/atomic.rt:91:5
 modify-requires : tie.Need-modify-requires
 modify-requires c κs = search needs
 
--- src/atomic.rt:84:1
 same-length : tie.Need-same-length
 same-length c = search needs
 
--- src/atomic.rt:84:1
 returns : tie.Need-returns
 returns c =
     let x = c .before .before .before .before .before .before .args in

@@ -10,15 +10,12 @@ use Rattle.alu.proofs.integer.add.Lts as lts
 use Rattle.std.proofs.num.wrapping_add_u64.Reads as wrapping-add-u64-reads
 use Rattle.word.proofs.num.wrap.Reads as wrap-reads
 
--- src/integer.rt:17:10
 wrapping-add-u64-requires : tie.Need-wrapping-add-u64-requires
 wrapping-add-u64-requires c κs = search needs
 
--- src/integer.rt:17:5
 wrap-requires : tie.Need-wrap-requires
 wrap-requires c κs = search needs
 
--- src/integer.rt:13:1
 returns : tie.Need-returns
 returns c =
     let x = c .before .before .args in

@@ -6,11 +6,9 @@ use Rattle.alu.proofs.integer.amount.Tie as tie
 use Rattle.alu.proofs.integer.amount.Reads as reads
 use Rattle.alu.proofs.integer.amount.Lts as lts
 
--- src/integer.rt:33:5
 rem-result : tie.Need-rem-result
 rem-result c = search needs
 
--- src/integer.rt:29:1
 returns : tie.Need-returns
 returns c = (refl, mod-lt (c .args .b) (c .pre))
 

@@ -7,15 +7,12 @@ use Rattle.alu.proofs.integer.less.Reads as reads
 use Rattle.alu.proofs.integer.less.Lts as lts
 use Rattle.word.proofs.num.to_signed.Reads as to-signed-reads
 
--- src/integer.rt:58:5
 to-signed-requires : tie.Need-to-signed-requires
 to-signed-requires c κs = search needs
 
--- src/integer.rt:58:26
 to-signed-requires-2 : tie.Need-to-signed-requires-2
 to-signed-requires-2 c κs = search needs
 
--- src/integer.rt:53:1
 returns : tie.Need-returns
 returns c =
     let x = c .before .to-signed in

@@ -17,128 +17,99 @@ use Rattle.alu.proofs.integer.shift_left.Reads as shift-left-reads
 use Rattle.alu.proofs.integer.shift_signed.Reads as shift-signed-reads
 use Rattle.alu.proofs.integer.subtract.Reads as subtract-reads
 
--- src/integer.rt:68:23
 enum-told : tie.Need-enum-told
 enum-told c = search needs
 
--- src/integer.rt:68:23
 add-requires : tie.Need-add-requires
 add-requires c κs = search needs
 
--- src/integer.rt:69:23
 enum-told-2 : tie.Need-enum-told-2
 enum-told-2 c = search needs
 
--- src/integer.rt:69:23
 subtract-requires : tie.Need-subtract-requires
 subtract-requires c κs = search needs
 
--- src/integer.rt:70:37
 enum-told-3 : tie.Need-enum-told-3
 enum-told-3 c = search needs
 
--- src/integer.rt:70:37
 amount-requires : tie.Need-amount-requires
 amount-requires c κs = search needs
 
--- src/integer.rt:70:23
 shift-left-requires : tie.Need-shift-left-requires
 shift-left-requires c κs = search needs
 
--- src/integer.rt:71:23
 enum-told-4 : tie.Need-enum-told-4
 enum-told-4 c = search needs
 
--- src/integer.rt:71:23
 less-requires : tie.Need-less-requires
 less-requires c κs = search needs
 
--- src/integer.rt:71:23
 cast-result : tie.Need-cast-result
 cast-result c = search needs
 
--- src/integer.rt:72:25
 enum-told-5 : tie.Need-enum-told-5
 enum-told-5 c = search needs
 
--- src/integer.rt:72:24
 cast-result-2 : tie.Need-cast-result-2
 cast-result-2 c = search needs
 
--- src/integer.rt:73:23
 enum-told-6 : tie.Need-enum-told-6
 enum-told-6 c = search needs
 
--- src/integer.rt:74:28
 enum-told-7 : tie.Need-enum-told-7
 enum-told-7 c = search needs
 
--- src/integer.rt:74:28
 amount-requires-2 : tie.Need-amount-requires-2
 amount-requires-2 c κs = search needs
 
--- src/integer.rt:74:23
 shr-result : tie.Need-shr-result
 shr-result c = search needs
 
--- src/integer.rt:75:39
 enum-told-8 : tie.Need-enum-told-8
 enum-told-8 c = search needs
 
--- src/integer.rt:75:39
 amount-requires-3 : tie.Need-amount-requires-3
 amount-requires-3 c κs = search needs
 
--- src/integer.rt:75:23
 shift-signed-requires : tie.Need-shift-signed-requires
 shift-signed-requires c κs = search needs
 
--- src/integer.rt:76:22
 enum-told-9 : tie.Need-enum-told-9
 enum-told-9 c = search needs
 
--- src/integer.rt:77:23
 enum-told-10 : tie.Need-enum-told-10
 enum-told-10 c = search needs
 
--- src/integer.rt:62:1
 returns : tie.Need-returns
 unfolding aluOf
 returns c = rw (c .before .enum-told .given .1) (c .add .ensures)
 
--- src/integer.rt:62:1
 returns-2 : tie.Need-returns-2
 unfolding aluOf
 returns-2 c = rw (c .before .enum-told2 .given .1) (c .subtract .ensures)
 
--- src/integer.rt:62:1
 returns-3 : tie.Need-returns-3
 unfolding aluOf
 returns-3 c =
     let x = c .before .before .before .before .args in
     rw (c .before .before .enum-told3 .given .1) (c .shift-left .ensures ∙ ap (λ (s : ℕ). (x .a * 2 ^ s) % 2 ^ x .bits) (c .before .amount .ensures .0))
 
--- src/integer.rt:62:1
 returns-4 : tie.Need-returns-4
 unfolding aluOf
 returns-4 c = rw (c .before .enum-told4 .given .1) (byte-is (c .less .ensures))
 
--- src/integer.rt:62:1
 returns-5 : tie.Need-returns-5
 unfolding aluOf
 returns-5 c = rw (c .enum-told5 .given .1) (byte-is {s = ltb (c .before .before .args .a) (c .before .before .args .b)} refl)
 
--- src/integer.rt:62:1
 returns-6 : tie.Need-returns-6
 unfolding aluOf
 returns-6 c = rw (c .enum-told6 .given .1) refl
 
--- src/integer.rt:62:1
 returns-7 : tie.Need-returns-7
 unfolding aluOf
 returns-7 c = rw (c .before .enum-told7 .given .1) (ap (λ (s : ℕ). c .before .before .before .args .a / 2 ^ s) (c .amount2 .ensures .0))
 
--- src/integer.rt:62:1
 returns-8 : tie.Need-returns-8
 unfolding aluOf
 returns-8 c =
@@ -146,12 +117,10 @@ returns-8 c =
     rw (c .before .before .enum-told8 .given .1)
     (c .shift-signed .ensures ∙ ap (λ (s : ℕ). ofInt (x .bits) (shrZ (toInt (x .bits) (x .a)) (2 ^ s))) (c .before .amount3 .ensures .0))
 
--- src/integer.rt:62:1
 returns-9 : tie.Need-returns-9
 unfolding aluOf
 returns-9 c = rw (c .enum-told9 .given .1) refl
 
--- src/integer.rt:62:1
 returns-10 : tie.Need-returns-10
 unfolding aluOf
 returns-10 c = rw (c .enum-told10 .given .1) refl

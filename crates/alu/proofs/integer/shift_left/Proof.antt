@@ -8,15 +8,12 @@ use Rattle.alu.proofs.integer.shift_left.Reads as reads
 use Rattle.alu.proofs.integer.shift_left.Lts as lts
 use Rattle.word.proofs.num.wrap.Reads as wrap-reads
 
--- src/integer.rt:40:10
 shl-wrap : tie.Need-shl-wrap
 shl-wrap c = search needs
 
--- src/integer.rt:40:5
 wrap-requires : tie.Need-wrap-requires
 wrap-requires c κs = search needs
 
--- src/integer.rt:36:1
 returns : tie.Need-returns
 returns c =
     let x = c .before .args in

@@ -11,27 +11,21 @@ use Rattle.word.proofs.num.from_i64.Reads as from-i64-reads
 use Rattle.word.proofs.num.to_signed.Reads as to-signed-reads
 use Rattle.word.proofs.num.wrap.Reads as wrap-reads
 
--- src/integer.rt:49:19
 to-signed-requires : tie.Need-to-signed-requires
 to-signed-requires c κs = search needs
 
--- src/integer.rt:49:41
 cast-from-i64 : tie.Need-cast-from-i64
 cast-from-i64 c = search needs
 
--- src/integer.rt:49:19
 shr-from-i64 : tie.Need-shr-from-i64
 shr-from-i64 c = search needs
 
--- src/integer.rt:49:10
 from-i64-requires : tie.Need-from-i64-requires
 from-i64-requires c κs = search needs
 
--- src/integer.rt:49:5
 wrap-requires : tie.Need-wrap-requires
 wrap-requires c κs = search needs
 
--- src/integer.rt:44:1
 returns : tie.Need-returns
 returns c =
     let x = c .before .before .before .args in

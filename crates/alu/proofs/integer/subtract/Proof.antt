@@ -8,15 +8,12 @@ use Rattle.alu.proofs.integer.subtract.Lts as lts
 use Rattle.std.proofs.num.wrapping_sub_u64.Reads as wrapping-sub-u64-reads
 use Rattle.word.proofs.num.wrap.Reads as wrap-reads
 
--- src/integer.rt:25:10
 wrapping-sub-u64-requires : tie.Need-wrapping-sub-u64-requires
 wrapping-sub-u64-requires c κs = search needs
 
--- src/integer.rt:25:5
 wrap-requires : tie.Need-wrap-requires
 wrap-requires c κs = search needs
 
--- src/integer.rt:20:1
 returns : tie.Need-returns
 returns c =
     let x = c .before .before .args in

@@ -9,19 +9,15 @@ use Rattle.alu.proofs.swap.compare_swap.Lts as lts
 use Rattle.word.proofs.bytes.load_le.Reads as load-le-reads
 use Rattle.word.proofs.bytes.store_le.Reads as store-le-reads
 
--- src/swap.rt:27:9
 load-le-requires : tie.Need-load-le-requires
 load-le-requires c κs = search needs
 
--- src/swap.rt:29:9
 store-le-requires : tie.Need-store-le-requires
 store-le-requires c κs = search needs
 
--- src/swap.rt:22:1
 same-length : tie.Need-same-length
 same-length c = search needs
 
--- src/swap.rt:22:1
 returns : tie.Need-returns
 returns c =
     let x = c .before .before .before .before .before .before .before .before .args in
@@ -29,11 +25,9 @@ returns c =
     let equal : le (x .bytes .now) ≡ x .want = sym old ∙ c .before .before .before .before .if1 .taken in
     (old, rw (eq-eqb _ _ equal) (c .before .before .store-le .ensures))
 
--- src/swap.rt:22:1
 same-length-2 : tie.Need-same-length-2
 same-length-2 c = search needs
 
--- src/swap.rt:22:1
 returns-2 : tie.Need-returns-2
 returns-2 c =
     let x = c .before .before .before .before .args in

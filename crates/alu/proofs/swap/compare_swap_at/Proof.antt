@@ -14,31 +14,24 @@ use Rattle.alu.proofs.swap.compare_swap_at.Reads as reads
 use Rattle.alu.proofs.swap.compare_swap_at.Lts as lts
 use Rattle.alu.proofs.swap.compare_swap.Reads as compare-swap-reads
 
--- src/swap.rt:41:31
 add-compare-swap : tie.Need-add-compare-swap
 add-compare-swap c = search needs
 
--- src/swap.rt:41:18
 sub-compare-swap : tie.Need-sub-compare-swap
 sub-compare-swap c = search needs
 
--- src/swap.rt:41:18
 part-compare-swap-start : tie.Need-part-compare-swap-start
 part-compare-swap-start c = search needs
 
--- src/swap.rt:41:18
 part-compare-swap-end : tie.Need-part-compare-swap-end
 part-compare-swap-end c = search needs
 
--- src/swap.rt:41:5
 compare-swap-requires : tie.Need-compare-swap-requires
 compare-swap-requires c κs = search needs
 
--- src/swap.rt:35:1
 same-length : tie.Need-same-length
 same-length c = search needs
 
--- src/swap.rt:35:1
 returns : tie.Need-returns
 returns c =
     let x = c .before .before .before .before .before .args in

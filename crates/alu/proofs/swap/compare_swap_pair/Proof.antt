@@ -14,31 +14,24 @@ use Rattle.alu.proofs.swap.same.Reads as same-reads
 use Rattle.word.proofs.bytes.load_at.Reads as load-at-reads
 use Rattle.word.proofs.bytes.store_at.Reads as store-at-reads
 
--- src/swap.rt:63:9
 load-at-requires : tie.Need-load-at-requires
 load-at-requires c κs = search needs
 
--- src/swap.rt:64:9
 load-at-requires-2 : tie.Need-load-at-requires-2
 load-at-requires-2 c κs = search needs
 
--- src/swap.rt:65:8
 same-requires : tie.Need-same-requires
 same-requires c κs = search needs
 
--- src/swap.rt:66:9
 store-at-requires : tie.Need-store-at-requires
 store-at-requires c κs = search needs
 
--- src/swap.rt:67:9
 store-at-requires-2 : tie.Need-store-at-requires-2
 store-at-requires-2 c κs = search needs
 
--- src/swap.rt:58:1
 same-length : tie.Need-same-length
 same-length c = search needs
 
--- src/swap.rt:58:1
 returns : tie.Need-returns
 returns c =
     let x = c .before .before .before .before .before .before .before .before .before .before .before .before .before .before .before .args in
@@ -52,11 +45,9 @@ returns c =
           ∙ splice-pair 8 bs (x .new .low) (x .new .high) (c .before .before .before .before .before .before .before .before .before .before .before .before .before .before .before .pre) (omega arith)),
     )
 
--- src/swap.rt:58:1
 same-length-2 : tie.Need-same-length-2
 same-length-2 c = search needs
 
--- src/swap.rt:58:1
 returns-2 : tie.Need-returns-2
 returns-2 c =
     let bs = c .before .before .before .before .before .before .before .args .bytes .now in

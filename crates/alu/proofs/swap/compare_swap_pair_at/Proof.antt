@@ -15,31 +15,24 @@ use Rattle.alu.proofs.swap.compare_swap_pair_at.Reads as reads
 use Rattle.alu.proofs.swap.compare_swap_pair_at.Lts as lts
 use Rattle.alu.proofs.swap.compare_swap_pair.Reads as compare-swap-pair-reads
 
--- src/swap.rt:78:15
 add-end : tie.Need-add-end
 add-end c = search needs
 
--- src/swap.rt:79:23
 sub-compare-swap-pair : tie.Need-sub-compare-swap-pair
 sub-compare-swap-pair c = search needs
 
--- src/swap.rt:79:23
 part-compare-swap-pair-start : tie.Need-part-compare-swap-pair-start
 part-compare-swap-pair-start c = search needs
 
--- src/swap.rt:79:23
 part-compare-swap-pair-end : tie.Need-part-compare-swap-pair-end
 part-compare-swap-pair-end c = search needs
 
--- src/swap.rt:79:5
 compare-swap-pair-requires : tie.Need-compare-swap-pair-requires
 compare-swap-pair-requires c κs = search needs
 
--- src/swap.rt:73:1
 same-length : tie.Need-same-length
 same-length c = search needs
 
--- src/swap.rt:73:1
 returns : tie.Need-returns
 returns c =
     let x = c .before .before .before .before .before .args in

@@ -9,14 +9,12 @@ use Rattle.alu.proofs.swap.same.Tie as tie
 use Rattle.alu.proofs.swap.same.Reads as reads
 use Rattle.alu.proofs.swap.same.Lts as lts
 
--- src/swap.rt:50:13
 returns : tie.Need-returns
 returns c =
     let x = c .before .before .before .before .before .before .args in
     let e : joined (x .p) ≡ joined (x .q) = omega arith in
     sym (eq-eqb _ _ e)
 
--- src/swap.rt:52:9
 returns-2 : tie.Need-returns-2
 returns-2 c =
     let x = c .before .before .before .before .before .before .args in
@@ -24,7 +22,6 @@ returns-2 c =
     let q = x .q in
     sym (ne-eqb _ _ (λ (e : joined p ≡ joined q). c .if2 .left (same-high (2 ^ 64) (p .low) (p .high) (q .low) (q .high) (omega arith) (omega arith) e)))
 
--- src/swap.rt:45:1
 returns-3 : tie.Need-returns-3
 returns-3 c =
     let x = c .before .before .before .args in

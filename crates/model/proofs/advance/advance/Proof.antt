@@ -13,11 +13,8 @@ use borrow.Author.Needs.{needs}
 use Rattle.model.proofs.advance.advance.Statement.{statement}
 use Rattle.model.proofs.advance.advance.Tie as tie
 
--- helpers
 rules : (c : tie.Start) → MemoryRules (c .args .base) (length (c .args .mem .now)) × StateRules (c .args .base) (length (c .args .mem .now)) (stateFrom (c .args .count) (c .args .x .now) (c .args .pc .now) (c .args .res))
 rules c = refusal-0 _ _ _ .0 (c .pre)
-
--- end of helpers
 
 enum-known-e : tie.Need-enum-known-e
 enum-known-e c = search needs

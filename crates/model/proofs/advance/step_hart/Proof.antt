@@ -15,11 +15,8 @@ use borrow.Author.Needs.{needs}
 use Rattle.model.proofs.advance.step_hart.Statement.{statement}
 use Rattle.model.proofs.advance.step_hart.Tie as tie
 
--- helpers
 rules : (c : tie.Start) → MemoryRules (c .args .base) (length (c .args .mem .now)) × StateRules (c .args .base) (length (c .args .mem .now)) (stateFrom (c .args .count) (c .args .x .now) (c .args .pc .now) (c .args .t3))
 rules c = refusal-0 _ _ _ .0 (c .pre .0)
-
--- end of helpers
 
 mul-s : tie.Need-mul-s
 mul-s c = omega (arith, rules (c .before) .1 .1)
