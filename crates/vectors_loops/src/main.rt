@@ -1,7 +1,7 @@
 // Writes the line of each block on standard input. A block is a byte with the number of its words, then the words, 4 bytes each and the lowest first.
 // The lines that are expected were made by an independent model of document 01.
 use libc::STDIN_FILENO;
-ghost use Prim.Native.Nat.{_≤_, _<_};
+ghost use Prim.Native.Nat.{_<_};
 ghost use lib.ListN.{length};
 
 mod line;
