@@ -52,7 +52,7 @@ use Rattle.retry.specs.declared.View.{View}
 use Rattle.retry.specs.declared.View.the-variants.{Lr, Sc, Plain, Jump, Branch, Other}
 use Rattle.retry.proofs.ViewLaws.{Seen, SeenLr, SeenSc, seen, lr-view}
 use Rattle.retry.proofs.Accepted.{Ahead, Home, Keeps, Before, After, Block, block}
-use Rattle.progress.specs.Claim.{answered, pcOf, isStep, Fine, Start, Harmless, Finish, stored, left, back, Safe, Finishes, Calm, Unfinished, steps, NextStep}
+use Rattle.progress.specs.Claim.{answered, pcOf, isStep, Stored, FineAs, Fine, Start, Harmless, Finish, stored, left, back, Safe, Finishes, Calm, Unfinished, steps, NextStep}
 use Rattle.progress.proofs.Does.{Moves, Does, does, does-lr, does-sc}
 
 -- ---- notices
@@ -190,7 +190,7 @@ module _ (base h p addr : ℕ) (words : List ℕ) (lr : Atomic) (j : ℕ)
   Onward m i = Finish base h p addr words lr m (Step h) ⊎ ((i′ : ℕ) × (i < i′) × At (nextOf base m (Step h)) i′)
 
   Good : Machine → ℕ → Type 0
-  Good m i = Fine (answered base m (Step h)) × Onward m i
+  Good m i = Fine base h p addr words lr m (Step h) × Onward m i
 
   module _ (m : Machine) (i : ℕ) (a : At m i) where
     -- what an instruction does here, and the word at the place
@@ -258,8 +258,8 @@ module _ (base h p addr : ℕ) (words : List ℕ) (lr : Atomic) (j : ℕ)
               )
           go (no b) = inl (left (λ k l x. let y : p + 4 * k ≡ p + 4 * i′ = sym x ∙ to-there in b (omega arith)))
 
-      fine : Fine (retiredAs (noticeOf h t)) → Fine (answered base m (Step h))
-      fine f = subst Fine (sym (said base m h (mv .ws) (p + 4 * i′) t changed)) f
+      fine : FineAs base h p addr words lr m (Step h) (retiredAs (noticeOf h t)) → Fine base h p addr words lr m (Step h)
+      fine f = subst (FineAs base h p addr words lr m (Step h)) (sym (said base m h (mv .ws) (p + 4 * i′) t changed)) f
 
     -- a word that tells nothing
     silent : (rd i′ : ℕ) → Moves exec rd (p + 4 * i′) nothing → i < i′ → 0 < i → (i < j → Keeps (lr .rs1) rd) → Good m i
@@ -281,7 +281,7 @@ module _ (base h p addr : ℕ) (words : List ℕ) (lr : Atomic) (j : ℕ)
     unfolding Good Onward
     home rd off mv f =
         let q : actOf base (m .mem) (m .state) (Step h) ≡ change h (mv .ws) ((pcOf m h + off) % 2 ^ 64) nothing = act-is ∙ ap (ofExec h) (mv .is) in (
-          subst Fine (sym (said base m h (mv .ws) ((pcOf m h + off) % 2 ^ 64) nothing q)) tt,
+          subst (FineAs base h p addr words lr m (Step h)) (sym (said base m h (mv .ws) ((pcOf m h + off) % 2 ^ 64) nothing q)) tt,
           inl (back (goes base m h (mv .ws) ((pcOf m h + off) % 2 ^ 64) nothing q (omega (arith, hart-8, a .ground .shaped .counters)) ∙ omega (arith, low, a .here))),
         )
 
@@ -352,18 +352,8 @@ module _ (base h p addr : ℕ) (words : List ℕ) (lr : Atomic) (j : ℕ)
     closing : i ≡ j → Good m i
     unfolding Good Onward coversOf leaves
     closing z = (
-      subst Fine (sym succeeds) tt,
-      inl
-          (stored
-          (record {
-            sc = s .of;
-            fetches = subst (Fetches base m h) (s .is) fetches;
-            isSc = s .kind;
-            succeeds = succeeds;
-            address = src;
-            width = s .width-is;
-            bytes = bytes;
-          })),
+      subst (FineAs base h p addr words lr m (Step h)) (sym succeeds) kept,
+      inl (stored kept),
     )
       where
         s : SeenSc (decodeOf (getD words i 0)) (lr .rs1) (bytesOf (lr .width))
@@ -399,6 +389,18 @@ module _ (base h p addr : ℕ) (words : List ℕ) (lr : Atomic) (j : ℕ)
             ap₂ (λ (l : List ℕ) (n : ℕ). part l (addr - base) n)
             (leaves-mem base m h (one (s .of .rd) 0) (afterwards 64 (pcOf m h)) (scStore addr new) act) (sym size)
             ∙ part-splice (m .mem) (addr - base) new (omega (arith, size, a .ground .reachable .0, a .ground .reachable .1))
+
+        kept : Stored base h p addr words lr m (Step h)
+        kept =
+            record {
+              sc = s .of;
+              fetches = subst (Fetches base m h) (s .is) fetches;
+              isSc = s .kind;
+              succeeds = succeeds;
+              address = src;
+              width = s .width-is;
+              bytes = bytes;
+            }
 
     data Place : Type 0 where
       at-lr : i ≡ 0 → Place
@@ -439,14 +441,14 @@ module _ (base h p addr : ℕ) (words : List ℕ) (lr : Atomic) (j : ℕ)
       go : (t : Bool) → isStep h e ≡ t
           → ((i′ k′ : ℕ) → At (nextOf base m e) i′ → length words ≤ k′ + i′ → Safe base h p addr words lr k′ (nextOf base m e) es)
           → cond t
-          (Fine (answered base m e) × (Finish base h p addr words lr m e ⊎ ((1 < k) × Safe base h p addr words lr (k - 1) (nextOf base m e) es)))
+          (Fine base h p addr words lr m e × (Finish base h p addr words lr m e ⊎ ((1 < k) × Safe base h p addr words lr (k - 1) (nextOf base m e) es)))
           (Harmless base h p addr words lr m e → Safe base h p addr words lr k (nextOf base m e) es)
       go false q ih = λ s. ih i k (stays m i e a (not-step h e q) s) l
       go true q ih = (g .0, on (g .1))
         where
-          g : Fine (answered base m e) × (Finish base h p addr words lr m e ⊎ ((i′ : ℕ) × (i < i′) × At (nextOf base m e) i′))
+          g : Fine base h p addr words lr m e × (Finish base h p addr words lr m e ⊎ ((i′ : ℕ) × (i < i′) × At (nextOf base m e) i′))
           g =
-              subst (λ (d : Event). Fine (answered base m d) × (Finish base h p addr words lr m d ⊎ ((i′ : ℕ) × (i < i′) × At (nextOf base m d) i′)))
+              subst (λ (d : Event). Fine base h p addr words lr m d × (Finish base h p addr words lr m d ⊎ ((i′ : ℕ) × (i < i′) × At (nextOf base m d) i′)))
               (sym (step-is h e q)) (own m i a)
 
           on : Finish base h p addr words lr m e ⊎ ((i′ : ℕ) × (i < i′) × At (nextOf base m e) i′)
@@ -500,7 +502,7 @@ module _ (base h p addr : ℕ) (words : List ℕ) (lr : Atomic) (m : Machine) (s
 module _ (base h p addr : ℕ) (words : List ℕ) (lr : Atomic) where
   -- with k steps left
   record Told (k : ℕ) (m : Machine) (so-far : List Event) : Type 0 where
-    fine : Fine (answered base (runOf base m so-far) (Step h))
+    fine : Fine base h p addr words lr (runOf base m so-far) (Step h)
     bounded : steps h so-far < k
     finishes : suc (steps h so-far) ≡ k → Finish base h p addr words lr (runOf base m so-far) (Step h)
 
@@ -509,10 +511,10 @@ module _ (base h p addr : ℕ) (words : List ℕ) (lr : Atomic) where
   unfolding runOf
   flat [] k m z c u s = record { fine = g .0; bounded = z; finishes = last (g .1) }
     where
-      g : Fine (answered base m (Step h)) × (Finish base h p addr words lr m (Step h) ⊎ ((1 < k) × Unit {0}))
+      g : Fine base h p addr words lr m (Step h) × (Finish base h p addr words lr m (Step h) ⊎ ((1 < k) × Unit {0}))
       g =
           subst (λ (t : Bool).
-          cond t (Fine (answered base m (Step h)) × (Finish base h p addr words lr m (Step h) ⊎ ((1 < k) × Unit {0})))
+          cond t (Fine base h p addr words lr m (Step h) × (Finish base h p addr words lr m (Step h) ⊎ ((1 < k) × Unit {0})))
           (Harmless base h p addr words lr m (Step h) → Unit {0})) (eq-eqb h h refl) s
 
       last : Finish base h p addr words lr m (Step h) ⊎ ((1 < k) × Unit {0}) → 1 ≡ k → Finish base h p addr words lr m (Step h)
@@ -522,7 +524,7 @@ module _ (base h p addr : ℕ) (words : List ℕ) (lr : Atomic) where
     where
       go : (t : Bool) → isStep h d ≡ t
           → cond t
-          (Fine (answered base m d)
+          (Fine base h p addr words lr m d
           × (Finish base h p addr words lr m d ⊎ ((1 < k) × Safe base h p addr words lr (k - 1) (nextOf base m d) (so-far ++ Step h ∷ []))))
           (Harmless base h p addr words lr m d → Safe base h p addr words lr k (nextOf base m d) (so-far ++ Step h ∷ []))
           → ((k′ : ℕ) → 0 < k′ → Safe base h p addr words lr k′ (nextOf base m d) (so-far ++ Step h ∷ []) → Told k′ (nextOf base m d) so-far)

@@ -49,14 +49,6 @@ abbrev pub steps : ℕ → List Event → ℕ
 steps h [] = 0
 steps h (e ∷ es) = cond (isStep h e) (suc (steps h es)) (steps h es)
 
--- "without a refusal, a trap or a failed SC"
-abbrev pub Fine : Outcome → Type 0
-Fine O.Retired = Unit {0}
-Fine O.ScStored = Unit {0}
-Fine O.ScFailed = ⊥
-Fine (O.Trap cause value) = ⊥
-Fine (O.Refused number) = ⊥
-
 -- A memory at base; hart h; a block of words whose place 0 stands at p and is the LR lr; the LR's address addr.
 module _ (base h p addr : ℕ) (words : List ℕ) (lr : Atomic) where
   -- where the claim starts
@@ -100,6 +92,17 @@ module _ (base h p addr : ℕ) (words : List ℕ) (lr : Atomic) where
     pub width : bytesOf (sc .width) ≡ bytesOf (lr .width)
     pub bytes : part (nextOf base m e .mem) (addr - base) (bytesOf (lr .width)) ≡ toLe (bytesOf (lr .width)) (regAt (m .state .x) h (sc .rs2))
 
+  -- "without a refusal, a trap or a failed SC"; and where an SC of the hart succeeds, it does so at the LR's address and leaves rs2 there
+  abbrev pub FineAs : Machine → Event → Outcome → Type 0
+  FineAs m e O.Retired = Unit {0}
+  FineAs m e O.ScStored = Stored m e
+  FineAs m e O.ScFailed = ⊥
+  FineAs m e (O.Trap cause value) = ⊥
+  FineAs m e (O.Refused number) = ⊥
+
+  abbrev pub Fine : Machine → Event → Type 0
+  Fine m e = FineAs m e (answered base m e)
+
   -- "The hart has left the loop when its pc is the address of none of the block's words, and has come back when, after a step, its pc is that of
   -- place 0."
   pub data Finish (m : Machine) (e : Event) : Type 0 where
@@ -114,7 +117,7 @@ module _ (base h p addr : ℕ) (words : List ℕ) (lr : Atomic) where
   Safe k m [] = Unit {0}
   Safe k m (e ∷ es) =
       cond (isStep h e)
-      (Fine (answered base m e) × (Finish m e ⊎ ((1 < k) × Safe (k - 1) (nextOf base m e) es)))
+      (Fine m e × (Finish m e ⊎ ((1 < k) × Safe (k - 1) (nextOf base m e) es)))
       (Harmless m e → Safe k (nextOf base m e) es)
 
   -- "within as many steps of its hart as it has words", for every list of events
@@ -136,6 +139,6 @@ module _ (base h p addr : ℕ) (words : List ℕ) (lr : Atomic) where
   -- After any events so far, of which the others left the loop alone and none was the finish: if the hart steps next, the step is fine and at most the
   -- hart's n-th, where the block has n words, and the n-th is the finish.
   pub record NextStep (m : Machine) (so-far : List Event) : Type 0 where
-    pub fine : Fine (answered base (runOf base m so-far) (Step h))
+    pub fine : Fine (runOf base m so-far) (Step h)
     pub bounded : steps h so-far < length words
     pub finishes : suc (steps h so-far) ≡ length words → Finish (runOf base m so-far) (Step h)
