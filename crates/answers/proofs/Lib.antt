@@ -2,3 +2,4 @@
 pub mod Refused
 pub mod Trapped
 pub mod Answers
+pub mod Good

@@ -2,3 +2,4 @@
 pub mod Refusals
 pub mod Causes
 pub mod Retired
+pub mod Good
