@@ -1,0 +1,68 @@
+// Performs single events, each on a state of its own, and writes the outcome of each and what it changed. Standard input is items of 24 bytes
+// that build a state and name an event; tools/event-table says their layout, makes them and, by another model, the text that is expected.
+use build::Case;
+use events::Event;
+use libc::STDIN_FILENO;
+use model::Answer;
+
+mod build;
+mod out;
+mod show;
+
+// Performs the event of a case on its memory, and writes the case's lines.
+fn perform(c: Case, number: u64, mem: &mut [u8; 8192], e: Event) {
+    let mut old: [u8; 8192] = [0; 8192];
+    let len = build::within(c.len);
+    build::copy(mem, &mut old, len);
+    let s = c.state;
+    let a = model::perform(s, c.base, &mut mem[..len], e);
+    let outcome = a.outcome;
+    let state = a.state;
+    show::outcome(number, outcome);
+    show::state(s, state);
+    show::memory(&old, mem, len);
+}
+
+// The event that an item is, where its kind is 7, 8 or 9.
+fn event(item: &[u8; 24]) -> Event {
+    if item[0] == 7 {
+        return Event::Step {
+            hart: build::a(item) as usize,
+        };
+    }
+    if item[0] == 8 {
+        return Event::Device {
+            addr: build::a(item),
+            size: build::n(item) as usize,
+            data: build::b(item),
+        };
+    }
+    Event::Yield {
+        hart: build::a(item) as usize,
+    }
+}
+
+// A case and the number of those before it, after one more item.
+fn take(c: Case, mem: &mut [u8; 8192], item: &[u8; 24]) -> Case {
+    if item[0] < 7 {
+        return build::patch(c, mem, item);
+    }
+    perform(c, c.number, mem, event(item));
+    build::fill(mem, build::within(c.len));
+    build::first(std::num::wrapping_add_u64(c.number, 1))
+}
+
+fn main() {
+    let mut mem: [u8; 8192] = [0; 8192];
+    build::fill(&mut mem, 8192);
+    let mut item: [u8; 24] = [0; 24];
+    let mut c = build::first(0);
+    let mut left: u64 = 1000000;
+    while 0 < left {
+        if io::read_full(STDIN_FILENO, &mut item) < 24 {
+            return;
+        }
+        c = take(c, &mut mem, &item);
+        left -= 1;
+    }
+}
