@@ -43,12 +43,9 @@ pub fn fill(mem: &mut [u8; 8192], len: usize)
     }
 }
 
-// Copies the first len bytes.
-pub fn copy(from: &[u8; 8192], to: &mut [u8; 8192], len: usize)
-    requires { ⌜ len ≤ 8192 ⌝ }
-{
-    let mut i = 0;
-    while i < len {
+pub fn copy(from: &[u8; 8192], to: &mut [u8; 8192]) {
+    let mut i: usize = 0;
+    while i < 8192 {
         to[i] = from[i];
         i += 1;
     }
@@ -174,9 +171,29 @@ pub fn patch(c: Case, mem: &mut [u8; 8192], item: &[u8; 24]) -> Case {
             set_bytes(mem, a(item) as usize, place, b(item));
             c
         }
-        2 => Case { number, base, len, state: start(a(item) as usize, base) },
-        3 => Case { number, base, len, state: set_register(s, place, a(item)) },
-        4 => Case { number, base, len, state: set_counter(s, place, a(item)) },
-        _ => Case { number, base, len, state: set_slot(s, place, a(item), b(item)) },
+        2 => Case {
+            number,
+            base,
+            len,
+            state: start(a(item) as usize, base),
+        },
+        3 => Case {
+            number,
+            base,
+            len,
+            state: set_register(s, place, a(item)),
+        },
+        4 => Case {
+            number,
+            base,
+            len,
+            state: set_counter(s, place, a(item)),
+        },
+        _ => Case {
+            number,
+            base,
+            len,
+            state: set_slot(s, place, a(item), b(item)),
+        },
     }
 }

@@ -5,7 +5,7 @@ use model::Outcome;
 use reserve::Reservation;
 use reserve::Slot;
 use word::bytes::load_at;
-ghost use Prim.Native.Nat.{_≤_, _<_};
+ghost use Prim.Native.Nat.{_≤_};
 
 pub fn outcome(number: u64, o: Outcome) {
     out::decimal(number);
@@ -115,7 +115,9 @@ fn slots(before: [Slot; 8], after: [Slot; 8]) {
     while h < 8 {
         let s = before[h];
         let t = after[h];
-        reservation(h, s.reservation, t.reservation);
+        let r = s.reservation;
+        let q = t.reservation;
+        reservation(h, r, q);
         h += 1;
     }
 }
@@ -128,7 +130,9 @@ pub fn state(before: State, after: State) {
     let p = before.pc;
     let q = after.pc;
     counters(&p, &q);
-    slots(before.res, after.res);
+    let r = before.res;
+    let s = after.res;
+    slots(r, s);
 }
 
 fn eight(at: usize, before: u64, after: u64) {
