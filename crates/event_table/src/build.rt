@@ -13,6 +13,7 @@ pub struct Case {
     pub state: State,
 }
 
+// The three numbers of an item.
 pub fn n(item: &[u8; 24]) -> u64 {
     load_at(item, 1, 7)
 }
@@ -43,6 +44,7 @@ pub fn fill(mem: &mut [u8; 8192], len: usize)
     }
 }
 
+// Copies all bytes.
 pub fn copy(from: &[u8; 8192], to: &mut [u8; 8192]) {
     let mut i: usize = 0;
     while i < 8192 {
@@ -60,6 +62,7 @@ fn register(i: usize, count: usize, v: u64) -> u64 {
     }
 }
 
+// The default state's registers, pcs and reservations.
 fn registers(count: usize) -> [u64; 256] {
     let mut x: [u64; 256] = [0; 256];
     let mut v: u64 = 0;
@@ -72,6 +75,7 @@ fn registers(count: usize) -> [u64; 256] {
     x
 }
 
+// The pc of a used hart is at base.
 fn counter(used: bool, base: u64, v: u64) -> u64 {
     if used { base } else { v }
 }
@@ -86,6 +90,7 @@ fn counters(count: usize, base: u64, x: &[u64; 256]) -> [u64; 8] {
     pc
 }
 
+// A used hart has no reservation.
 fn slot(used: bool, addr: u64, width: u64) -> Slot {
     if used {
         return Slot {
@@ -116,7 +121,7 @@ fn start(count: usize, base: u64) -> State {
     State { count, x, pc, res }
 }
 
-// The default of a case.
+// The default case, before any item.
 pub fn first(number: u64) -> Case {
     let state = start(2, 0x1000);
     Case {
@@ -145,55 +150,47 @@ fn set_slot(s: State, h: usize, addr: u64, width: u64) -> State {
     t
 }
 
+// Puts the n lowest bytes of v into memory.
 fn set_bytes(mem: &mut [u8; 8192], at: usize, n: usize, v: u64) {
-    if at < 8184 {
-        if n < 9 {
+    if at <= 8184 {
+        if n <= 8 {
             word::bytes::store_at(mem, at, n, v);
         }
     }
 }
 
-// A case after an item that is no event.
-pub fn patch(c: Case, mem: &mut [u8; 8192], item: &[u8; 24]) -> Case {
-    let s = c.state;
-    let number = c.number;
-    let base = c.base;
-    let len = c.len;
+// A state after an item of kind 2 to 5.
+fn harts(s: State, base: u64, item: &[u8; 24]) -> State {
     let place = n(item) as usize;
     match item[0] {
-        1 => Case {
+        2 => start(a(item) as usize, base),
+        3 => set_register(s, place, a(item)),
+        4 => set_counter(s, place, a(item)),
+        _ => set_slot(s, place, a(item), b(item)),
+    }
+}
+
+// A case after an item that is no event.
+pub fn patch(c: Case, mem: &mut [u8; 8192], item: &[u8; 24]) -> Case {
+    let number = c.number;
+    let s = c.state;
+    if item[0] == 1 {
+        return Case {
             number,
             base: a(item),
             len: b(item) as usize,
             state: s,
-        },
-        6 => {
-            set_bytes(mem, a(item) as usize, place, b(item));
-            c
-        }
-        2 => Case {
-            number,
-            base,
-            len,
-            state: start(a(item) as usize, base),
-        },
-        3 => Case {
-            number,
-            base,
-            len,
-            state: set_register(s, place, a(item)),
-        },
-        4 => Case {
-            number,
-            base,
-            len,
-            state: set_counter(s, place, a(item)),
-        },
-        _ => Case {
-            number,
-            base,
-            len,
-            state: set_slot(s, place, a(item), b(item)),
-        },
+        };
+    }
+    if item[0] == 6 {
+        set_bytes(mem, a(item) as usize, n(item) as usize, b(item));
+        return c;
+    }
+    let state = harts(s, c.base, item);
+    Case {
+        number,
+        base: c.base,
+        len: c.len,
+        state,
     }
 }

@@ -57,7 +57,7 @@ fn event(item: &[u8; 24]) -> Event {
     }
 }
 
-// A case and the number of those before it, after one more item.
+// A case after one more item: an event ends it, and the next case begins.
 fn take(c: Case, mem: &mut [u8; 8192], item: &[u8; 24]) -> Case {
     if item[0] < 7 {
         return build::patch(c, mem, item);
