@@ -1,0 +1,196 @@
+// The state and the memory of a case.
+use machine::State;
+use reserve::Reservation;
+use reserve::Slot;
+use word::bytes::load_at;
+ghost use Prim.Native.Nat.{_≤_};
+
+// number counts the cases before this one.
+pub struct Case {
+    pub number: u64,
+    pub base: u64,
+    pub len: usize,
+    pub state: State,
+}
+
+// The three numbers of an item.
+pub fn n(item: &[u8; 24]) -> u64 {
+    load_at(item, 1, 7)
+}
+
+pub fn a(item: &[u8; 24]) -> u64 {
+    load_at(item, 8, 8)
+}
+
+pub fn b(item: &[u8; 24]) -> u64 {
+    load_at(item, 16, 8)
+}
+
+// A length that fits the memory there is.
+pub fn within(len: usize) -> usize
+    ensures { λ r. ⌜ r ≤ 8192 ⌝ }
+{
+    if len < 8192 { len } else { 8192 }
+}
+
+// Puts the default's bytes into the first len.
+pub fn fill(mem: &mut [u8; 8192], len: usize)
+    requires { ⌜ len ≤ 8192 ⌝ }
+{
+    let mut i = 0;
+    while i < len {
+        mem[i] = ((i * 167 + 13) % 256) as u8;
+        i += 1;
+    }
+}
+
+// Copies all bytes.
+pub fn copy(from: &[u8; 8192], to: &mut [u8; 8192]) {
+    let mut i: usize = 0;
+    while i < 8192 {
+        to[i] = from[i];
+        i += 1;
+    }
+}
+
+// x0 of a used hart is zero.
+fn register(i: usize, count: usize, v: u64) -> u64 {
+    if (i % 32 == 0) & (i / 32 < count) {
+        0
+    } else {
+        v
+    }
+}
+
+// The default state's registers, pcs and reservations.
+fn registers(count: usize) -> [u64; 256] {
+    let mut x: [u64; 256] = [0; 256];
+    let mut v: u64 = 0;
+    let mut i: usize = 0;
+    while i < 256 {
+        x[i] = register(i, count, v);
+        v = std::num::wrapping_add_u64(v, 0x9E3779B97F4A7C15);
+        i += 1;
+    }
+    x
+}
+
+// The pc of a used hart is at base.
+fn counter(used: bool, base: u64, v: u64) -> u64 {
+    if used { base } else { v }
+}
+
+fn counters(count: usize, base: u64, x: &[u64; 256]) -> [u64; 8] {
+    let mut pc: [u64; 8] = [0; 8];
+    let mut h: usize = 0;
+    while h < 8 {
+        pc[h] = counter(h < count, base, x[h * 32 + 1]);
+        h += 1;
+    }
+    pc
+}
+
+// A used hart has no reservation.
+fn slot(used: bool, addr: u64, width: u64) -> Slot {
+    if used {
+        return Slot {
+            reservation: Reservation::None,
+        };
+    }
+    Slot {
+        reservation: Reservation::Held { addr, width },
+    }
+}
+
+fn slots(count: usize, x: &[u64; 256]) -> [Slot; 8] {
+    let none = slot(true, 0, 0);
+    let mut res: [Slot; 8] = [none; 8];
+    let mut h: usize = 0;
+    while h < 8 {
+        res[h] = slot(h < count, x[h * 32 + 2], x[h * 32 + 3]);
+        h += 1;
+    }
+    res
+}
+
+// The default state of count harts.
+fn start(count: usize, base: u64) -> State {
+    let x = registers(count);
+    let pc = counters(count, base, &x);
+    let res = slots(count, &x);
+    State { count, x, pc, res }
+}
+
+// The default case, before any item.
+pub fn first(number: u64) -> Case {
+    let state = start(2, 0x1000);
+    Case {
+        number,
+        base: 0x1000,
+        len: 256,
+        state,
+    }
+}
+
+fn set_register(s: State, i: usize, v: u64) -> State {
+    let mut t = s;
+    t.x[i % 256] = v;
+    t
+}
+
+fn set_counter(s: State, h: usize, v: u64) -> State {
+    let mut t = s;
+    t.pc[h % 8] = v;
+    t
+}
+
+fn set_slot(s: State, h: usize, addr: u64, width: u64) -> State {
+    let mut t = s;
+    t.res[h % 8] = slot(false, addr, width);
+    t
+}
+
+// Puts the n lowest bytes of v into memory.
+fn set_bytes(mem: &mut [u8; 8192], at: usize, n: usize, v: u64) {
+    if at <= 8184 {
+        if n <= 8 {
+            word::bytes::store_at(mem, at, n, v);
+        }
+    }
+}
+
+// A state after an item of kind 2 to 5.
+fn harts(s: State, base: u64, item: &[u8; 24]) -> State {
+    let place = n(item) as usize;
+    match item[0] {
+        2 => start(a(item) as usize, base),
+        3 => set_register(s, place, a(item)),
+        4 => set_counter(s, place, a(item)),
+        _ => set_slot(s, place, a(item), b(item)),
+    }
+}
+
+// A case after an item that is no event.
+pub fn patch(c: Case, mem: &mut [u8; 8192], item: &[u8; 24]) -> Case {
+    let number = c.number;
+    let s = c.state;
+    if item[0] == 1 {
+        return Case {
+            number,
+            base: a(item),
+            len: b(item) as usize,
+            state: s,
+        };
+    }
+    if item[0] == 6 {
+        set_bytes(mem, a(item) as usize, n(item) as usize, b(item));
+        return c;
+    }
+    let state = harts(s, c.base, item);
+    Case {
+        number,
+        base: c.base,
+        len: c.len,
+        state,
+    }
+}
