@@ -1,0 +1,219 @@
+//! The case file, a run of its events, and the program's lines.
+
+use crate::machine::{base_allowed, length_allowed, Memory, Outcome, State, MAX_HARTS};
+
+pub const EVENT: usize = 24;
+pub const TABLE: usize = 40;
+pub const MAX_FILE: usize = 65_536;
+
+#[derive(Clone, Copy, PartialEq, Eq, Debug)]
+pub struct Refusal {
+    pub number: u8,
+    pub place: usize,
+}
+
+fn refuse<T>(number: u8, place: usize) -> Result<T, Refusal> {
+    Err(Refusal { number, place })
+}
+
+fn u32_at(bytes: &[u8], place: usize) -> u32 {
+    u32::from_le_bytes(bytes[place..place + 4].try_into().unwrap())
+}
+
+fn u64_at(bytes: &[u8], place: usize) -> u64 {
+    u64::from_le_bytes(bytes[place..place + 8].try_into().unwrap())
+}
+
+/// A read case: the parts of the file and the state at the start.
+pub struct Case<'a> {
+    pub state: State,
+    pub base: u64,
+    pub memory: &'a [u8],
+    pub events: &'a [u8],
+}
+
+fn event_allowed(bytes: &[u8], count: usize, base: u64, length: usize) -> bool {
+    let (kind, hart, size) = (bytes[0], bytes[1] as usize, bytes[2] as usize);
+    if bytes[3..8] != [0; 5] {
+        return false;
+    }
+    match kind {
+        1 | 3 => hart < count && size == 0 && bytes[8..] == [0; 16],
+        2 => {
+            hart == 0
+                && (1..=8).contains(&size)
+                && u64_at(bytes, 8).wrapping_sub(base) <= (length - size) as u64
+                && bytes[16 + size..].iter().all(|&b| b == 0)
+        }
+        _ => false,
+    }
+}
+
+/// Refusal 11, with the place counted from the body's first byte.
+fn check_events(body: &[u8], count: usize, base: u64, length: usize) -> Result<(), Refusal> {
+    if body.len() % EVENT != 0 {
+        return refuse(11, 0);
+    }
+    for (n, bytes) in body.chunks_exact(EVENT).enumerate() {
+        if !event_allowed(bytes, count, base, length) {
+            return refuse(11, EVENT * n);
+        }
+    }
+    Ok(())
+}
+
+fn read_harts(body: &[u8]) -> Option<(State, u64)> {
+    if body.len() < 16 {
+        return None;
+    }
+    let (base, count, zero) = (u64_at(body, 0), u32_at(body, 8) as usize, u32_at(body, 12));
+    if !base_allowed(base) || !(1..=MAX_HARTS).contains(&count) || zero != 0 || body.len() != 16 + 256 * count {
+        return None;
+    }
+    let mut state = State { count, ..State::default() };
+    for (hart, bytes) in state.harts.iter_mut().zip(body[16..].chunks_exact(256)) {
+        for (r, value) in hart.x[1..].iter_mut().enumerate() {
+            *value = u64_at(bytes, 8 * r);
+        }
+        hart.pc = u64_at(bytes, 248);
+        if hart.pc % 4 != 0 {
+            return None;
+        }
+    }
+    Some((state, base))
+}
+
+pub fn read_case(file: &[u8]) -> Result<Case<'_>, Refusal> {
+    if !(TABLE..=MAX_FILE).contains(&file.len()) {
+        return refuse(7, 0);
+    }
+    if u32_at(file, 0) != 3 {
+        return refuse(8, 0);
+    }
+    let mut next = TABLE as u64;
+    let mut bodies = [(0, 0); 3];
+    for (n, body) in bodies.iter_mut().enumerate() {
+        let entry = 4 + 12 * n;
+        let (kind, offset, length) = (u32_at(file, entry), u32_at(file, entry + 4), u32_at(file, entry + 8));
+        if kind != n as u32 + 1 {
+            return refuse(8, entry);
+        }
+        if offset as u64 != next {
+            return refuse(8, entry + 4);
+        }
+        next += length as u64;
+        *body = (offset as usize, length as usize);
+    }
+    if next != file.len() as u64 {
+        return refuse(8, 36);
+    }
+    let [harts, memory, events] = bodies.map(|(offset, length)| &file[offset..offset + length]);
+    let Some((state, base)) = read_harts(harts) else {
+        return refuse(9, bodies[0].0);
+    };
+    if !length_allowed(memory.len()) {
+        return refuse(10, bodies[1].0);
+    }
+    check_events(events, state.count, base, memory.len())
+        .map_err(|r| Refusal { number: 11, place: bodies[2].0 + r.place })?;
+    Ok(Case { state, base, memory, events })
+}
+
+/// Performs the events of a checked body and hands each with its outcome to `observe`.
+fn perform(state: &mut State, memory: &mut Memory, body: &[u8], mut observe: impl FnMut(usize, u8, usize, Outcome)) {
+    for (n, bytes) in body.chunks_exact(EVENT).enumerate() {
+        let hart = bytes[1] as usize;
+        let outcome = match bytes[0] {
+            1 => state.perform_step(memory, hart),
+            2 => {
+                let size = bytes[2] as usize;
+                state.perform_device(memory, u64_at(bytes, 8), &bytes[16..16 + size]);
+                Outcome::Retired
+            }
+            _ => {
+                state.perform_yield(hart);
+                Outcome::Retired
+            }
+        };
+        observe(n, bytes[0], hart, outcome);
+    }
+}
+
+/// A run: how many events it performed, or its refusal.
+pub fn run(state: &mut State, memory: &mut Memory, body: &[u8], budget: usize) -> Result<usize, Refusal> {
+    state.accepted(memory).or_else(|number| refuse(number, 0))?;
+    check_events(body, state.count, memory.base, memory.bytes.len())?;
+    let performed = budget.min(body.len() / EVENT);
+    perform(state, memory, &body[..EVENT * performed], |_, _, _, _| {});
+    Ok(performed)
+}
+
+fn put_decimal(out: &mut Vec<u8>, mut n: usize) {
+    let mut digits = [0; 20];
+    let mut at = digits.len();
+    loop {
+        at -= 1;
+        digits[at] = b'0' + (n % 10) as u8;
+        n /= 10;
+        if n == 0 {
+            break;
+        }
+    }
+    out.extend_from_slice(&digits[at..]);
+}
+
+fn put_hex(out: &mut Vec<u8>, value: u64) {
+    let digits: [u8; 16] = std::array::from_fn(|n| b"0123456789abcdef"[(value >> (60 - 4 * n) & 15) as usize]);
+    out.extend_from_slice(&digits);
+}
+
+/// All that the program writes for a file.
+pub fn report(file: &[u8]) -> Vec<u8> {
+    let mut out = Vec::new();
+    let mut case = match read_case(file) {
+        Ok(case) => case,
+        Err(refusal) => {
+            out.extend_from_slice(b"refused ");
+            put_decimal(&mut out, refusal.number as usize);
+            out.push(b' ');
+            put_decimal(&mut out, refusal.place);
+            out.push(b'\n');
+            return out;
+        }
+    };
+    let events = case.events.len() / EVENT;
+    out.reserve(64 + 16 * events);
+    out.extend_from_slice(b"case ");
+    put_decimal(&mut out, case.state.count);
+    out.extend_from_slice(b" harts ");
+    put_decimal(&mut out, case.memory.len());
+    out.extend_from_slice(b" bytes ");
+    put_decimal(&mut out, events);
+    out.extend_from_slice(b" events\n");
+    let mut bytes = case.memory.to_vec();
+    let mut memory = Memory { base: case.base, bytes: &mut bytes };
+    perform(&mut case.state, &mut memory, case.events, |n, kind, hart, outcome| {
+        put_decimal(&mut out, n);
+        match kind {
+            1 => out.extend_from_slice(&[b' ', b'h', b'0' + hart as u8]),
+            2 => out.extend_from_slice(b" d"),
+            _ => out.extend_from_slice(&[b' ', b'y', b'0' + hart as u8]),
+        }
+        match outcome {
+            Outcome::Retired => out.extend_from_slice(b" ok"),
+            Outcome::Sc { success: true } => out.extend_from_slice(b" sc 0"),
+            Outcome::Sc { success: false } => out.extend_from_slice(b" sc 1"),
+            Outcome::Trap(trap) => {
+                out.extend_from_slice(b" trap ");
+                put_decimal(&mut out, trap.cause as usize);
+                out.push(b' ');
+                put_hex(&mut out, trap.value);
+            }
+        }
+        out.push(b'\n');
+    });
+    out.extend_from_slice(b"end ");
+    put_decimal(&mut out, events);
+    out.push(b'\n');
+    out
+}

@@ -1,0 +1,419 @@
+//! Harts, memory, steps, device writes and yields.
+
+use crate::word::{decode, Alu, Atomic, AtomicOp, Cond, Instr};
+
+pub const MAX_HARTS: usize = 8;
+const SET: u64 = 64;
+
+#[derive(Clone, Copy, PartialEq, Eq, Debug)]
+pub struct Reservation {
+    pub addr: u64,
+    pub width: u8,
+}
+
+#[derive(Clone, Copy, PartialEq, Eq, Debug, Default)]
+pub struct Hart {
+    pub x: [u64; 32],
+    pub pc: u64,
+    pub reservation: Option<Reservation>,
+}
+
+#[derive(Clone, PartialEq, Eq, Debug)]
+pub struct State {
+    pub count: usize,
+    pub harts: [Hart; MAX_HARTS],
+}
+
+/// The lent memory.
+pub struct Memory<'a> {
+    pub base: u64,
+    pub bytes: &'a mut [u8],
+}
+
+#[derive(Clone, Copy, PartialEq, Eq, Debug)]
+pub struct Trap {
+    pub cause: u8,
+    pub value: u64,
+}
+
+#[derive(Clone, Copy, PartialEq, Eq, Debug)]
+pub enum Outcome {
+    Retired,
+    Sc { success: bool },
+    Trap(Trap),
+}
+
+pub fn base_allowed(base: u64) -> bool {
+    base % 64 == 0 && base <= 1 << 40
+}
+
+pub fn length_allowed(len: usize) -> bool {
+    (64..=1 << 20).contains(&len) && len % 64 == 0
+}
+
+impl Memory<'_> {
+    /// The place in `bytes` of `width` bytes at `addr`, if all are in memory. `width` is at most 64.
+    #[inline]
+    fn place(&self, addr: u64, width: u64) -> Option<usize> {
+        let offset = addr.wrapping_sub(self.base);
+        (offset <= self.bytes.len() as u64 - width).then_some(offset as usize)
+    }
+
+    pub fn contains(&self, addr: u64, width: u64) -> bool {
+        self.place(addr, width).is_some()
+    }
+
+    fn check(&self) -> Result<(), u8> {
+        if base_allowed(self.base) && length_allowed(self.bytes.len()) {
+            Ok(())
+        } else {
+            Err(1)
+        }
+    }
+}
+
+#[inline]
+fn read(bytes: &[u8], width: u8) -> u64 {
+    match width {
+        1 => bytes[0] as u64,
+        2 => u16::from_le_bytes(bytes[..2].try_into().unwrap()) as u64,
+        4 => u32::from_le_bytes(bytes[..4].try_into().unwrap()) as u64,
+        _ => u64::from_le_bytes(bytes[..8].try_into().unwrap()),
+    }
+}
+
+#[inline]
+fn write(bytes: &mut [u8], width: u8, value: u64) {
+    match width {
+        1 => bytes[0] = value as u8,
+        2 => bytes[..2].copy_from_slice(&(value as u16).to_le_bytes()),
+        4 => bytes[..4].copy_from_slice(&(value as u32).to_le_bytes()),
+        _ => bytes[..8].copy_from_slice(&value.to_le_bytes()),
+    }
+}
+
+#[inline]
+fn sign_extend(value: u64, width: u8) -> u64 {
+    let shift = 64 - 8 * width as u32;
+    ((value << shift) as i64 >> shift) as u64
+}
+
+fn alu(op: Alu, a: u64, b: u64) -> u64 {
+    match op {
+        Alu::Add => a.wrapping_add(b),
+        Alu::Sub => a.wrapping_sub(b),
+        Alu::Sll => a << (b & 63),
+        Alu::Slt => ((a as i64) < b as i64) as u64,
+        Alu::Sltu => (a < b) as u64,
+        Alu::Xor => a ^ b,
+        Alu::Srl => a >> (b & 63),
+        Alu::Sra => (a as i64 >> (b & 63)) as u64,
+        Alu::Or => a | b,
+        Alu::And => a & b,
+    }
+}
+
+fn alu32(op: Alu, a: u64, b: u64) -> u64 {
+    let (a, b) = (a as u32, b as u32);
+    let r = match op {
+        Alu::Sub => a.wrapping_sub(b),
+        Alu::Sll => a << (b & 31),
+        Alu::Srl => a >> (b & 31),
+        Alu::Sra => (a as i32 >> (b & 31)) as u32,
+        _ => a.wrapping_add(b),
+    };
+    r as i32 as i64 as u64
+}
+
+fn taken(cond: Cond, a: u64, b: u64) -> bool {
+    match cond {
+        Cond::Eq => a == b,
+        Cond::Ne => a != b,
+        Cond::Lt => (a as i64) < b as i64,
+        Cond::Ge => a as i64 >= b as i64,
+        Cond::Ltu => a < b,
+        Cond::Geu => a >= b,
+    }
+}
+
+/// What an AMO stores. Both operands are sign-extended from their width, so one 64-bit comparison serves both widths.
+fn amo(op: AtomicOp, old: u64, arg: u64) -> u64 {
+    match op {
+        AtomicOp::Swap => arg,
+        AtomicOp::Add => old.wrapping_add(arg),
+        AtomicOp::Xor => old ^ arg,
+        AtomicOp::Or => old | arg,
+        AtomicOp::And => old & arg,
+        AtomicOp::Min => (old as i64).min(arg as i64) as u64,
+        AtomicOp::Max => (old as i64).max(arg as i64) as u64,
+        AtomicOp::Minu => old.min(arg),
+        AtomicOp::Maxu => old.max(arg),
+        AtomicOp::Lr | AtomicOp::Sc | AtomicOp::Cas => unreachable!(),
+    }
+}
+
+impl Hart {
+    #[inline]
+    fn set(&mut self, rd: u8, value: u64) {
+        if rd != 0 {
+            self.x[rd as usize] = value;
+        }
+    }
+}
+
+#[inline]
+fn trap<T>(cause: u8, value: u64) -> Result<T, Trap> {
+    Err(Trap { cause, value })
+}
+
+impl Default for State {
+    fn default() -> Self {
+        State { count: 1, harts: [Hart::default(); MAX_HARTS] }
+    }
+}
+
+impl State {
+    fn check(&self, memory: &Memory) -> Result<(), u8> {
+        memory.check()?;
+        if !(1..=MAX_HARTS).contains(&self.count) {
+            return Err(2);
+        }
+        let sound = |hart: &Hart| {
+            hart.x[0] == 0
+                && hart.pc % 4 == 0
+                && hart.reservation.is_none_or(|r| {
+                    (r.width == 4 || r.width == 8)
+                        && r.addr % r.width as u64 == 0
+                        && memory.contains(r.addr, r.width as u64)
+                })
+        };
+        if self.harts[..self.count].iter().all(sound) {
+            Ok(())
+        } else {
+            Err(2)
+        }
+    }
+
+    fn check_hart(&self, hart: usize) -> Result<(), u8> {
+        if hart < self.count {
+            Ok(())
+        } else {
+            Err(3)
+        }
+    }
+
+    /// One step of a hart. Err is the number of the refusal, here and below.
+    pub fn step(&mut self, memory: &mut Memory, hart: usize) -> Result<Outcome, u8> {
+        self.check(memory)?;
+        self.check_hart(hart)?;
+        Ok(self.perform_step(memory, hart))
+    }
+
+    pub fn device(&mut self, memory: &mut Memory, addr: u64, data: &[u8]) -> Result<(), u8> {
+        self.check(memory)?;
+        if !(1..=8).contains(&data.len()) {
+            return Err(4);
+        }
+        if !memory.contains(addr, data.len() as u64) {
+            return Err(5);
+        }
+        self.perform_device(memory, addr, data);
+        Ok(())
+    }
+
+    pub fn yield_hart(&mut self, memory: &Memory, hart: usize) -> Result<(), u8> {
+        self.check(memory)?;
+        self.check_hart(hart)?;
+        self.perform_yield(hart);
+        Ok(())
+    }
+
+    /// Refusals 1 and 2 alone.
+    pub fn accepted(&self, memory: &Memory) -> Result<(), u8> {
+        self.check(memory)
+    }
+
+    pub(crate) fn perform_device(&mut self, memory: &mut Memory, addr: u64, data: &[u8]) {
+        let place = (addr - memory.base) as usize;
+        memory.bytes[place..place + data.len()].copy_from_slice(data);
+        let end = addr + data.len() as u64;
+        for hart in &mut self.harts[..self.count] {
+            if let Some(r) = hart.reservation {
+                if r.addr < end && addr < r.addr + r.width as u64 {
+                    hart.reservation = None;
+                }
+            }
+        }
+    }
+
+    pub(crate) fn perform_yield(&mut self, hart: usize) {
+        self.harts[hart].reservation = None;
+    }
+
+    /// A write by a hart. It is aligned and so lies in one set.
+    fn break_others(&mut self, writer: usize, addr: u64) {
+        for (number, hart) in self.harts[..self.count].iter_mut().enumerate() {
+            if number != writer {
+                if let Some(r) = hart.reservation {
+                    if r.addr / SET == addr / SET {
+                        hart.reservation = None;
+                    }
+                }
+            }
+        }
+    }
+
+    #[inline]
+    pub(crate) fn perform_step(&mut self, memory: &mut Memory, number: usize) -> Outcome {
+        match self.execute(memory, number) {
+            Ok(outcome) => outcome,
+            Err(trap) => Outcome::Trap(trap),
+        }
+    }
+
+    fn execute(&mut self, memory: &mut Memory, number: usize) -> Result<Outcome, Trap> {
+        let hart = &mut self.harts[number];
+        let pc = hart.pc;
+        let Some(place) = memory.place(pc, 4) else {
+            return trap(1, pc);
+        };
+        let word = read(&memory.bytes[place..], 4) as u32;
+        let Some(instr) = decode(word) else {
+            return trap(2, word as u64);
+        };
+        let x = |r: u8| hart.x[r as usize];
+        let mut next = pc.wrapping_add(4);
+        let mut outcome = Outcome::Retired;
+        match instr {
+            Instr::Lui { rd, imm } => hart.set(rd, imm),
+            Instr::Auipc { rd, imm } => hart.set(rd, pc.wrapping_add(imm)),
+            Instr::Jal { rd, offset } => {
+                let target = pc.wrapping_add(offset);
+                if target % 4 != 0 {
+                    return trap(0, target);
+                }
+                hart.set(rd, next);
+                next = target;
+            }
+            Instr::Jalr { rd, rs1, imm } => {
+                let target = x(rs1).wrapping_add(imm) & !1;
+                if target % 4 != 0 {
+                    return trap(0, target);
+                }
+                hart.set(rd, next);
+                next = target;
+            }
+            Instr::Branch { cond, rs1, rs2, offset } => {
+                if taken(cond, x(rs1), x(rs2)) {
+                    next = pc.wrapping_add(offset);
+                    if next % 4 != 0 {
+                        return trap(0, next);
+                    }
+                }
+            }
+            Instr::Load { width, signed, rd, rs1, imm } => {
+                let addr = x(rs1).wrapping_add(imm);
+                if addr % width as u64 != 0 {
+                    return trap(4, addr);
+                }
+                let Some(place) = memory.place(addr, width as u64) else {
+                    return trap(5, addr);
+                };
+                let value = read(&memory.bytes[place..], width);
+                hart.set(rd, if signed { sign_extend(value, width) } else { value });
+            }
+            Instr::Store { width, rs1, rs2, imm } => {
+                let addr = x(rs1).wrapping_add(imm);
+                if addr % width as u64 != 0 {
+                    return trap(6, addr);
+                }
+                let Some(place) = memory.place(addr, width as u64) else {
+                    return trap(7, addr);
+                };
+                write(&mut memory.bytes[place..], width, x(rs2));
+                hart.pc = next;
+                self.break_others(number, addr);
+                return Ok(outcome);
+            }
+            Instr::OpImm { op, rd, rs1, imm } => hart.set(rd, alu(op, x(rs1), imm)),
+            Instr::Op { op, rd, rs1, rs2 } => hart.set(rd, alu(op, x(rs1), x(rs2))),
+            Instr::OpImm32 { op, rd, rs1, imm } => hart.set(rd, alu32(op, x(rs1), imm)),
+            Instr::Op32 { op, rd, rs1, rs2 } => hart.set(rd, alu32(op, x(rs1), x(rs2))),
+            Instr::Fence => {}
+            Instr::Ecall => return trap(8, 0),
+            Instr::Ebreak => return trap(3, 0),
+            Instr::Atomic(a) => outcome = self.atomic(memory, number, a)?,
+        }
+        self.harts[number].pc = next;
+        Ok(outcome)
+    }
+
+    fn atomic(&mut self, memory: &mut Memory, number: usize, a: Atomic) -> Result<Outcome, Trap> {
+        let hart = &mut self.harts[number];
+        let width = a.width as u64;
+        let addr = hart.x[a.rs1 as usize];
+        let load = a.op == AtomicOp::Lr;
+        if addr % width != 0 {
+            return trap(if load { 4 } else { 6 }, addr);
+        }
+        if a.op == AtomicOp::Sc {
+            let success = hart.reservation.take().is_some_and(|r| r.addr / SET == addr / SET);
+            if success {
+                let place = memory.place(addr, width).expect("a set is inside memory");
+                write(&mut memory.bytes[place..], a.width, hart.x[a.rs2 as usize]);
+            }
+            hart.set(a.rd, !success as u64);
+            if success {
+                self.break_others(number, addr);
+            }
+            return Ok(Outcome::Sc { success });
+        }
+        let Some(place) = memory.place(addr, width) else {
+            return trap(if load { 5 } else { 7 }, addr);
+        };
+        let bytes = &mut memory.bytes[place..place + width as usize];
+        let wrote = if a.width == 16 {
+            cas_quad(hart, bytes, a)
+        } else {
+            let old = sign_extend(read(bytes, a.width), a.width);
+            let arg = sign_extend(hart.x[a.rs2 as usize], a.width);
+            let new = match a.op {
+                AtomicOp::Lr => {
+                    hart.reservation = Some(Reservation { addr, width: a.width });
+                    None
+                }
+                AtomicOp::Cas => (old == sign_extend(hart.x[a.rd as usize], a.width)).then_some(arg),
+                op => Some(amo(op, old, arg)),
+            };
+            if let Some(new) = new {
+                write(bytes, a.width, new);
+            }
+            hart.set(a.rd, old);
+            new.is_some()
+        };
+        if wrote {
+            self.break_others(number, addr);
+        }
+        Ok(Outcome::Retired)
+    }
+}
+
+/// AMOCAS.Q on its 16 bytes; whether it wrote them.
+fn cas_quad(hart: &mut Hart, bytes: &mut [u8], a: Atomic) -> bool {
+    let pair = |r: u8| match r {
+        0 => (0, 0),
+        r => (hart.x[r as usize], hart.x[r as usize + 1]),
+    };
+    let old = (read(bytes, 8), read(&bytes[8..], 8));
+    let new = pair(a.rs2);
+    let equal = old == pair(a.rd);
+    if equal {
+        write(bytes, 8, new.0);
+        write(&mut bytes[8..], 8, new.1);
+    }
+    if a.rd != 0 {
+        hart.x[a.rd as usize] = old.0;
+        hart.x[a.rd as usize + 1] = old.1;
+    }
+    equal
+}
