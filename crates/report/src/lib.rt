@@ -86,7 +86,8 @@ fn put_bodies(
     put_lines_of_case(out, s, base, &mut space[0..len], &file[events..])
 }
 
-fn put_report(out: &mut [u8], space: &mut [u8], file: &[u8]) -> usize
+// The report of any bytes, put into a lent buffer; space is for the memory.
+pub fn put_report(out: &mut [u8], space: &mut [u8], file: &[u8]) -> usize
     requires { ⌜ (length (now out) ≡ 262144) × (length (now space) ≡ 65536) ⌝ }
     ensures { λ r. ⌜ Put (now (out .entry)) 0 (reportOf (now (file .entry))) (now (out .exit)) r ⌝ }
     ensures { λ r. ⌜ r ≤ 262144 ⌝ }

@@ -1,0 +1,35 @@
+-- The numbers that the exported functions answer, and what they write.
+use mathlib.Core.Path.{_≡_}
+use mathlib.Core.Bool.{cond}
+use mathlib.Core.List.{List}
+use Prim.Native.Nat.{ℕ, _+_, _*_, _-_, _/_, _%_, _^_, _≤_, _<_}
+use lib.Dec.{eqb}
+use lib.ListN.{length, take, drop}
+use Rattle.retry.specs.Loop.{checkOf, wordsOf}
+use Rattle.retry.specs.declared.LoopAnswer.{LoopAnswer}
+use Rattle.retry.specs.declared.LoopAnswer.the-variants.{Accepted, Rejected, Refused}
+use Rattle.report.specs.Report.{reportOf}
+
+-- the answer to arguments of a wrong size: 2 ^ 64 - 1
+abbrev pub badSize : ℕ
+badSize = 18446744073709551615
+
+-- the room that a report needs
+abbrev pub room : ℕ
+room = 262144
+
+-- What floecavern_report leaves. Too small a buffer stays as it is; another one starts with the r bytes of the report, and nothing is written behind
+-- the room.
+pub record Reported (file before after : List ℕ) (r : ℕ) : Type 0 where
+  pub small : length before < room → (r ≡ badSize) × (after ≡ before)
+  pub large : room ≤ length before → (r ≤ room) × (take r after ≡ reportOf file) × (drop room after ≡ drop room before)
+
+-- an answer of the checker of retry loops as a number
+abbrev pub loopNumber : LoopAnswer → ℕ
+loopNumber Accepted = 0
+loopNumber (Rejected place reason) = 256 * (place + 1) + reason
+loopNumber Refused = 6
+
+-- what floecavern_check_loop answers to the bytes of a block's words
+unfoldable pub loopAnswer : List ℕ → ℕ
+loopAnswer bytes = cond (eqb (length bytes % 4) 0) (loopNumber (checkOf (wordsOf bytes (length bytes / 4)))) badSize

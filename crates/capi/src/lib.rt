@@ -1,0 +1,41 @@
+// The functions that C and Rust call: include/floecavern.h says how. None has a precondition.
+use retry::LoopAnswer;
+ghost use mathlib.Core.Path.{_≡_};
+ghost use Prim.Native.Nat.{_/_};
+ghost use lib.ListN.{length};
+ghost use Rattle.retry.specs.Loop.{checkOf, wordsOf};
+ghost use Rattle.capi.specs.Answers.{Reported, loopNumber, loopAnswer};
+
+// The text of any bytes: the first r bytes of out are all that the program writes for them. 2^64 - 1 if out has fewer than 262,144 bytes.
+#[no_mangle]
+pub extern "C" fn floecavern_report(file: &[u8], out: &mut [u8]) -> u64
+    ensures { λ r. ⌜ Reported (now (file .entry)) (now (out .entry)) (now (out .exit)) r ⌝ }
+{
+    if out.len() < 262144 {
+        return 18446744073709551615;
+    }
+    let mut space = [0u8; 65536];
+    report::put_report(&mut out[..262144], &mut space, file) as u64
+}
+
+// The checker's answer as a number.
+fn loop_number(bytes: &[u8]) -> u64
+    ensures { λ r. ⌜ r ≡ loopNumber (checkOf (wordsOf (now (bytes .entry)) (length (now (bytes .entry)) / 4))) ⌝ }
+{
+    match retry::check_bytes(bytes) {
+        LoopAnswer::Accepted => 0,
+        LoopAnswer::Rejected { place, reason } => 256 * (place as u64 + 1) + reason as u64,
+        LoopAnswer::Refused => 6,
+    }
+}
+
+// Whether words, 4 bytes each and the lowest first, are a retry loop that document 01 accepts. 2^64 - 1 if they are not whole words.
+#[no_mangle]
+pub extern "C" fn floecavern_check_loop(words: &[u8]) -> u64
+    ensures { λ r. ⌜ r ≡ loopAnswer (now (words .entry)) ⌝ }
+{
+    if words.len() % 4 != 0 {
+        return 18446744073709551615;
+    }
+    loop_number(words)
+}
