@@ -1,4 +1,3 @@
 -- The laws of decoded words.
 pub mod OffsetLaws
 pub mod DecodeLaws
-pub mod Vectors

@@ -12,6 +12,7 @@ ghost use Prim.Native.Nat.{_+_, _*_, _/_, _%_, _≤_};
 ghost use lib.ListN.{length};
 ghost use Rattle.machine.specs.State.{refusalOf};
 ghost use Rattle.events.specs.Events.{eventsOf};
+ghost use Rattle.model.specs.Perform.{runOf};
 ghost use Rattle.text.specs.Put.{Put};
 ghost use Rattle.lines.specs.Lines.{whoOf, saidOf, lineOf, linesOf};
 
@@ -78,7 +79,7 @@ fn put_line(out: &mut [u8], at: usize, k: u64, e: Event, o: Outcome) -> usize
 }
 
 // A line for each event of a body that refusal 11 does not name, performed one after another from a state and a memory that refusals 1 and 2 do
-// not refuse. The memory is left as the last event leaves it.
+// not refuse.
 pub fn put_lines(
     out: &mut [u8],
     at: usize,
@@ -91,6 +92,7 @@ pub fn put_lines(
     requires { ⌜ refusalOf base (length (now mem)) s ≡ 0 ⌝ }
     ensures { λ r. ⌜ Put (now (out .entry)) at (linesOf base (record { state = s; mem = now (mem .entry) }) 0 (eventsOf (now (body .entry)))) (now (out .exit)) r ⌝ }
     ensures { λ r. ⌜ r ≤ at + 90 * (length (now (body .entry)) / 24) ⌝ }
+    ensures { λ _. ⌜ now (mem .exit) ≡ runOf base (record { state = s; mem = now (mem .entry) }) (eventsOf (now (body .entry))) .mem ⌝ }
 {
     let count = s.count;
     let mut x = s.x;

@@ -49,7 +49,7 @@ ownOf h (Yield g) r = cond (eqb g h) None r
 unfoldable pub observeOf : ℕ → ℕ → Notice → Reservation → Reservation
 observeOf size h n r = cond (breaksOf size h n r) None (ownOf h n r)
 
--- the place of a hart's reservation in the list, and a free one
+-- an element of the list of reservations
 abbrev pub slot : Reservation → Slot
 slot r = record { reservation = r }
 

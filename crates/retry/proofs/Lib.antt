@@ -6,4 +6,3 @@ pub mod ViewLaws
 pub mod PlaceLaws
 pub mod ReasonLaws
 pub mod Accepted
-pub mod Edges

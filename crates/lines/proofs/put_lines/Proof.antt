@@ -8,10 +8,11 @@ use Rattle.machine.specs.State.{refusalOf}
 use Rattle.text.specs.Put.{Put}
 use Rattle.text.proofs.PutLaws.{none, then, as-text}
 use Rattle.events.specs.Events.{eventOf, firstEvents}
+use Rattle.events.specs.declared.Event.{Event}
 use Rattle.model.specs.Act.{told}
-use Rattle.model.specs.Perform.{Machine, actOf, answerOf}
+use Rattle.model.specs.Perform.{Machine, actOf, answerOf, nextOf, runOf}
 use Rattle.model.specs.Advance.{stateFrom}
-use Rattle.model.proofs.AdvanceLaws.{advanced-next, advanced-valid, advanced-answer}
+use Rattle.model.proofs.AdvanceLaws.{advanced-next, advanced-valid, advanced-answer, events-more}
 use Rattle.lines.specs.Lines.{linesOf}
 use Rattle.lines.proofs.LineLaws.{lines-none, lines-more}
 use borrow.Author.Needs.{needs}
@@ -28,12 +29,14 @@ Inv-loop out₀ at base mem₀ body count x₀ pc₀ slots₀ n p₀ i₀ out me
     × ((o : List ℕ) (r : ℕ)
     → Put out p (linesOf base (record { state = stateFrom count x pc slots; mem = mem }) i (firstEvents (n - i) (drop (i * 24) body))) o r
     → Put out₀ at (linesOf base (record { state = stateFrom count x₀ pc₀ slots₀; mem = mem₀ }) 0 (firstEvents n body)) o r)
+    × (runOf base (record { state = stateFrom count x pc slots; mem = mem }) (firstEvents (n - i) (drop (i * 24) body))
+    ≡ runOf base (record { state = stateFrom count x₀ pc₀ slots₀; mem = mem₀ }) (firstEvents n body))
 
 abbrev μ-loop : tie.MeasureT-loop
 μ-loop out₀ at base mem₀ body count x₀ pc₀ slots₀ n p₀ i₀ out mem x pc slots p i = n - i
 
 loop-holds : tie.Need-loop-holds Inv-loop μ-loop
-loop-holds c = (omega arith, refl, refl, omega arith, c .before .before .before .before .before .before .pre .1, rw sub-zero (λ o r x. x))
+loop-holds c = (omega arith, refl, refl, omega arith, c .before .before .before .before .before .before .pre .1, rw sub-zero (λ o r x. x), rw sub-zero refl)
 
 mul-start : tie.Need-mul-start Inv-loop μ-loop
 mul-start c = omega arith
@@ -66,7 +69,7 @@ loop-less : tie.Need-loop-less Inv-loop μ-loop
 loop-less c = omega arith
 
 loop-again : tie.Need-loop-again Inv-loop μ-loop
-unfolding answerOf
+unfolding answerOf runOf
 loop-again c =
     let a = c .before .before .before .before .before .before .before .before .before .before .before .before .before .before .before .before .before .before .before .before .before .args in
     let s = a .s in
@@ -79,6 +82,7 @@ loop-again c =
     let q = advanced-next (a .base) (s .count) (l .x) (l .pc) (l .mem) (l .slots) (l .inv .4) ev _ _ _ _ more in
     let t = advanced-answer (a .base) (s .count) (l .x) (l .pc) (l .mem) (l .slots) (l .inv .4) ev _ _ _ _ more in
     let w : l .i * 24 + 24 - l .i * 24 ≡ 24 = omega arith in
+    let rest = firstEvents (n - (l .i + 1)) (drop ((l .i + 1) * 24) b) in
     let e : ev ≡ eventOf (take 24 (drop (l .i * 24) b)) = rw w at (c .before .before .before .before .before .before .before .before .before .before .before .read-event .ensures) in (
       omega arith,
       c .before .before .before .before .before .before .before .advance .kept .1 .1 .1 .1 .1 .0 ∙ l .inv .1,
@@ -86,6 +90,10 @@ loop-again c =
       omega (arith, c .before .before .put-line .ensures .1),
       advanced-valid (a .base) (s .count) (l .x) (l .pc) (l .mem) (l .slots) (l .inv .4) ev _ _ _ _ more,
       λ o r y. l .inv .5 o r (as-text (sym (lines-more (a .base) here _ n (l .i) b ev _ (omega arith) e t q)) (then (c .before .before .put-line .ensures .0) y)),
+      ap (λ (m : Machine). runOf (a .base) m rest) q
+          ∙ ap (λ (v : Event). runOf (a .base) (nextOf (a .base) here v) rest) e
+          ∙ ap (runOf (a .base) here) (sym (events-more n (l .i) b (omega arith)))
+          ∙ l .inv .6,
     )
 
 same-length : tie.Need-same-length Inv-loop μ-loop
@@ -95,12 +103,14 @@ same-length-2 : tie.Need-same-length-2 Inv-loop μ-loop
 same-length-2 c = search needs
 
 returns : tie.Need-returns Inv-loop μ-loop
+unfolding runOf firstEvents
 returns c =
     let a = c .before .before .before .before .before .before .before .before .args in
     let l = c .before .loop in
+    let z : length (a .body .now) / 24 - l .i ≡ 0 = omega arith in
     let here : Machine = record { state = stateFrom (a .s .count) (l .x) (l .pc) (l .slots); mem = l .mem } in (
       l .inv .5 (l .out) (l .p) (as-text (sym (lines-none (a .base) here (l .i) (length (a .body .now) / 24 - l .i) (drop (l .i * 24) (a .body .now)) (omega arith))) (none (l .out) (l .p))),
-      omega arith,
+      (omega arith, ap (λ (m : Machine). m .mem) (rw z at (l .inv .6))),
     )
 
 pub put-lines-spec : {M : Type 1} → statement M

@@ -25,7 +25,7 @@ returns : tie.Need-returns
 unfolding linesOfCase
 returns c = (
   rw (length-events) (then (c .before .before .before .before .before .before .before .before .before .before .before .before .before .put-case .ensures .0) (then (c .before .before .before .before .before .before .before .before .put-lines .ensures .0) (c .before .before .put-end .ensures .0))),
-  omega (arith, c .before .before .before .before .before .before .before .before .before .before .before .before .before .put-case .ensures .1, c .before .before .before .before .before .before .before .before .put-lines .ensures .1, c .before .before .put-end .ensures .1),
+  omega (arith, c .before .before .before .before .before .before .before .before .before .before .before .before .before .put-case .ensures .1, c .before .before .before .before .before .before .before .before .put-lines .ensures .1 .0, c .before .before .put-end .ensures .1),
 )
 
 pub put-lines-of-case-spec : {M : Type 1} → statement M
