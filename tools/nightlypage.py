@@ -68,8 +68,9 @@ def tables(record):
 
 
 def about(record):
-    rows = [('folder', printable(record['folder'])), ('program', '%s, SHA-256 %s' % (printable(record['program']), record['sha256'])),
-            ('started', record['started']), ('time', record['time'])]
+    rows = [('night', printable(record['night']))] if record['night'] else []
+    rows += [('folder', printable(record['folder'])), ('program', '%s, SHA-256 %s' % (printable(record['program']), record['sha256'])),
+             ('started', record['started']), ('time', record['time'])]
     if record['slowest']:
         rows.append(('slowest', ', '.join('%s %s' % (printable(name), seconds(s)) for s, name in record['slowest'])))
     return rows

@@ -1,4 +1,5 @@
 """The 32-bit words of the model as text, and back: RV64I without FENCE.I and CSRs, A, and AMOCAS. Used by tools/case."""
+import functools
 import re
 
 ABI = 'zero ra sp gp tp t0 t1 t2 s0 s1 a0 a1 a2 a3 a4 a5 a6 a7 s2 s3 s4 s5 s6 s7 s8 s9 s10 s11 t3 t4 t5 t6'.split()
@@ -95,6 +96,7 @@ def fence_text(word):
     return 'fence ' + ','.join(''.join(c for c, bit in zip('iorw', (8, 4, 2, 1)) if four & bit) or '0' for four in (rest >> 4, rest & 15))
 
 
+@functools.lru_cache(1 << 16)
 def disassemble(word):
     """The text of a word; None of one that is no instruction of the model. Offsets of branches and jal count from their own address."""
     found = decode(word)
