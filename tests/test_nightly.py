@@ -204,6 +204,7 @@ class Nightly(unittest.TestCase):
         with open(files[1], 'wb') as file:
             file.write(whole[:len(whole) // 2])
         self.assert_not_merged('no whole counts file', *files)
+        self.assert_not_merged('no whole counts file', files[1])
 
     def test_a_part_that_is_not_complete(self):
         files = self.parts(2)

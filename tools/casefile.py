@@ -159,7 +159,8 @@ def faults(case, text):
         wrong.append('the first line is %r, not %r' % (''.join(lines[:1])[:60], header(case)))
     if not lines or lines[-1] != 'end %d' % count:
         wrong.append('the last line is %r, not %r' % (''.join(lines[-1:])[:60], 'end %d' % count))
-    body = [line for k, line in enumerate(lines) if not (k == 0 and line.startswith('case ')) and not (k == len(lines) - 1 and line.startswith('end '))]
+    body = lines[bool(lines) and lines[0].startswith('case '):]
+    body = body[:len(body) - (bool(body) and body[-1].startswith('end '))]
     if len(body) == count and all(right_line(n, event, line) for n, (event, line) in enumerate(zip(case.events, body))):
         return wrong
     found = numbered(body)

@@ -20,6 +20,20 @@ Numbers are decimal, or hex after 0x; a register's and a .word's may be negative
 registers, pc, .word, .dword, a device write's address. Registers are x0 to x31 or the ABI names. Instructions are those of the model: RV64I
 without FENCE.I and CSRs, lr, sc and amo* with .w or .d, amocas with .w, .d or .q, each with .aq, .rl or .aqrl behind it or not; fence is
 `fence`, `fence PRED,SUCC`, `fence.tso`, or `fence rd,rs1,NUMBER` with its upper 12 bits as a number. There are no pseudo-instructions.
+
+An example, which is crates/floecavern/stdin: two harts, an LR and an SC each, and a device write between them.
+
+  memory 128
+  hart 0 pc=0 x5=64
+  hart 1 pc=0 x5=64
+  at 0
+    lr.w x6,(x5)
+    sc.w x7,x8,(x5)
+  events
+    step 0
+    device 72 1 0x00
+    step 1 times 2
+    step 0
 """
 import re
 
@@ -281,7 +295,8 @@ def memory_lines(case):
             yield beside('  ' + text, '%x: %08x%s' % (place, words[k], to))
             k += 1
         else:
-            end = next((j for j in range(k + 1, min(k + 4, len(words))) if riscv.disassemble(words[j]) or not any(words[j:j + 3])), min(k + 4, len(words)))
+            end = min(k + 4, len(words))
+            end = next((j for j in range(k + 1, end) if riscv.disassemble(words[j]) or not any(words[j:j + 3])), end)
             yield beside('  .word ' + ' '.join('%#x' % word for word in words[k:end]), '%x' % (case.base + 4 * k))
             k = end
 

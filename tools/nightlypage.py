@@ -69,16 +69,17 @@ def tables(record):
 
 def about(record):
     rows = [('night', printable(record['night']))] if record['night'] else []
-    rows += [('folder', printable(record['folder'])), ('program', '%s, SHA-256 %s' % (printable(record['program']), record['sha256'])),
-             ('started', record['started']), ('time', record['time'])]
+    rows += [('folder', printable(record['folder'])), ('program', printable(record['program'])), ('SHA-256', record['sha256'] or 'unknown'),
+             ('started', record['started'] or 'unknown'), ('time', record['time'] or 'unknown')]
     if record['slowest']:
         rows.append(('slowest', ', '.join('%s %s' % (printable(name), seconds(s)) for s, name in record['slowest'])))
     return rows
 
 
 def title(record):
-    part = '' if record['parts'] == 1 else ' (part %d of %d)' % (record['part'], record['parts']) if record['part'] else ' (%d parts)' % record['parts']
-    return 'Floecavern nightly%s' % part
+    if record['parts'] == 1:
+        return 'Floecavern nightly'
+    return 'Floecavern nightly (%s)' % ('part %d of %d' % (record['part'], record['parts']) if record['part'] else '%d parts' % record['parts'])
 
 
 def text_page(record):
@@ -117,8 +118,11 @@ def by_number(rows):
     grouped = {}
     for files, k, place, what in rows:
         grouped.setdefault((k, what), []).append((files, place))
-    return [[number(sum(int(f.replace(',', '')) for f, _ in places)), k, what + (
-        ', at ' + ', '.join(place + (' (%s files)' % f if f != '1' else '') for f, place in places) if k else '')] for (k, what), places in grouped.items()]
+    rows = []
+    for (k, what), places in grouped.items():
+        listed = ', '.join(place + (' (%s files)' % files if files != '1' else '') for files, place in places)
+        rows.append([number(sum(int(files.replace(',', '')) for files, _ in places)), k, '%s, at %s' % (what, listed) if k else what])
+    return rows
 
 
 def html_page(record):
