@@ -1,0 +1,138 @@
+"""tools/case: a case as a text and back, and what it says of bad texts and files."""
+import os
+import re
+import tempfile
+import unittest
+
+from common import CASE, EXAMPLE, EXAMPLE_LINES, ROOT, command, data, vector_pairs
+import casefile
+import casetext
+
+START = 'memory 64\nhart 0\n'
+
+
+def documented():
+    """The example of docs/TOOLS.md: the first block that starts with `memory`."""
+    text = data(os.path.join(ROOT, 'docs', 'TOOLS.md')).decode()
+    return next(re.sub('(?m)^    ', '', block) for block in re.findall(r'(?:^(?:    .*)?\n)+', text, re.M) if '    memory 128' in block)
+
+
+class RoundTrip(unittest.TestCase):
+    def test_every_outside_case(self):
+        good = refused = 0
+        for name, given, output in vector_pairs():
+            try:
+                case = casefile.read(given)
+            except casefile.Refused as error:
+                refused += 1
+                self.assertEqual(output.decode(), 'refused %d %d\n' % (error.number, error.place), name)
+                continue
+            good += 1
+            self.assertEqual(casefile.write(case), given, name)
+            self.assertEqual(casefile.faults(case, output.decode()), [], name)
+            text = '\n'.join(casetext.show(case, casefile.numbered(output.decode().split('\n'))))
+            self.assertEqual(casetext.make(text), given, name)
+        self.assertEqual((good, refused), (655, 159))
+
+    def test_any_bytes(self):
+        registers = tuple((k * 0x0123456789ABCDEF) % (1 << 64) for k in range(1, 32))
+        harts = [casefile.Hart(registers, (1 << 64) - 4)] * 8
+        memory = bytes(k * k % 251 for k in range(4096))
+        events = [casefile.Event(2, 0, size, (1 << 40) + 4096 - size, (1 << 8 * size) - 1) for size in range(1, 9)]
+        given = casefile.write(casefile.Case(1 << 40, harts, memory, events + [casefile.Event(3, 7, 0, 0, 0)]))
+        self.assertEqual(casetext.make('\n'.join(casetext.show(casefile.read(given)))), given)
+
+
+class Make(unittest.TestCase):
+    def test_the_documented_example(self):
+        status, out, err = command(CASE, 'make', given=documented().encode())
+        self.assertEqual((status, err), (0, ''))
+        self.assertEqual(out, data(EXAMPLE))
+
+    def test_labels_and_values(self):
+        case = casefile.read(casetext.make('''
+            base 0x1000
+            memory 128
+            hart 0 pc=loop a0=lock x6=-1 x7=18446744073709551615
+            hart 1
+            at 0x1008
+            loop: lr.w x6,(a0)
+                  bne x6, x0, loop   # back
+                  jal x0,done
+            .byte 1 2,3
+            .half 0x0405
+            .byte -1
+            .half -2
+            done: .dword loop
+            at 0x1040
+            lock: .word 7
+            events
+            step 0 times 3
+            device lock 2 0xabcd
+            yield 1'''))
+        self.assertEqual((case.base, len(case.harts), len(case.memory), case.harts[0].pc, case.harts[1].pc), (0x1000, 2, 128, 0x1008, 0x1000))
+        self.assertEqual(case.harts[0].registers[9], 0x1040)
+        self.assertEqual(case.harts[0].registers[5:7], ((1 << 64) - 1,) * 2)
+        self.assertEqual(case.memory[8:32].hex(), '2f230510' + 'e31e03fe' + '6f00c000' + '010203' + '0504' + 'ff' + 'feff' + '08100000')
+        self.assertEqual([tuple(e) for e in case.events], [(1, 0, 0, 0, 0)] * 3 + [(2, 0, 2, 0x1040, 0xABCD), (3, 1, 0, 0, 0)])
+
+    def test_to_a_file(self):
+        with tempfile.TemporaryDirectory() as folder:
+            text, out = os.path.join(folder, 'a.txt'), os.path.join(folder, 'a.case')
+            with open(text, 'w') as file:
+                file.write(documented())
+            self.assertEqual(command(CASE, 'make', text, '-o', out), (0, b'', ''))
+            self.assertEqual(data(out), data(EXAMPLE))
+            with open(text, 'a') as file:
+                file.write('step 9\n')
+            status, out, err = command(CASE, 'make', text)
+            self.assertEqual((status, out), (1, b''))
+            self.assertTrue(err.startswith('%s:%d: hart 9' % (text, documented().count('\n') + 1)), err)
+
+    def test_bad_texts(self):
+        for text, line, what in (
+                ('zork', 1, 'base, memory, hart, at or events'), ('', 1, 'memory LENGTH'), ('memory 64\n', 2, 'without a hart'),
+                ('base 3', 1, 'no multiple of 64'), ('base 0x10000000040', 1, 'not 0x0 to'), ('base 0\nbase 0', 2, 'twice'), ('base', 1, 'write base'),
+                ('memory 65', 1, 'no multiple of 64'), ('memory 0', 1, 'not 0x40'), ('memory 64\nmemory 64', 2, 'twice'), ('memory x', 1, 'no number'),
+                ('hart 1', 1, 'write hart 0'), (START + 'hart 0', 3, 'write hart 1'), ('memory 64' + ''.join('\nhart %d' % k for k in range(9)), 10, 'at most 8'),
+                (START + 'x5', 3, 'NAME=VALUE'), (START + 'x99=1', 3, 'neither pc nor a register'), (START + 'x5=1 t0=2', 3, 'twice'),
+                (START + 'pc=2', 3, 'no multiple of 4'), (START + 'x0=1', 3, 'always zero'), (START + 'x5=0x10000000000000000', 3, 'x5: '),
+                (START + 'x5=here', 3, 'no label here'), (START + 'at 0\n\nfoo x1', 5, 'no instruction'), (START + 'at 0\nbeq x1,x2,here', 4, 'no label here'),
+                (START + 'at 0\nx5: .word 1', 4, 'no name for a label'), (START + 'at 0\na:\na:', 5, 'twice'), (START + 'at 2\necall', 4, 'multiple of 4'),
+                (START + 'at 60\n.dword 1', 4, 'not in memory'), (START + 'at 0\n.word 1\nat 2\n.byte 1', 6, 'filled by line 4'),
+                (START + 'at 0\n.byte 256', 4, '.byte: 256'), (START + 'at 0\n.word', 4, 'no number follows'), (START + 'at 0\n.word 1z', 4, 'no number'),
+                (START + 'events\nstep', 4, 'write step HART'), (START + 'events\nstep 1', 4, 'hart 1'), (START + 'events\njump 0', 4, 'no event'),
+                (START + 'events\ndevice 60 8 0', 4, 'not wholly in memory'), (START + 'events\ndevice 0 9 0', 4, 'size'),
+                (START + 'events\ndevice 0 1 256', 4, 'data'), (START + 'events\ndevice 0 1', 4, 'write device'), (START + 'events 1', 3, 'alone'),
+                (START + 'events\nstep 0 times 3000', 4, 'more than 65536'), (START + 'events\nyield 0 times 0', 4, 'times')):
+            with self.assertRaises(casetext.TextError, msg=text) as caught:
+                casetext.make(text + '\n')
+            self.assertIn(what, str(caught.exception))
+            self.assertEqual(caught.exception.line, line, text)
+
+    def test_no_text(self):
+        self.assertEqual(command(CASE, 'make', given=b'\xff'), (1, b'', 'standard input: no text: the byte at 0 is not UTF-8\n'))
+        self.assertEqual(command(CASE, 'make', '/nowhere')[0], 1)
+
+
+class Show(unittest.TestCase):
+    def test_lines_beside_events(self):
+        status, out, err = command(CASE, 'show', EXAMPLE, '--lines', EXAMPLE_LINES)
+        self.assertEqual((status, err), (0, ''))
+        self.assertRegex(out.decode(), r'(?m)^  sc\.w x7,x8,\(x5\) +# 4: 1882a3af$')
+        self.assertRegex(out.decode(), r'(?m)^  device 0x48 1 0x00 +# 1 d ok$')
+        self.assertRegex(out.decode(), r'(?m)^  step 1 +# 3 h1 sc 0$')
+        self.assertEqual(command(CASE, 'make', given=out), (0, data(EXAMPLE), ''))
+
+    def test_missing_line(self):
+        status, out, err = command(CASE, 'show', EXAMPLE, '--lines', '-', given=data(EXAMPLE_LINES).replace(b'3 h1 sc 0\n', b''))
+        self.assertEqual((status, err), (1, '-: event 3 (h1) has no line\n'))
+        self.assertRegex(out.decode(), r'(?m)^  step 1 +# 3: no line$')
+
+    def test_bad_files(self):
+        good = data(EXAMPLE)
+        for given, what in ((b'', 'refused 7 0'), (b'\1' + good[1:], 'refused 8 0'), (good + b'\0', 'refused 8 36'),
+                            (good[:40] + b'\1' + good[41:], 'refused 9 40: harts: the base'), (good[:697] + b'\2' + good[698:], 'refused 11 696: events: event 0: hart 2')):
+            status, out, err = command(CASE, 'show', '-', given=given)
+            self.assertEqual((status, out), (1, b''))
+            self.assertTrue(err.startswith('standard input: no case: ' + what), err)
