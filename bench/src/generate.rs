@@ -581,7 +581,7 @@ fn damaged(rng: &mut Rng) -> Vec<u8> {
             let n = f.len().saturating_sub(events) / EVENT;
             (n > 0).then(|| events + EVENT * rng.below(n as u64) as usize)
         };
-        match rng.below(11) {
+        match rng.below(14) {
             0 => {
                 let n = rng.below(f.len() as u64 + 1) as usize;
                 f.truncate(n);
@@ -629,6 +629,32 @@ fn damaged(rng: &mut Rng) -> Vec<u8> {
                         f[place + 16..place + 24].copy_from_slice(&data.to_le_bytes());
                     }
                 }
+            }
+            10 => {
+                // A table that agrees modulo 2^32 only.
+                let second = rng.pick(&[0, 40, 64, 312]);
+                let length = rng.pick(&[0, 64, 128]);
+                let wrapped = [0u32.wrapping_sub(40).wrapping_add(second), second, length, second + length];
+                for (place, value) in [12, 20, 24, 32].into_iter().zip(wrapped) {
+                    put_u32(&mut f, place, value);
+                }
+                let end = (f.len() as u32).wrapping_sub(second + length);
+                put_u32(&mut f, 36, end);
+            }
+            11 => {
+                // A step or a yield of a hart about the count.
+                if let Some(place) = any_event(rng, &f) {
+                    if place + EVENT <= f.len() && f.len() >= 52 {
+                        let hart = (get_u32(&f, 48) as u8).wrapping_add(rng.below(3) as u8).wrapping_sub(1);
+                        f[place..place + EVENT].fill(0);
+                        f[place] = rng.pick(&[1, 3]);
+                        f[place + 1] = hart;
+                    }
+                }
+            }
+            12 if f.len() >= 48 => {
+                let base: u64 = rng.pick(&[1 << 40, (1 << 40) + 64, (1 << 40) - 64, 32, 1, 63, 1 << 63, 0]);
+                f[40..48].copy_from_slice(&base.to_le_bytes());
             }
             _ => {
                 // Bodies of other lengths under a table that agrees with them.
