@@ -581,7 +581,7 @@ fn damaged(rng: &mut Rng) -> Vec<u8> {
             let n = f.len().saturating_sub(events) / EVENT;
             (n > 0).then(|| events + EVENT * rng.below(n as u64) as usize)
         };
-        match rng.below(11) {
+        match rng.below(14) {
             0 => {
                 let n = rng.below(f.len() as u64 + 1) as usize;
                 f.truncate(n);
@@ -629,6 +629,32 @@ fn damaged(rng: &mut Rng) -> Vec<u8> {
                         f[place + 16..place + 24].copy_from_slice(&data.to_le_bytes());
                     }
                 }
+            }
+            10 => {
+                // A table that agrees modulo 2^32 only.
+                let second = rng.pick(&[0, 40, 64, 312]);
+                let length = rng.pick(&[0, 64, 128]);
+                let wrapped = [0u32.wrapping_sub(40).wrapping_add(second), second, length, second + length];
+                for (place, value) in [12, 20, 24, 32].into_iter().zip(wrapped) {
+                    put_u32(&mut f, place, value);
+                }
+                let end = (f.len() as u32).wrapping_sub(second + length);
+                put_u32(&mut f, 36, end);
+            }
+            11 => {
+                // A step or a yield of a hart about the count.
+                if let Some(place) = any_event(rng, &f) {
+                    if place + EVENT <= f.len() && f.len() >= 52 {
+                        let hart = (get_u32(&f, 48) as u8).wrapping_add(rng.below(3) as u8).wrapping_sub(1);
+                        f[place..place + EVENT].fill(0);
+                        f[place] = rng.pick(&[1, 3]);
+                        f[place + 1] = hart;
+                    }
+                }
+            }
+            12 if f.len() >= 48 => {
+                let base: u64 = rng.pick(&[1 << 40, (1 << 40) + 64, (1 << 40) - 64, 32, 1, 63, 1 << 63, 0]);
+                f[40..48].copy_from_slice(&base.to_le_bytes());
             }
             _ => {
                 // Bodies of other lengths under a table that agrees with them.
@@ -715,4 +741,54 @@ pub fn case(seed: u64) -> Vec<u8> {
         14..=18 => damaged(rng),
         _ => limits(rng),
     }
+}
+
+/// A block for the loop checker: an accepted loop, or one with up to two places changed.
+pub fn loop_block(rng: &mut Rng) -> Vec<u32> {
+    let length = if rng.percent(4) { rng.pick(&[0, 1, 17, 18]) } else { 2 + rng.below(15) } as i64;
+    let funct3 = rng.pick(&[2, 3]);
+    let address = if rng.percent(15) { 0 } else { rng.reg() };
+    let sc = if length > 1 { 1 + rng.below(length as u64 - 1) as i64 } else { 0 };
+    let mut block = Vec::new();
+    for place in 0..length {
+        let other = |r: u32| if r == address { (r + 1) & 31 } else { r };
+        let rd = if place < sc { other(rng.reg()) } else { rng.reg() };
+        let (rs1, rs2, order) = (rng.reg(), rng.reg(), rng.reg() & 3);
+        let forward = 4 * (1 + rng.below(20) as i64);
+        let to = if place > sc && rng.percent(50) { -4 * place } else { forward };
+        block.push(if place == 0 {
+            atomic(2, funct3, order, rd, address, 0)
+        } else if place == sc {
+            atomic(3, funct3, order, rd, address, rs2)
+        } else {
+            match rng.below(9) {
+                0 => (rng.next() as u32 & !0xFFF) | rd << 7 | 0x37,
+                1 => (rng.next() as u32 & !0xFFF) | rd << 7 | 0x17,
+                2 => j_type(rd, to),
+                3 | 4 => b_type(rng.pick(&[0, 1, 4, 5, 6, 7]), rs1, rs2, to),
+                5 => r_type(0x33, rng.pick(&[0, 5]), rng.pick(&[0, 0x20]), rd, rs1, rs2),
+                6 => r_type(0x3B, rng.pick(&[0, 5]), rng.pick(&[0, 0x20]), rd, rs1, rs2),
+                7 => i_type(0x13, rng.pick(&[0, 2, 3, 4, 6, 7]), rd, rs1, rng.below(4096) as i64),
+                _ => i_type(0x1B, 0, rd, rs1, rng.below(4096) as i64),
+            }
+        });
+    }
+    for _ in 0..rng.below(3) {
+        if block.is_empty() {
+            break;
+        }
+        let place = rng.below(block.len() as u64) as usize;
+        let rd = rng.reg();
+        block[place] = match rng.below(8) {
+            0 => block[place] ^ 1 << rng.below(32),
+            1 => word(rng, address),
+            2 => i_type(0x13, 0, address, rd, 1),
+            3 => b_type(1, rd, 0, 2 * (rng.below(64) as i64 - 32)),
+            4 => j_type(rd, 2 * (rng.below(64) as i64 - 32)),
+            5 => atomic(rng.pick(&[2, 3]), rng.pick(&[2, 3]), 0, rd, if rng.percent(80) { address } else { rd }, 0),
+            6 => b_type(0, rd, rd, -4 * place as i64),
+            _ => i_type(0x67, 0, rd, address, 0),
+        };
+    }
+    block
 }
