@@ -114,8 +114,7 @@ pub fn read_case(file: &[u8]) -> Result<Case<'_>, Refusal> {
     if !length_allowed(memory.len()) {
         return refuse(10, bodies[1].0);
     }
-    check_events(events, state.count, base, memory.len())
-        .map_err(|r| Refusal { number: 11, place: bodies[2].0 + r.place })?;
+    check_events(events, state.count, base, memory.len()).map_err(|r| Refusal { number: 11, place: bodies[2].0 + r.place })?;
     Ok(Case { state, base, memory, events })
 }
 

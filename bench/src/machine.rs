@@ -182,9 +182,7 @@ impl State {
             hart.x[0] == 0
                 && hart.pc % 4 == 0
                 && hart.reservation.is_none_or(|r| {
-                    (r.width == 4 || r.width == 8)
-                        && r.addr % r.width as u64 == 0
-                        && memory.contains(r.addr, r.width as u64)
+                    (r.width == 4 || r.width == 8) && r.addr % r.width as u64 == 0 && memory.contains(r.addr, r.width as u64)
                 })
         };
         if self.harts[..self.count].iter().all(sound) {
