@@ -20,14 +20,14 @@ use Rattle.isa.specs.declared.Width.{Width}
 use Rattle.isa.specs.declared.BranchOp.{BranchOp}
 use Rattle.isa.specs.declared.Instr.{Instr}
 use Rattle.isa.specs.declared.Instr.the-variants.{Illegal, Lui, Auipc, Jal, Jalr, Branch, Load, Store, OpImm, OpImm32, Op, Op32, Fence, Ecall, Ebreak, Amo}
-use Rattle.effect.specs.Effect.{Writes, none, one, Touch, nothing, Exec, trap, effect, offset, nextOf}
+use Rattle.effect.specs.Effect.{Writes, none, one, Access, nothing, Exec, trap, effect, offset, nextPc}
 use Rattle.effect.specs.Integer.{even, holdsOf, execBranch}
 use Rattle.effect.specs.Memory.{checked, valueAt, execLoad, execStore}
 use Rattle.effect.specs.Atomic.{execLr, execSc, execAmo, execCas, execCasPair}
 use Rattle.effect.specs.Execute.{atomicBy, execAtomic, execute, executeWord}
 use Rattle.effect.proofs.TrapLaws.{misaligned-traps, outside-traps, access-retires, jump-traps, jump-retires, branch-traps, branch-taken, branch-passed, sc-traps, sc-succeeds, sc-fails}
 use Rattle.model.specs.Perform.{fetchOf}
-use Rattle.answers.specs.Causes.{Reach, nowhere, jumps, reads, writes, writesIf, reachOf, TrapRow, unfetched, unknown, called, halted, astray, crookedRead, crookedWrite, outsideRead, outsideWrite, StepRow, FirstTrap, Untrapped}
+use Rattle.answers.specs.Causes.{Reach, nowhere, jumps, reads, writes, writesIf, reachOf, TrapRow, unfetched, unknown, called, halted, misalignedTarget, misalignedRead, misalignedWrite, outsideRead, outsideWrite, StepRow, FirstTrap, Untrapped}
 use Rattle.answers.proofs.Refused.{first-same}
 
 -- ---- traps apart
@@ -72,12 +72,12 @@ placeOf (reads a n) = a
 placeOf (writes a n) = a
 placeOf (writesIf a n) = a
 
-crooked : Reach → ℕ
-crooked nowhere = 0
-crooked (jumps t) = 0
-crooked (reads a n) = 4
-crooked (writes a n) = 6
-crooked (writesIf a n) = 6
+misalignedCause : Reach → ℕ
+misalignedCause nowhere = 0
+misalignedCause (jumps t) = 0
+misalignedCause (reads a n) = 4
+misalignedCause (writes a n) = 6
+misalignedCause (writesIf a n) = 6
 
 outside : Reach → ℕ
 outside nowhere = 0
@@ -117,9 +117,9 @@ module _ (word : ℕ) (x : ℕ → ℕ) (pc base : ℕ) (mem : List ℕ) where
   none-below i p a b d e f g k c v l (unknown q r w z) = b (omega arith) z
   none-below i p a b d e f g k c v l (called q r w z) = d (omega arith) .0 z
   none-below i p a b d e f g k c v l (halted q r w z) = d (omega arith) .1 z
-  none-below i p a b d e f g k c v l (astray q r w z) = z (subst Straight w (e (omega arith)))
-  none-below i p a b d e f g k c v l (crookedRead q r n w z) = z (subst Aligned w (f (omega arith)))
-  none-below i p a b d e f g k c v l (crookedWrite q r n w z) =
+  none-below i p a b d e f g k c v l (misalignedTarget q r w z) = z (subst Straight w (e (omega arith)))
+  none-below i p a b d e f g k c v l (misalignedRead q r n w z) = z (subst Aligned w (f (omega arith)))
+  none-below i p a b d e f g k c v l (misalignedWrite q r n w z) =
       ⊎-elim (λ (w : reachOf i x pc ≡ writes v n). z (subst Aligned w (f (omega arith))))
       (λ (w : reachOf i x pc ≡ writesIf v n). z (subst Aligned w (f (omega arith)))) w
   none-below i p a b d e f g k c v l (outsideRead q r n w z) = z (subst (Within base (length mem)) w (g (omega arith)))
@@ -129,20 +129,20 @@ module _ (word : ℕ) (x : ℕ → ℕ) (pc base : ℕ) (mem : List ℕ) where
   causeBy : Instr → ℕ → ℕ
   causeBy i k =
       cond (eqb k 3) (code i)
-      (cond (eqb k 4) 0 (cond (eqb k 5) (crooked (reachOf i x pc)) (cond (eqb k 6) (outside (reachOf i x pc)) k)))
+      (cond (eqb k 4) 0 (cond (eqb k 5) (misalignedCause (reachOf i x pc)) (cond (eqb k 6) (outside (reachOf i x pc)) k)))
 
   valueBy : Instr → ℕ → ℕ
   valueBy i k = cond (eqb k 1) pc (cond (eqb k 2) word (cond (eqb k 3) 0 (placeOf (reachOf i x pc))))
 
   placed : (i : Instr) (k c v : ℕ) → TrapRow i word x pc base mem k c v → (1 ≤ k) × (k ≤ 6) × (c ≤ 8) × (c ≡ causeBy i k) × (v ≡ valueBy i k)
-  unfolding causeBy valueBy code crooked outside placeOf
+  unfolding causeBy valueBy code misalignedCause outside placeOf
   placed i k c v (unfetched q r w z) = (omega arith, omega arith, omega arith, rw q r, rw q w)
   placed i k c v (unknown q r w z) = (omega arith, omega arith, omega arith, rw q r, rw q w)
   placed i k c v (called q r w z) = (omega arith, omega arith, omega arith, rw (q, z) r, rw q w)
   placed i k c v (halted q r w z) = (omega arith, omega arith, omega arith, rw (q, z) r, rw q w)
-  placed i k c v (astray q r w z) = (omega arith, omega arith, omega arith, rw q r, rw (q, w) refl)
-  placed i k c v (crookedRead q r n w z) = (omega arith, omega arith, omega arith, rw (q, w) r, rw (q, w) refl)
-  placed i k c v (crookedWrite q r n w z) =
+  placed i k c v (misalignedTarget q r w z) = (omega arith, omega arith, omega arith, rw q r, rw (q, w) refl)
+  placed i k c v (misalignedRead q r n w z) = (omega arith, omega arith, omega arith, rw (q, w) r, rw (q, w) refl)
+  placed i k c v (misalignedWrite q r n w z) =
       ⊎-elim
       (λ (w : reachOf i x pc ≡ writes v n). (omega arith, omega arith, omega arith, rw (q, w) r, rw (q, w) refl))
       (λ (w : reachOf i x pc ≡ writesIf v n). (omega arith, omega arith, omega arith, rw (q, w) r, rw (q, w) refl)) w
@@ -167,7 +167,7 @@ module _ (word : ℕ) (x : ℕ → ℕ) (pc base : ℕ) (mem : List ℕ) where
   -- the first row that applies is what it comes to, or no row applies and it comes to an effect
   pub data Decided (i : Instr) (e : Exec) : Type 0 where
     traps : (c v : ℕ) → e ≡ trap c v → FirstTrap (TrapRow i word x pc base mem) c v → Decided i e
-    retires : (ws : Writes) (to : ℕ) (t : Touch) → e ≡ effect ws to t → Untrapped (TrapRow i word x pc base mem) → Decided i e
+    retires : (ws : Writes) (to : ℕ) (t : Access) → e ≡ effect ws to t → Untrapped (TrapRow i word x pc base mem) → Decided i e
 
   -- ---- a word that is in memory
   module _ (inside : Inside base (length mem) pc 4) where
@@ -180,13 +180,13 @@ module _ (word : ℕ) (x : ℕ → ℕ) (pc base : ℕ) (mem : List ℕ) where
           none-below i p (λ l. inside) (λ l z. absurd (omega (arith, plain, ap code z)))
           (λ l. (λ z. absurd (omega (arith, plain, ap code z)), λ z. absurd (omega (arith, plain, ap code z))))
 
-      fine : Straight (reachOf i x pc) → Aligned (reachOf i x pc) → Within base (length mem) (reachOf i x pc) → (e : Exec) (ws : Writes) (to : ℕ) (t : Touch)
+      fine : Straight (reachOf i x pc) → Aligned (reachOf i x pc) → Within base (length mem) (reachOf i x pc) → (e : Exec) (ws : Writes) (to : ℕ) (t : Access)
           → e ≡ effect ws to t → Decided i e
       fine a b c e ws to t q =
           retires ws to t q
           (λ k d v r. let l = placed i k d v r in clear 7 (λ z. a) (λ z. b) (λ z. c) k d v (omega (arith, l .1)) r)
 
-      goes : (ws : Writes) (to : ℕ) (t : Touch) → reachOf i x pc ≡ nowhere → Decided i (effect ws to t)
+      goes : (ws : Writes) (to : ℕ) (t : Access) → reachOf i x pc ≡ nowhere → Decided i (effect ws to t)
       unfolding Straight Aligned Within
       goes ws to t q = fine (rw q tt) (rw q tt) (rw q tt) (effect ws to t) ws to t refl
 
@@ -198,12 +198,12 @@ module _ (word : ℕ) (x : ℕ → ℕ) (pc base : ℕ) (mem : List ℕ) where
           bool-cases (eqb (to % 4) 0)
           (λ t. let al = eqb-true (to % 4) 0 t in fine (rw q al) (rw q tt) (rw q tt) e ws to nothing (good al))
           (λ t.
-          let crook = eqb-false (to % 4) 0 t in
-          traps 0 to (bad crook)
-          (record { place = 4; applies = astray refl refl q crook; first = clear 4 (λ l. absurd (omega arith)) (λ l. absurd (omega arith)) (λ l. absurd (omega arith)) }))
+          let skew = eqb-false (to % 4) 0 t in
+          traps 0 to (bad skew)
+          (record { place = 4; applies = misalignedTarget refl refl q skew; first = clear 4 (λ l. absurd (omega arith)) (λ l. absurd (omega arith)) (λ l. absurd (omega arith)) }))
 
       -- an access by row 5, misaligned, then row 6, outside
-      access-decided : (misaligned outside a n : ℕ) (ws : Writes) (to : ℕ) (t : Touch) → 0 < misaligned → 0 < outside → Straight (reachOf i x pc)
+      access-decided : (misaligned outside a n : ℕ) (ws : Writes) (to : ℕ) (t : Access) → 0 < misaligned → 0 < outside → Straight (reachOf i x pc)
           → (a % n ≡ 0 → Aligned (reachOf i x pc)) → (Inside base (length mem) a n → Within base (length mem) (reachOf i x pc))
           → ((a % n ≡ 0 → ⊥) → TrapRow i word x pc base mem 5 misaligned a)
           → ((Inside base (length mem) a n → ⊥) → TrapRow i word x pc base mem 6 outside a)
@@ -222,25 +222,25 @@ module _ (word : ℕ) (x : ℕ → ℕ) (pc base : ℕ) (mem : List ℕ) where
           traps out a (outside-traps mis out a n base (length mem) some more e al isnt)
           (record { place = 6; applies = row6 isnt; first = clear 6 (λ l. straight) (λ l. aligned al) (λ l. absurd (omega arith)) })))
           (λ u.
-          let crook = eqb-false (a % n) 0 u in
-          traps mis a (misaligned-traps mis out a n base (length mem) some more e crook)
-          (record { place = 5; applies = row5 crook; first = clear 5 (λ l. straight) (λ l. absurd (omega arith)) (λ l. absurd (omega arith)) }))
+          let skew = eqb-false (a % n) 0 u in
+          traps mis a (misaligned-traps mis out a n base (length mem) some more e skew)
+          (record { place = 5; applies = row5 skew; first = clear 5 (λ l. straight) (λ l. absurd (omega arith)) (λ l. absurd (omega arith)) }))
 
       -- a load or LR
-      read-decided : (a n : ℕ) (ws : Writes) (to : ℕ) (t : Touch) → reachOf i x pc ≡ reads a n
+      read-decided : (a n : ℕ) (ws : Writes) (to : ℕ) (t : Access) → reachOf i x pc ≡ reads a n
           → Decided i (checked 4 5 a n base (length mem) (effect ws to t))
       unfolding Straight Aligned Within
       read-decided a n ws to t q =
           access-decided 4 5 a n ws to t (omega arith) (omega arith) (rw q tt) (λ al. rw q al) (λ is. rw q is)
-          (λ z. crookedRead refl refl n q z) (λ z. outsideRead refl refl n q z)
+          (λ z. misalignedRead refl refl n q z) (λ z. outsideRead refl refl n q z)
 
       -- a store or AMO
-      write-decided : (a n : ℕ) (ws : Writes) (to : ℕ) (t : Touch) → reachOf i x pc ≡ writes a n
+      write-decided : (a n : ℕ) (ws : Writes) (to : ℕ) (t : Access) → reachOf i x pc ≡ writes a n
           → Decided i (checked 6 7 a n base (length mem) (effect ws to t))
       unfolding Straight Aligned Within
       write-decided a n ws to t q =
           access-decided 6 7 a n ws to t (omega arith) (omega arith) (rw q tt) (λ al. rw q al) (λ is. rw q is)
-          (λ z. crookedWrite refl refl n (inl q) z) (λ z. outsideWrite refl refl n q z)
+          (λ z. misalignedWrite refl refl n (inl q) z) (λ z. outsideWrite refl refl n q z)
 
       -- an SC, by 6 only
       sc-decided : (w : Width) (rd a v : ℕ) (covered : ℕ → ℕ → Bool) → reachOf i x pc ≡ writesIf a (bytesOf w)
@@ -254,9 +254,9 @@ module _ (word : ℕ) (x : ℕ → ℕ) (pc base : ℕ) (mem : List ℕ) where
           (λ z. fine (rw q tt) (rw q al) (rw q tt) _ _ _ _ (sc-succeeds 64 pc w rd a v covered al z))
           (λ z. fine (rw q tt) (rw q al) (rw q tt) _ _ _ _ (sc-fails 64 pc w rd a v covered al z)))
           (λ u.
-          let crook = eqb-false (a % bytesOf w) 0 u in
-          traps 6 a (sc-traps 64 pc w rd a v covered crook)
-          (record { place = 5; applies = crookedWrite refl refl (bytesOf w) (inr q) crook; first = clear 5 (λ l. rw q tt) (λ l. absurd (omega arith)) (λ l. absurd (omega arith)) }))
+          let skew = eqb-false (a % bytesOf w) 0 u in
+          traps 6 a (sc-traps 64 pc w rd a v covered skew)
+          (record { place = 5; applies = misalignedWrite refl refl (bytesOf w) (inr q) skew; first = clear 5 (λ l. rw q tt) (λ l. absurd (omega arith)) (λ l. absurd (omega arith)) }))
 
     branch-decided : (op : BranchOp) (rs1 rs2 imm : ℕ) (b : Bool) → holdsOf 64 op (x rs1) (x rs2) ≡ b
         → Decided (Branch op rs1 rs2 imm) (execBranch 64 b (offset 64 pc imm) pc)
@@ -267,7 +267,7 @@ module _ (word : ℕ) (x : ℕ → ℕ) (pc base : ℕ) (mem : List ℕ) where
     branch-decided op rs1 rs2 imm false h =
         let to = offset 64 pc imm in
         subst (Decided (Branch op rs1 rs2 imm)) (sym (branch-passed 64 pc to))
-        (goes (Branch op rs1 rs2 imm) refl none (nextOf 64 pc) nothing (rw h))
+        (goes (Branch op rs1 rs2 imm) refl none (nextPc 64 pc) nothing (rw h))
 
     atomic-decided : (m : Atomic) (covered : ℕ → ℕ → Bool) (op : AtomicOp) → m .op ≡ op → Decided (Amo m) (atomicBy 64 op m x pc base mem covered)
     unfolding code execLr execCas execCasPair execAmo
@@ -293,10 +293,10 @@ module _ (word : ℕ) (x : ℕ → ℕ) (pc base : ℕ) (mem : List ℕ) where
     execute-decided covered (Auipc rd imm) = goes _ refl _ _ _ refl
     execute-decided covered (Jal rd imm) =
         let to = offset 64 pc imm in
-        jump-decided (Jal rd imm) refl to (one rd (nextOf 64 pc)) _ refl (jump-traps 64 pc rd to) (jump-retires 64 pc rd to)
+        jump-decided (Jal rd imm) refl to (one rd (nextPc 64 pc)) _ refl (jump-traps 64 pc rd to) (jump-retires 64 pc rd to)
     execute-decided covered (Jalr rd rs1 imm) =
         let to = even (offset 64 (x rs1) imm) in
-        jump-decided (Jalr rd rs1 imm) refl to (one rd (nextOf 64 pc)) _ refl (jump-traps 64 pc rd to) (jump-retires 64 pc rd to)
+        jump-decided (Jalr rd rs1 imm) refl to (one rd (nextPc 64 pc)) _ refl (jump-traps 64 pc rd to) (jump-retires 64 pc rd to)
     execute-decided covered (Branch op rs1 rs2 imm) = branch-decided op rs1 rs2 imm (holdsOf 64 op (x rs1) (x rs2)) refl
     execute-decided covered (Load op rd rs1 imm) = read-decided (Load op rd rs1 imm) refl _ _ _ _ _ refl
     execute-decided covered (Store op rs1 rs2 imm) = write-decided (Store op rs1 rs2 imm) refl _ _ _ _ _ refl

@@ -66,10 +66,10 @@ module _ (i : Instr) (word : ℕ) (x : ℕ → ℕ) (pc base : ℕ) (mem : List 
     called : place ≡ 3 → cause ≡ 8 → value ≡ 0 → i ≡ Ecall → TrapRow place cause value
     halted : place ≡ 3 → cause ≡ 3 → value ≡ 0 → i ≡ Ebreak → TrapRow place cause value
     -- "0 | JAL, JALR or a taken branch to a target that isn't a multiple of 4 | target"
-    astray : place ≡ 4 → cause ≡ 0 → reachOf i x pc ≡ jumps value → (value % 4 ≡ 0 → ⊥) → TrapRow place cause value
+    misalignedTarget : place ≡ 4 → cause ≡ 0 → reachOf i x pc ≡ jumps value → (value % 4 ≡ 0 → ⊥) → TrapRow place cause value
     -- "4, 6 | address not aligned to its width: load or LR 4; store, SC, AMO 6 | address"
-    crookedRead : place ≡ 5 → cause ≡ 4 → (n : ℕ) → reachOf i x pc ≡ reads value n → (value % n ≡ 0 → ⊥) → TrapRow place cause value
-    crookedWrite : place ≡ 5 → cause ≡ 6 → (n : ℕ) → (reachOf i x pc ≡ writes value n) ⊎ (reachOf i x pc ≡ writesIf value n)
+    misalignedRead : place ≡ 5 → cause ≡ 4 → (n : ℕ) → reachOf i x pc ≡ reads value n → (value % n ≡ 0 → ⊥) → TrapRow place cause value
+    misalignedWrite : place ≡ 5 → cause ≡ 6 → (n : ℕ) → (reachOf i x pc ≡ writes value n) ⊎ (reachOf i x pc ≡ writesIf value n)
         → (value % n ≡ 0 → ⊥) → TrapRow place cause value
     -- "5, 7 | bytes not wholly in memory: load or LR 5; store, AMO 7 | address"; "SC has no cause 7"
     outsideRead : place ≡ 6 → cause ≡ 5 → (n : ℕ) → reachOf i x pc ≡ reads value n → (Inside base (length mem) value n → ⊥)

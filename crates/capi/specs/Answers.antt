@@ -2,7 +2,7 @@
 use mathlib.Core.Path.{_≡_}
 use mathlib.Core.Bool.{cond}
 use mathlib.Core.List.{List}
-use Prim.Native.Nat.{ℕ, _+_, _*_, _-_, _/_, _%_, _^_, _≤_, _<_}
+use Prim.Native.Nat.{ℕ, _+_, _*_, _/_, _%_, _≤_, _<_}
 use lib.Dec.{eqb}
 use lib.ListN.{length, take, drop}
 use Rattle.retry.specs.Loop.{checkOf, wordsOf}
@@ -11,8 +11,8 @@ use Rattle.retry.specs.declared.LoopAnswer.the-variants.{Accepted, Rejected, Re
 use Rattle.report.specs.Report.{reportOf}
 
 -- the answer to arguments of a wrong size: 2 ^ 64 - 1
-abbrev pub badSize : ℕ
-badSize = 18446744073709551615
+abbrev pub wrongSize : ℕ
+wrongSize = 18446744073709551615
 
 -- the room that a report needs
 abbrev pub room : ℕ
@@ -21,8 +21,9 @@ room = 262144
 -- What floecavern_report leaves. Too small a buffer stays as it is; another one starts with the r bytes of the report, and nothing is written behind
 -- the room.
 pub record Reported (file before after : List ℕ) (r : ℕ) : Type 0 where
-  pub small : length before < room → (r ≡ badSize) × (after ≡ before)
-  pub large : room ≤ length before → (r ≤ room) × (take r after ≡ reportOf file) × (drop room after ≡ drop room before)
+  pub small : length before < room → (r ≡ wrongSize) × (after ≡ before)
+  pub large : room ≤ length before
+      → (r ≡ length (reportOf file)) × (r ≤ room) × (take r after ≡ reportOf file) × (drop room after ≡ drop room before)
 
 -- an answer of the checker of retry loops as a number
 abbrev pub loopNumber : LoopAnswer → ℕ
@@ -32,4 +33,4 @@ loopNumber Refused = 6
 
 -- what floecavern_check_loop answers to the bytes of a block's words
 unfoldable pub loopAnswer : List ℕ → ℕ
-loopAnswer bytes = cond (eqb (length bytes % 4) 0) (loopNumber (checkOf (wordsOf bytes (length bytes / 4)))) badSize
+loopAnswer bytes = cond (eqb (length bytes % 4) 0) (loopNumber (checkOf (wordsOf bytes (length bytes / 4)))) wrongSize

@@ -1,4 +1,6 @@
 // The functions that C and Rust call: include/floecavern.h says how. None has a precondition.
+pub mod steps;
+
 use retry::LoopAnswer;
 ghost use mathlib.Core.Path.{_≡_};
 ghost use Prim.Native.Nat.{_/_};
@@ -6,16 +8,18 @@ ghost use lib.ListN.{length};
 ghost use Rattle.retry.specs.Loop.{checkOf, wordsOf};
 ghost use Rattle.capi.specs.Answers.{Reported, loopNumber, loopAnswer};
 
+// The answer to arguments of a wrong size.
+pub const BAD_SIZE: u64 = 18446744073709551615;
+
 // The text of any bytes: the first r bytes of out are all that the program writes for them. 2^64 - 1 if out has fewer than 262,144 bytes.
 #[no_mangle]
 pub extern "C" fn floecavern_report(file: &[u8], out: &mut [u8]) -> u64
     ensures { λ r. ⌜ Reported (now (file .entry)) (now (out .entry)) (now (out .exit)) r ⌝ }
 {
     if out.len() < 262144 {
-        return 18446744073709551615;
+        return BAD_SIZE;
     }
-    let mut space = [0u8; 65536];
-    report::put_report(&mut out[..262144], &mut space, file) as u64
+    report::put_report(&mut out[..262144], file) as u64
 }
 
 // The checker's answer as a number.
@@ -35,7 +39,7 @@ pub extern "C" fn floecavern_check_loop(words: &[u8]) -> u64
     ensures { λ r. ⌜ r ≡ loopAnswer (now (words .entry)) ⌝ }
 {
     if words.len() % 4 != 0 {
-        return 18446744073709551615;
+        return BAD_SIZE;
     }
     loop_number(words)
 }

@@ -1,14 +1,14 @@
 -- What holds of every case that is read. Assumes nothing.
 use mathlib.Core.Path.{_≡_, refl, sym, ap, _∙_, subst}
-use mathlib.Core.Bool.{Bool, true, false, cond, _&&_}
+use mathlib.Core.Bool.{Bool, true, false, cond}
 use mathlib.Core.List.{List}
 use Prim.Native.Nat.{ℕ, zero, suc, _+_, _*_, _-_, _/_, _%_, _^_, _≤_, _<_}
 use native.Mathlib.Omega.{arith}
-use lib.Dec.{leb, eqb}
+use lib.Dec.{eqb}
 use lib.ListN.{length, drop, length-drop}
-use borrow.Author.Tests.{eqb-true, leb-true}
+use borrow.Author.Tests.{eqb-true}
 use Rattle.word.specs.Memory.{part}
-use Rattle.word.proofs.TestLaws.{bool-cases, and-both}
+use Rattle.word.proofs.TestLaws.{bool-cases}
 use Rattle.word.proofs.ChooseLaws.{cond-all}
 use Rattle.word.proofs.MemoryLaws.{length-part}
 use Rattle.machine.specs.Rules.{Shaped}
@@ -16,14 +16,15 @@ use Rattle.machine.proofs.StateLaws.{refusal-0}
 use Rattle.events.specs.Events.{goodEvent, firstBad, checkedOf, Within}
 use Rattle.events.specs.declared.Checked.{Checked}
 use Rattle.events.specs.declared.Checked.the-variants.{Good, Bad}
-use Rattle.casefile.specs.Table.{tableOf, Inside}
+use Rattle.casefile.specs.Table.{tableOf, InsideFile}
 use Rattle.casefile.specs.Harts.{baseOf, countOf, hartsOk, stateOf, noState}
-use Rattle.casefile.specs.Case.{refusedCase, lengthOk, checkedCase, bodiesOf, partsOf, caseOf, Sound}
+use Rattle.casefile.specs.Case.{refusedCase, lengthOk, checkedCase, bodiesOf, partsOf, caseOf, SoundCase}
 use Rattle.casefile.specs.declared.Found.{Found}
 use Rattle.casefile.specs.declared.Found.the-variants.{Refused, Bodies}
 use Rattle.casefile.specs.declared.Case.{Case}
 use Rattle.casefile.proofs.TableLaws.{table-inside}
 use Rattle.casefile.proofs.HartsLaws.{harts-exact, harts-state, state-shaped, none-shaped}
+use Rattle.casefile.proofs.RuleLaws.{length-exact}
 
 -- the place of a bad event is in the body
 module _ (count base len : ℕ) (body : List ℕ) where
@@ -41,13 +42,6 @@ module _ (count base len : ℕ) (body : List ℕ) where
       (λ t. rw t (first-within (length body) (eqb-true _ _ t) (length body / 24) 0 (omega arith)))
       (λ t. rw t (omega arith))
 
-length-rules : (n : ℕ) → lengthOk n ≡ true → (64 ≤ n) × (n ≤ 1048576) × (n % 64 ≡ 0)
-unfolding lengthOk
-length-rules n e =
-    let a = and-both (leb 64 n) _ e in
-    let b = and-both (leb n 1048576) _ (a .1) in
-    (leb-true _ _ (a .0), leb-true _ _ (b .0), eqb-true _ _ (b .1))
-
 -- the bodies of a file that start at 40, m and e
 module _ (file : List ℕ) (m e : ℕ) (least : 40 ≤ m) (next : m ≤ e) (last : e ≤ length file) (most : length file ≤ 65536) (harts : List ℕ) where
   abbrev memory : List ℕ
@@ -63,12 +57,12 @@ module _ (file : List ℕ) (m e : ℕ) (least : 40 ≤ m) (next : m ≤ e) (last
   checked = checkedOf (countOf harts) (baseOf harts) (length memory) (drop e file)
 
   checked-sound : hartsOk harts ≡ true → lengthOk (length memory) ≡ true → (r : Checked) → checked ≡ r → Within r (length (drop e file))
-      → Sound file (checkedCase m e harts r)
+      → SoundCase file (checkedCase m e harts r)
   unfolding stateOf
   checked-sound h l (Bad place) c w = (omega arith, omega arith, omega (arith, rest))
   checked-sound h l Good c w =
       let r = harts-exact harts .0 h in
-      let q = length-rules (length memory) l in (
+      let q = length-exact (length memory) .0 l in (
         least,
         next,
         last,
@@ -79,7 +73,7 @@ module _ (file : List ℕ) (m e : ℕ) (least : 40 ≤ m) (next : m ≤ e) (last
         rw rest at w,
       )
 
-  bodies-sound : Sound file (bodiesOf m e harts memory (drop e file))
+  bodies-sound : SoundCase file (bodiesOf m e harts memory (drop e file))
   unfolding bodiesOf
   bodies-sound =
       bool-cases (hartsOk harts)
@@ -102,11 +96,11 @@ bodies-shaped m e harts memory events =
     none-shaped
 
 -- a refusal's place is in the file; a case's bodies are, and no run of it is refused
-pub case-sound : (file : List ℕ) → Sound file (caseOf file)
+pub case-sound : (file : List ℕ) → SoundCase file (caseOf file)
 unfolding caseOf
 case-sound file = go (tableOf file) (table-inside file)
   where
-    go : (f : Found) → Inside (length file) f → Sound file (partsOf file f)
+    go : (f : Found) → InsideFile (length file) f → SoundCase file (partsOf file f)
     go (Refused number place) h = (h .0, omega arith, h .2)
     go (Bodies m e) h = bodies-sound file m e (h .0) (h .1) (h .2) (h .3) (part file 40 (m - 40))
 
@@ -119,5 +113,5 @@ case-shaped file = go (tableOf file)
     go (Refused number place) = none-shaped
     go (Bodies m e) = bodies-shaped m e (part file 40 (m - 40)) (part file m (e - m)) (drop e file)
 
-pub read-sound : (file : List ℕ) (r : Case) → r ≡ caseOf file → (r ≡ caseOf file) × Sound file r
-read-sound file r h = (h, subst (λ (c : Case). Sound file c) (sym h) (case-sound file))
+pub read-sound : (file : List ℕ) (r : Case) → r ≡ caseOf file → (r ≡ caseOf file) × SoundCase file r
+read-sound file r h = (h, subst (λ (c : Case). SoundCase file c) (sym h) (case-sound file))

@@ -1,40 +1,19 @@
 -- Fields of a file, and where the bodies of a table lie. Assumes nothing.
 use mathlib.Core.Path.{_≡_, refl, sym, ap, _∙_, subst}
 use mathlib.Core.Bool.{Bool, true, false, cond, _||_}
-use mathlib.Core.Logic.{_⊎_, inl, inr}
 use mathlib.Core.List.{List}
-use Prim.Native.Nat.{ℕ, _+_, _-_, _^_, _≤_, _<_}
+use Prim.Native.Nat.{ℕ, _+_, _-_, _≤_, _<_}
 use native.Mathlib.Omega.{arith}
-use lib.Dec.{lit<, ltb, eqb}
+use lib.Dec.{ltb, eqb}
 use borrow.Author.Tests.{ltb-false, eqb-true}
-use lib.ListN.{length, getD, take, drop, length-take, List·getD-eq-default}
-use lib.Seq.{getD-take, getD-drop}
-use Rattle.word.specs.Bytes.{le, IsBytes}
-use Rattle.word.specs.Memory.{part}
-use Rattle.word.proofs.BytesLaws.{le-lt}
-use Rattle.word.proofs.MemoryLaws.{length-part}
-use Rattle.word.proofs.WordLaws.{split-lt}
+use lib.ListN.{length}
 use Rattle.word.proofs.TestLaws.{bool-cases}
 use Rattle.word.proofs.ChooseLaws.{cond-all}
-use Rattle.casefile.specs.Table.{fieldAt, entryOf, andThen, tableOf, Inside}
+use Rattle.casefile.specs.Table.{fieldAt, entryOf, andThen, tableOf, InsideFile}
 use Rattle.casefile.specs.declared.Entry.{Entry}
 use Rattle.casefile.specs.declared.Entry.the-variants.{Wrong, Ends}
 use Rattle.casefile.specs.declared.Found.{Found}
 use Rattle.casefile.specs.declared.Found.the-variants.{Refused, Bodies}
-
-bytes-part : (mem : List ℕ) (at n : ℕ) → IsBytes mem → IsBytes (part mem at n)
-unfolding part
-bytes-part mem at n h i = go (split-lt i n)
-  where
-    go : (i < n) ⊎ (n ≤ i) → getD (take n (drop at mem)) i 0 < 256
-    go (inl l) = rw (getD-take n (drop at mem) i 0 l, getD-drop) (h (at + i))
-    go (inr l) = rw (List·getD-eq-default (take n (drop at mem)) 0 {n = i} (rw length-take (omega arith))) (lit< tt)
-
--- a number of n bytes is below 256 ^ n
-pub le-part-lt : (n : ℕ) (mem : List ℕ) (at : ℕ) → IsBytes mem → at + n ≤ length mem → le (part mem at n) < 256 ^ n
-le-part-lt n mem at h fit =
-    let e = length-part mem at n fit in
-    rw e at (le-lt (part mem at n) (bytes-part mem at n h))
 
 -- what an entry gives: the place of its kind or its offset, or an end that isn't before the offset
 abbrev Gives : ℕ → ℕ → Entry → Type 0
@@ -52,7 +31,7 @@ module _ (file : List ℕ) where
       (cond-all (Gives place offset) (eqb (fieldAt file (place + 4)) offset) (Ends (offset + fieldAt file (place + 8))) (Wrong (place + 4)) ends second) first
 
   abbrev In : Found → Type 0
-  In f = Inside (length file) f
+  In f = InsideFile (length file) f
 
   refused-in : (place : ℕ) → place ≤ length file → In (Refused 8 place)
   refused-in place h = (omega arith, omega arith, h)
@@ -83,7 +62,7 @@ module _ (file : List ℕ) where
         (refused-in 0 (omega arith))
 
   -- the place of a refusal is in the file; the bodies are, one after another
-  pub table-inside : Inside (length file) (tableOf file)
+  pub table-inside : InsideFile (length file) (tableOf file)
   unfolding tableOf
   table-inside =
       bool-cases (ltb (length file) 40) (λ s. rw s (omega arith, omega arith, omega arith))

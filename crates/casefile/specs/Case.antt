@@ -48,11 +48,11 @@ partsOf file (Bodies m e) = bodiesOf m e (part file 40 (m - 40)) (part file m (e
 unfoldable pub caseOf : List ℕ → Case
 caseOf file = partsOf file (tableOf file)
 
--- what holds of the case read from a file. A refusal is one of 7 to 11, its place in the file. A case has its bodies in the file, one after
+-- what holds of the case read from a file. A refusal is one of 7 to 11, its place at most the file's length. A case has its bodies in the file, one after
 -- another from 40 on; 1, 2 and 11 don't refuse a run of it, and its events are whole
-abbrev pub SoundAs : List ℕ → ℕ → State → Found → Type 0
-SoundAs file base s (Refused number place) = (7 ≤ number) × (number ≤ 11) × (place ≤ length file)
-SoundAs file base s (Bodies m e) =
+abbrev pub SoundCaseAs : List ℕ → ℕ → State → Found → Type 0
+SoundCaseAs file base s (Refused number place) = (7 ≤ number) × (number ≤ 11) × (place ≤ length file)
+SoundCaseAs file base s (Bodies m e) =
     (40 ≤ m)
     × (m ≤ e)
     × (e ≤ length file)
@@ -61,5 +61,5 @@ SoundAs file base s (Bodies m e) =
     × (checkedOf (s .count) base (e - m) (drop e file) ≡ Good)
     × ((length file - e) % 24 ≡ 0)
 
-abbrev pub Sound : List ℕ → Case → Type 0
-Sound file c = SoundAs file (c .base) (c .state) (c .found)
+abbrev pub SoundCase : List ℕ → Case → Type 0
+SoundCase file c = SoundCaseAs file (c .base) (c .state) (c .found)

@@ -29,8 +29,8 @@ registerOf body h r = cond (eqb r 0) 0 (le (part body (16 + 256 * h + 8 * (r - 1
 abbrev pub pcOf : List ℕ → ℕ → ℕ
 pcOf body h = le (part body (16 + 256 * h + 248) 8)
 
--- "9: harts body, base included": none of its fields is wrong. The body has as many bytes as its count says, 1 to 8 harts, a base that is a
--- multiple of 64 and at most 2 ^ 40, and each pc is a multiple of 4
+-- "9: harts body, base included": none of its fields is wrong. The body has as many bytes as its count says, 1 to 8 harts, zero in its zero
+-- field, a base that is a multiple of 64 and at most 2 ^ 40, and each pc is a multiple of 4
 unfoldable pub hartsOk : List ℕ → Bool
 hartsOk body =
     eqb (length body) (16 + 256 * countOf body)

@@ -2,3 +2,4 @@
 pub mod Table
 pub mod Harts
 pub mod Case
+pub mod Rules

@@ -45,7 +45,7 @@ abbrev pub From : ℕ → Entry → Type 0
 From offset (Wrong place) = Unit {0}
 From offset (Ends end) = (offset ≤ end) × (end < offset + 2 ^ 32)
 
--- what a table says of a file of n bytes: the place of a refusal is in it, or bodies lie in it one after another from 40 on
-abbrev pub Inside : ℕ → Found → Type 0
-Inside n (Refused number place) = (7 ≤ number) × (number ≤ 8) × (place ≤ n)
-Inside n (Bodies memory events) = (40 ≤ memory) × (memory ≤ events) × (events ≤ n) × (n ≤ 65536)
+-- what a table says of a file of n bytes: the place of a refusal is at most n, or bodies lie in it one after another from 40 on
+abbrev pub InsideFile : ℕ → Found → Type 0
+InsideFile n (Refused number place) = (7 ≤ number) × (number ≤ 8) × (place ≤ n)
+InsideFile n (Bodies memory events) = (40 ≤ memory) × (memory ≤ events) × (events ≤ n) × (n ≤ 65536)

@@ -12,7 +12,7 @@ ghost use Rattle.word.specs.Each.{each, allBelow};
 ghost use Rattle.word.specs.Memory.{part};
 ghost use Rattle.casefile.specs.Table.{fieldAt, entryOf, tableOf, From};
 ghost use Rattle.casefile.specs.Harts.{registerOf, pcOf, hartsOk, stateOf, noState};
-ghost use Rattle.casefile.specs.Case.{refusedCase, lengthOk, bodiesOf, caseOf, Sound};
+ghost use Rattle.casefile.specs.Case.{refusedCase, lengthOk, bodiesOf, caseOf, SoundCase};
 
 // What a file is found to be: refused, at a place counted from its first byte, or a case, whose memory and events start at these places.
 pub enum Found {
@@ -243,7 +243,7 @@ fn read_bodies(file: &[u8], memory: usize, events: usize) -> Case
 // The case that a file is, or why it is none.
 pub fn read_case(file: &[u8]) -> Case
     ensures { λ r. ⌜ r ≡ caseOf (now (file .entry)) ⌝ }
-    ensures { λ r. ⌜ Sound (now (file .entry)) r ⌝ }
+    ensures { λ r. ⌜ SoundCase (now (file .entry)) r ⌝ }
 {
     match read_table(file) {
         Found::Refused { number, place } => refused(number, place),

@@ -1,22 +1,17 @@
 // The words that are read and the parts of a line that are written.
 use libc::STDOUT_FILENO;
-ghost use Prim.Native.Nat.{_+_, _≤_, _<_};
+ghost use mathlib.Core.Path.{_≡_};
+ghost use Prim.Native.Nat.{_+_, _≤_};
 ghost use lib.ListN.{length};
-
-fn wide(x: u8) -> u32
-    ensures { λ r. ⌜ r < 256 ⌝ }
-{
-    x as u32
-}
+ghost use Rattle.word.specs.Bytes.{le};
+ghost use Rattle.word.specs.Memory.{part};
 
 // The little-endian word at a place.
 pub fn word_at(words: &[u8], at: usize) -> u32
     requires { ⌜ at + 4 ≤ length (now words) ⌝ }
+    ensures { λ r. ⌜ r ≡ le (part (now (words .entry)) at 4) ⌝ }
 {
-    wide(words[at])
-        + wide(words[at + 1]) * 0x100
-        + wide(words[at + 2]) * 0x10000
-        + wide(words[at + 3]) * 0x1000000
+    word::bytes::load_at(words, at, 4) as u32
 }
 
 pub fn text(bytes: &[u8]) {

@@ -18,10 +18,10 @@ ghost use Prim.Native.Nat.{_<_};
 ghost use lib.ListN.{length};
 ghost use Rattle.reserve.specs.Reserve.{coversOf};
 ghost use Rattle.alu.specs.Pair.{joined};
-ghost use Rattle.effect.specs.Effect.{told, Meets, offset};
+ghost use Rattle.effect.specs.Effect.{doneOf, Meets, offset};
 ghost use Rattle.effect.specs.Integer.{holdsOf, execBranch};
 ghost use Rattle.effect.specs.Memory.{execStore};
-ghost use Rattle.effect.specs.Atomic.{Held};
+ghost use Rattle.effect.specs.Atomic.{CoveredInside};
 ghost use Rattle.effect.specs.Execute.{regAt, pairAt, execAtomic, execute, executeWord};
 
 // Register r of hart h; x has those of all harts.
@@ -65,7 +65,7 @@ pub fn atomic(
     mem: &mut [u8],
 ) -> Done
     requires { ⌜ h < 8 ⌝ }
-    requires { ⌜ Held base (length (now mem)) (coversOf 64 res) ⌝ }
+    requires { ⌜ CoveredInside base (length (now mem)) (coversOf 64 res) ⌝ }
     ensures { λ r. ⌜ Meets h (execAtomic 64 m (regAt (now (x .entry)) h) pc base (now (mem .entry)) (coversOf 64 res)) base (now (mem .entry)) r (now (mem .exit)) ⌝ }
 {
     let op = m.op;
@@ -94,7 +94,7 @@ pub fn atomic(
 // A branch, by the registers that it compares.
 fn branch(op: BranchOp, rs1: usize, rs2: usize, to: u64, x: &[u64; 256], h: usize, pc: u64) -> Done
     requires { ⌜ h < 8 ⌝ }
-    ensures { λ r. ⌜ r ≡ told h (execBranch 64 (holdsOf 64 op (regAt (now (x .entry)) h rs1) (regAt (now (x .entry)) h rs2)) to pc) ⌝ }
+    ensures { λ r. ⌜ r ≡ doneOf h (execBranch 64 (holdsOf 64 op (regAt (now (x .entry)) h rs1) (regAt (now (x .entry)) h rs2)) to pc) ⌝ }
 {
     let taken = exec::integer::holds(op, reg(x, h, rs1), reg(x, h, rs2));
     exec::integer::branch(taken, to, pc)
@@ -131,7 +131,7 @@ pub fn execute(
     mem: &mut [u8],
 ) -> Done
     requires { ⌜ h < 8 ⌝ }
-    requires { ⌜ Held base (length (now mem)) (coversOf 64 res) ⌝ }
+    requires { ⌜ CoveredInside base (length (now mem)) (coversOf 64 res) ⌝ }
     ensures { λ r. ⌜ Meets h (execute 64 i word (regAt (now (x .entry)) h) pc base (now (mem .entry)) (coversOf 64 res)) base (now (mem .entry)) r (now (mem .exit)) ⌝ }
 {
     let value = word as u64;
@@ -166,7 +166,7 @@ pub fn execute_word(
     mem: &mut [u8],
 ) -> Done
     requires { ⌜ h < 8 ⌝ }
-    requires { ⌜ Held base (length (now mem)) (coversOf 64 res) ⌝ }
+    requires { ⌜ CoveredInside base (length (now mem)) (coversOf 64 res) ⌝ }
     ensures { λ r. ⌜ Meets h (executeWord 64 word (regAt (now (x .entry)) h) pc base (now (mem .entry)) (coversOf 64 res)) base (now (mem .entry)) r (now (mem .exit)) ⌝ }
 {
     execute(isa::decode(word), word, x, h, pc, base, res, mem)

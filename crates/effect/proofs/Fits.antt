@@ -3,17 +3,17 @@ use Prim.Native.Nat.{ℕ, zero, suc, _+_, _-_, _/_, _%_, _^_, _≤_, _<_}
 use mathlib.Core.Path.{_≡_, refl}
 use mathlib.Core.Bool.{Bool, true, false}
 use mathlib.Core.List.{List, [], _∷_}
-use native.Mathlib.Nat.{mod-lt, div-lt-iff-lt-mul, pow-le-pow-right, lt-of-lt-of-le}
+use native.Mathlib.Nat.{mod-lt, div-lt-iff-lt-mul}
 use native.Mathlib.Omega.{arith}
-use lib.ListN.{length, take, drop, length-take}
+use lib.ListN.{length}
 use lib.Dec.{eqb, lit<, lit≤}
 use lib.Pow.{pow-pos}
 use Rattle.word.specs.Word.{low, signExtend}
 use Rattle.word.specs.Bytes.{toLe, IsBytes}
 use Rattle.word.specs.Memory.{part}
-use Rattle.word.proofs.BytesLaws.{le-lt, bytes-drop, bytes-toLe}
+use Rattle.word.proofs.BytesLaws.{bytes-toLe}
 use Rattle.word.proofs.WordLaws.{signExtend-lt}
-use Rattle.word.proofs.MemoryLaws.{length-splice, bytes-splice}
+use Rattle.word.proofs.MemoryLaws.{part-lt, length-splice, bytes-splice}
 use Rattle.word.proofs.ChooseLaws.{cond-all}
 use Rattle.isa.specs.Width.{bitsOf, bytesOf}
 use Rattle.isa.specs.Wf.{Imms}
@@ -28,28 +28,19 @@ use Rattle.isa.specs.declared.AtomicOp.the-variants.{Lr, Sc, Cas, CasPair, Rmw}
 use Rattle.isa.specs.declared.Atomic.{Atomic}
 use Rattle.isa.specs.declared.Instr.{Instr}
 use Rattle.isa.specs.declared.Instr.the-variants.{Illegal, Lui, Auipc, Jal, Jalr, Branch, Load, Store, OpImm, OpImm32, Op, Op32, Fence, Ecall, Ebreak, Amo}
-use Rattle.effect.specs.Effect.{none, pair, nothing, reserve, store, scStore, scLose, Exec, trap, effect, offset, nextOf, leaves}
+use Rattle.effect.specs.Effect.{none, pair, nothing, reserve, store, scStore, scLose, Exec, trap, effect, offset, nextPc, memoryBy}
 use Rattle.effect.specs.Integer.{computed, execJump, even, holdsOf, execBranch}
 use Rattle.effect.specs.Memory.{faultOf, checked, valueAt, loadBytes, extended, storeBytes, execLoad, execStore}
 use Rattle.effect.specs.Atomic.{swapped, pairWrites, execLr, execSc, execAmo, execCas, execCasPair}
 use Rattle.effect.specs.Execute.{pairAt, atomicBy, execAtomic, execute, executeWord}
-use Rattle.effect.specs.Sound.{Sound, TouchFits, WritesFit, Fits}
+use Rattle.effect.specs.Sound.{Sound, AccessFits, WritesFit, Fits}
 
 -- ---- values
 
-bytes-take : (n : ℕ) (xs : List ℕ) → IsBytes xs → IsBytes (take n xs)
-bytes-take zero xs h i = lit< tt
-bytes-take (suc n) [] h i = lit< tt
-bytes-take (suc n) (x ∷ xs) h zero = h 0
-bytes-take (suc n) (x ∷ xs) h (suc i) = bytes-take n xs (λ k. h (suc k)) i
-
 -- n bytes of memory are a number of n bytes
 pub value-lt : (base : ℕ) (mem : List ℕ) → IsBytes mem → (a n : ℕ) → valueAt base mem a n < 256 ^ n
-unfolding valueAt part
-value-lt base mem h a n =
-    let l : length (take n (drop (a - base) mem)) ≤ n = rw length-take (omega arith) in
-    lt-of-lt-of-le (le-lt (take n (drop (a - base) mem)) (bytes-take n (drop (a - base) mem) (bytes-drop (a - base) mem h)))
-    (pow-le-pow-right (lit< tt) l)
+unfolding valueAt
+value-lt base mem h a n = part-lt mem (a - base) n h
 
 bits-most : (w : Width) → (0 < bitsOf w) × (bitsOf w ≤ 64)
 bits-most Word = (lit< tt, lit≤ tt)
@@ -79,8 +70,8 @@ pair-lt rd v h =
     cond-all (WritesFit 64) (eqb (rd % 32) 0) none (pair (rd % 32) (v % 2 ^ 64) (rd % 32 + 1) (v / 2 ^ 64)) tt
     (mod-lt v (pow-pos 64), div-lt-iff-lt-mul {k = 2 ^ 64} {x = v} {y = 2 ^ 64} (pow-pos 64) .1 h)
 
-swap-bytes : (a n old want new : ℕ) → TouchFits (swapped a n old want new)
-swap-bytes a n old want new = cond-all TouchFits (eqb old want) (store a (toLe n new)) nothing (bytes-toLe n new) tt
+swap-bytes : (a n old want new : ℕ) → AccessFits (swapped a n old want new)
+swap-bytes a n old want new = cond-all AccessFits (eqb old want) (store a (toLe n new)) nothing (bytes-toLe n new) tt
 
 -- ---- instructions
 
@@ -91,7 +82,7 @@ fits-checked misaligned outside a n base len e h =
     cond-all (Fits 64) (eqb cause 0) e (trap cause a) h tt
 
 module _ (pc : ℕ) where
-  next-lt : nextOf 64 pc < 2 ^ 64
+  next-lt : nextPc 64 pc < 2 ^ 64
   next-lt = offset-lt pc 4
 
   fits-jump : (rd to : ℕ) → to < 2 ^ 64 → Fits 64 (execJump 64 rd to pc)
@@ -160,19 +151,19 @@ fits word x pc base mem covered bytes = fits-execute pc base mem bytes covered (
 -- ---- memory
 
 -- what a store inside memory leaves is as long
-pub length-leaves : (base : ℕ) (mem : List ℕ) (e : Exec) → Sound base (length mem) e → length (leaves base mem e) ≡ length mem
-length-leaves base mem (trap cause value) s = refl
-length-leaves base mem (effect ws to nothing) s = refl
-length-leaves base mem (effect ws to (reserve a w)) s = refl
-length-leaves base mem (effect ws to (store a bs)) s = length-splice mem (a - base) bs (omega arith)
-length-leaves base mem (effect ws to (scStore a bs)) s = length-splice mem (a - base) bs (omega arith)
-length-leaves base mem (effect ws to scLose) s = refl
+pub length-memoryBy : (base : ℕ) (mem : List ℕ) (e : Exec) → Sound base (length mem) e → length (memoryBy base mem e) ≡ length mem
+length-memoryBy base mem (trap cause value) s = refl
+length-memoryBy base mem (effect ws to nothing) s = refl
+length-memoryBy base mem (effect ws to (reserve a w)) s = refl
+length-memoryBy base mem (effect ws to (store a bs)) s = length-splice mem (a - base) bs (omega arith)
+length-memoryBy base mem (effect ws to (scStore a bs)) s = length-splice mem (a - base) bs (omega arith)
+length-memoryBy base mem (effect ws to scLose) s = refl
 
 -- and bytes
-pub bytes-leaves : (base : ℕ) (mem : List ℕ) (e : Exec) → IsBytes mem → Sound base (length mem) e → Fits 64 e → IsBytes (leaves base mem e)
-bytes-leaves base mem (trap cause value) h s f = h
-bytes-leaves base mem (effect ws to nothing) h s f = h
-bytes-leaves base mem (effect ws to (reserve a w)) h s f = h
-bytes-leaves base mem (effect ws to (store a bs)) h s f = bytes-splice mem (a - base) bs (omega arith) h (f .1 .1)
-bytes-leaves base mem (effect ws to (scStore a bs)) h s f = bytes-splice mem (a - base) bs (omega arith) h (f .1 .1)
-bytes-leaves base mem (effect ws to scLose) h s f = h
+pub bytes-memoryBy : (base : ℕ) (mem : List ℕ) (e : Exec) → IsBytes mem → Sound base (length mem) e → Fits 64 e → IsBytes (memoryBy base mem e)
+bytes-memoryBy base mem (trap cause value) h s f = h
+bytes-memoryBy base mem (effect ws to nothing) h s f = h
+bytes-memoryBy base mem (effect ws to (reserve a w)) h s f = h
+bytes-memoryBy base mem (effect ws to (store a bs)) h s f = bytes-splice mem (a - base) bs (omega arith) h (f .1 .1)
+bytes-memoryBy base mem (effect ws to (scStore a bs)) h s f = bytes-splice mem (a - base) bs (omega arith) h (f .1 .1)
+bytes-memoryBy base mem (effect ws to scLose) h s f = h

@@ -2,3 +2,4 @@
 pub mod Sound
 pub mod Fits
 pub mod TrapLaws
+pub mod SourcesLaws

@@ -26,12 +26,12 @@ use Rattle.isa.specs.declared.AtomicOp.the-variants.{Lr, Sc, Cas, CasPair, Rmw}
 use Rattle.isa.specs.declared.Atomic.{Atomic}
 use Rattle.isa.specs.declared.Instr.{Instr}
 use Rattle.isa.specs.declared.Instr.the-variants.{Illegal, Lui, Auipc, Jal, Jalr, Branch, Load, Store, OpImm, OpImm32, Op, Op32, Fence, Ecall, Ebreak, Amo}
-use Rattle.effect.specs.Effect.{nothing, store, Exec, trap, offset, nextOf}
+use Rattle.effect.specs.Effect.{nothing, store, Exec, trap, offset, nextPc}
 use Rattle.effect.specs.Integer.{execJump, even, holdsOf, execBranch}
 use Rattle.effect.specs.Memory.{faultOf, checked, valueAt, loadBytes, storeBytes, execLoad, execStore}
-use Rattle.effect.specs.Atomic.{Held, swapped, execLr, execSc, execAmo, execCas, execCasPair}
+use Rattle.effect.specs.Atomic.{CoveredInside, swapped, execLr, execSc, execAmo, execCas, execCasPair}
 use Rattle.effect.specs.Execute.{pairAt, atomicBy, execAtomic, execute, executeWord}
-use Rattle.effect.specs.Sound.{TouchOk, Sound}
+use Rattle.effect.specs.Sound.{AccessOk, Sound}
 
 -- an access without a fault is aligned and inside memory
 pub fault-fine : (misaligned outside a n base len : ℕ) → 0 < misaligned → 0 < outside → faultOf misaligned outside a n base len ≡ 0
@@ -66,16 +66,16 @@ module _ (base len : ℕ) where
   bytes-inside a n v i = subst (λ (k : ℕ). Inside base len a k) (sym (length-toLe n v)) i
 
   -- a compare and swap
-  sound-swap : (a n old want new : ℕ) → Inside base len a n → TouchOk base len (swapped a n old want new)
+  sound-swap : (a n old want new : ℕ) → Inside base len a n → AccessOk base len (swapped a n old want new)
   sound-swap a n old want new i = go (eqb old want)
     where
-      go : (t : Bool) → TouchOk base len (cond t (store a (toLe n new)) nothing)
+      go : (t : Bool) → AccessOk base len (cond t (store a (toLe n new)) nothing)
       go true = bytes-inside a n new i
       go false = tt
 
 -- at a register width of xlen bits, with the pc and memory before the step
 module _ (xlen : ℕ) (enough : 2 ≤ xlen) (pc : ℕ) (aligned : pc % 4 ≡ 0) (base : ℕ) (mem : List ℕ) where
-  next-aligned : nextOf xlen pc % 4 ≡ 0
+  next-aligned : nextPc xlen pc % 4 ≡ 0
   unfolding low
   next-aligned = low-low xlen 2 enough (pc + 4) ∙ omega arith
 
@@ -122,7 +122,7 @@ module _ (xlen : ℕ) (enough : 2 ≤ xlen) (pc : ℕ) (aligned : pc % 4 ≡ 0) 
       sound-checked base (length mem) 6 7 a 16 _ (omega arith) (omega arith)
       (λ i. (next-aligned, sound-swap base (length mem) a 16 (valueAt base mem a 16) want new (i .1)))
 
-  module _ (covered : ℕ → ℕ → Bool) (held : Held base (length mem) covered) where
+  module _ (covered : ℕ → ℕ → Bool) (held : CoveredInside base (length mem) covered) where
     sound-sc : (w : Width) (rd a v : ℕ) → Sound base (length mem) (execSc xlen w rd a v pc covered)
     unfolding execSc
     sound-sc w rd a v =
@@ -159,7 +159,7 @@ module _ (xlen : ℕ) (enough : 2 ≤ xlen) (pc : ℕ) (aligned : pc % 4 ≡ 0) 
 
 -- Whatever the word and the registers, a step from an aligned pc goes to an aligned pc, and reserves and stores inside memory only, if what is
 -- covered lies in memory.
-pub sound : (word : ℕ) (x : ℕ → ℕ) (pc base : ℕ) (mem : List ℕ) (covered : ℕ → ℕ → Bool) → pc % 4 ≡ 0 → Held base (length mem) covered
+pub sound : (word : ℕ) (x : ℕ → ℕ) (pc base : ℕ) (mem : List ℕ) (covered : ℕ → ℕ → Bool) → pc % 4 ≡ 0 → CoveredInside base (length mem) covered
     → Sound base (length mem) (executeWord 64 word x pc base mem covered)
 unfolding executeWord
 sound word x pc base mem covered aligned held = sound-execute 64 (omega arith) pc aligned base mem covered held (decodeOf word) word x

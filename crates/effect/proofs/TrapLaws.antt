@@ -12,7 +12,7 @@ use Rattle.isa.specs.Width.{bytesOf}
 use Rattle.isa.specs.Decode.{decodeOf}
 use Rattle.isa.specs.declared.Width.{Width}
 use Rattle.isa.specs.declared.Instr.the-variants.{Illegal, Ecall, Ebreak}
-use Rattle.effect.specs.Effect.{Exec, trap, effect, none, one, nothing, scLose, scStore, nextOf}
+use Rattle.effect.specs.Effect.{Exec, trap, effect, none, one, nothing, scLose, scStore, nextPc}
 use Rattle.effect.specs.Integer.{execJump, execBranch}
 use Rattle.effect.specs.Memory.{faultOf, checked}
 use Rattle.effect.specs.Atomic.{execSc}
@@ -47,7 +47,7 @@ module _ (xlen pc : ℕ) where
   unfolding execJump
   jump-traps rd to d = rw (ne-eqb (to % 4) 0 d)
 
-  pub jump-retires : (rd to : ℕ) → to % 4 ≡ 0 → execJump xlen rd to pc ≡ effect (one rd (nextOf xlen pc)) to nothing
+  pub jump-retires : (rd to : ℕ) → to % 4 ≡ 0 → execJump xlen rd to pc ≡ effect (one rd (nextPc xlen pc)) to nothing
   unfolding execJump
   jump-retires rd to al = rw (eq-eqb (to % 4) 0 al)
 
@@ -59,7 +59,7 @@ module _ (xlen pc : ℕ) where
   unfolding execBranch
   branch-taken to al = rw (eq-eqb (to % 4) 0 al)
 
-  pub branch-passed : (to : ℕ) → execBranch xlen false to pc ≡ effect none (nextOf xlen pc) nothing
+  pub branch-passed : (to : ℕ) → execBranch xlen false to pc ≡ effect none (nextPc xlen pc) nothing
   unfolding execBranch
   branch-passed to = refl
 
@@ -70,12 +70,12 @@ module _ (xlen pc : ℕ) where
     sc-traps d = rw (ne-eqb (a % bytesOf w) 0 d)
 
     pub sc-succeeds : a % bytesOf w ≡ 0 → covered a (bytesOf w) ≡ true
-        → execSc xlen w rd a v pc covered ≡ effect (one rd 0) (nextOf xlen pc) (scStore a (toLe (bytesOf w) v))
+        → execSc xlen w rd a v pc covered ≡ effect (one rd 0) (nextPc xlen pc) (scStore a (toLe (bytesOf w) v))
     unfolding execSc
     sc-succeeds al c = rw (eq-eqb (a % bytesOf w) 0 al, c)
 
     pub sc-fails : a % bytesOf w ≡ 0 → covered a (bytesOf w) ≡ false
-        → execSc xlen w rd a v pc covered ≡ effect (one rd 1) (nextOf xlen pc) scLose
+        → execSc xlen w rd a v pc covered ≡ effect (one rd 1) (nextPc xlen pc) scLose
     unfolding execSc
     sc-fails al c = rw (eq-eqb (a % bytesOf w) 0 al, c)
 

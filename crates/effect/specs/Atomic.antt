@@ -12,15 +12,15 @@ use Rattle.isa.specs.Width.{bitsOf, bytesOf}
 use Rattle.isa.specs.declared.Width.{Width}
 use Rattle.isa.specs.declared.AmoOp.{AmoOp}
 use Rattle.alu.specs.Amo.{amoOf}
-use Rattle.effect.specs.Effect.{Exec, trap, effect, Writes, none, one, pair, Touch, nothing, reserve, store, scStore, scLose, nextOf}
+use Rattle.effect.specs.Effect.{Exec, trap, effect, Writes, none, one, pair, Access, nothing, reserve, store, scStore, scLose, nextPc}
 use Rattle.effect.specs.Memory.{checked, valueAt}
 
 -- all that is covered lies in the len bytes at base
-abbrev pub Held : ℕ → ℕ → (ℕ → ℕ → Bool) → Type 0
-Held base len covered = (a n : ℕ) → covered a n ≡ true → Inside base len a n
+abbrev pub CoveredInside : ℕ → ℕ → (ℕ → ℕ → Bool) → Type 0
+CoveredInside base len covered = (a n : ℕ) → covered a n ≡ true → Inside base len a n
 
 -- 01: "compares .., writes rs2 if equal"; "Unequal: no write": n bytes at a
-abbrev pub swapped : ℕ → ℕ → ℕ → ℕ → ℕ → Touch
+abbrev pub swapped : ℕ → ℕ → ℕ → ℕ → ℕ → Access
 swapped a n old want new = cond (eqb old want) (store a (toLe n new)) nothing
 
 -- 01: "a pair that starts at x0 .. isn't written"
@@ -32,7 +32,7 @@ module _ (xlen : ℕ) where
   unfoldable pub execLr : Width → ℕ → ℕ → ℕ → ℕ → List ℕ → Exec
   execLr w rd a pc base mem =
       checked 4 5 a (bytesOf w) base (length mem)
-      (effect (one rd (signExtend xlen (bitsOf w) (valueAt base mem a (bytesOf w)))) (nextOf xlen pc) (reserve a (bytesOf w)))
+      (effect (one rd (signExtend xlen (bitsOf w) (valueAt base mem a (bytesOf w)))) (nextPc xlen pc) (reserve a (bytesOf w)))
 
   -- 01: "SC: aligned, then succeeds if this hart holds a reservation whose set contains all its bytes .. Success writes memory and puts 0 in rd;
   -- failure puts 1 in rd and writes nothing." covered says whether the set of the hart's reservation contains the n bytes at an address
@@ -40,26 +40,26 @@ module _ (xlen : ℕ) where
   execSc w rd a v pc covered =
       cond (eqb (a % bytesOf w) 0)
       (cond (covered a (bytesOf w))
-      (effect (one rd 0) (nextOf xlen pc) (scStore a (toLe (bytesOf w) v)))
-      (effect (one rd 1) (nextOf xlen pc) scLose))
+      (effect (one rd 0) (nextPc xlen pc) (scStore a (toLe (bytesOf w) v)))
+      (effect (one rd 1) (nextPc xlen pc) scLose))
       (trap 6 a)
 
   -- 01: "AMO: rd gets the old value (W sign-extended); memory gets the operation on old value and rs2. W ignores the upper half of rs2."
   unfoldable pub execAmo : AmoOp → Width → ℕ → ℕ → ℕ → ℕ → ℕ → List ℕ → Exec
   execAmo op w rd a v pc base mem =
       checked 6 7 a (bytesOf w) base (length mem)
-      (effect (one rd (signExtend xlen (bitsOf w) (valueAt base mem a (bytesOf w)))) (nextOf xlen pc)
+      (effect (one rd (signExtend xlen (bitsOf w) (valueAt base mem a (bytesOf w)))) (nextPc xlen pc)
       (store a (toLe (bytesOf w) (amoOf op (bitsOf w) (valueAt base mem a (bytesOf w)) (low (bitsOf w) v)))))
 
   -- 01: "AMOCAS: compares with rd (W: its low half), writes rs2 if equal, then rd gets the old value (W sign-extended)."
   unfoldable pub execCas : Width → ℕ → ℕ → ℕ → ℕ → ℕ → ℕ → List ℕ → Exec
   execCas w rd a want new pc base mem =
       checked 6 7 a (bytesOf w) base (length mem)
-      (effect (one rd (signExtend xlen (bitsOf w) (valueAt base mem a (bytesOf w)))) (nextOf xlen pc)
+      (effect (one rd (signExtend xlen (bitsOf w) (valueAt base mem a (bytesOf w)))) (nextPc xlen pc)
       (swapped a (bytesOf w) (valueAt base mem a (bytesOf w)) (low (bitsOf w) want) new))
 
   -- AMOCAS.Q: want and new are numbers of 128 bits
   unfoldable pub execCasPair : ℕ → ℕ → ℕ → ℕ → ℕ → ℕ → List ℕ → Exec
   execCasPair rd a want new pc base mem =
       checked 6 7 a 16 base (length mem)
-      (effect (pairWrites rd (valueAt base mem a 16)) (nextOf xlen pc) (swapped a 16 (valueAt base mem a 16) want new))
+      (effect (pairWrites rd (valueAt base mem a 16)) (nextPc xlen pc) (swapped a 16 (valueAt base mem a 16) want new))

@@ -17,32 +17,32 @@ pub data Writes : Type 0 where
   pair : ℕ → ℕ → ℕ → ℕ → Writes
 
 -- what it does besides registers and pc: both the bytes that change and what reservations learn are read off this one value
-pub data Touch : Type 0 where
-  nothing : Touch
-  reserve : ℕ → ℕ → Touch  -- LR: address and width
-  store : ℕ → List ℕ → Touch  -- address and bytes
-  scStore : ℕ → List ℕ → Touch  -- an SC that succeeds
-  scLose : Touch  -- an SC that fails
+pub data Access : Type 0 where
+  nothing : Access
+  reserve : ℕ → ℕ → Access  -- LR: address and width
+  store : ℕ → List ℕ → Access  -- address and bytes
+  scStore : ℕ → List ℕ → Access  -- an SC that succeeds
+  scLose : Access  -- an SC that fails
 
--- cause and value; or what is written, the next pc, and the touch
+-- cause and value; or what is written, the next pc, and the access
 pub data Exec : Type 0 where
   trap : ℕ → ℕ → Exec
-  effect : Writes → ℕ → Touch → Exec
+  effect : Writes → ℕ → Access → Exec
 
 -- the memory afterwards
-abbrev pub stored : ℕ → List ℕ → Touch → List ℕ
+abbrev pub stored : ℕ → List ℕ → Access → List ℕ
 stored base mem nothing = mem
 stored base mem (reserve a w) = mem
 stored base mem (store a bs) = splice mem (a - base) bs
 stored base mem (scStore a bs) = splice mem (a - base) bs
 stored base mem scLose = mem
 
-abbrev pub leaves : ℕ → List ℕ → Exec → List ℕ
-leaves base mem (trap cause value) = mem
-leaves base mem (effect ws to t) = stored base mem t
+abbrev pub memoryBy : ℕ → List ℕ → Exec → List ℕ
+memoryBy base mem (trap cause value) = mem
+memoryBy base mem (effect ws to t) = stored base mem t
 
--- what reservations learn of hart h's touch
-abbrev pub noticeOf : ℕ → Touch → Notice
+-- what reservations learn of hart h's access
+abbrev pub noticeOf : ℕ → Access → Notice
 noticeOf h nothing = Quiet
 noticeOf h (reserve a w) = LoadReserved h a w
 noticeOf h (store a bs) = Write h a (length bs)
@@ -55,14 +55,14 @@ retired none to n = Retired (record { rd = 0; value = 0; rd2 = 0; value2 = 0; ne
 retired (one rd v) to n = Retired (record { rd = rd; value = v; rd2 = 0; value2 = 0; next = to; notice = n })
 retired (pair rd v rd2 v2) to n = Retired (record { rd = rd; value = v; rd2 = rd2; value2 = v2; next = to; notice = n })
 
-abbrev pub told : ℕ → Exec → Done
-told h (trap cause value) = Trap cause value
-told h (effect ws to t) = retired ws to (noticeOf h t)
+abbrev pub doneOf : ℕ → Exec → Done
+doneOf h (trap cause value) = Trap cause value
+doneOf h (effect ws to t) = retired ws to (noticeOf h t)
 
 -- hart h's answer and the memory afterwards are those of e
 pub record Meets (h : ℕ) (e : Exec) (base : ℕ) (before : List ℕ) (r : Done) (after : List ℕ) : Type 0 where
-  pub answer : r ≡ told h e
-  pub memory : after ≡ leaves base before e
+  pub answer : r ≡ doneOf h e
+  pub memory : after ≡ memoryBy base before e
 
 -- addresses and pc are numbers of xlen bits; 01 has 64
 module _ (xlen : ℕ) where
@@ -70,9 +70,9 @@ module _ (xlen : ℕ) where
   abbrev pub offset : ℕ → ℕ → ℕ
   offset a imm = (a + imm) % 2 ^ xlen
 
-  abbrev pub nextOf : ℕ → ℕ
-  nextOf pc = offset pc 4
+  abbrev pub nextPc : ℕ → ℕ
+  nextPc pc = offset pc 4
 
   -- one register is set, and nothing else happens
   abbrev pub sets : ℕ → ℕ → ℕ → Exec
-  sets rd v pc = effect (one rd v) (nextOf pc) nothing
+  sets rd v pc = effect (one rd v) (nextPc pc) nothing

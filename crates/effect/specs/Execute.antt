@@ -10,7 +10,7 @@ use Rattle.isa.specs.declared.AtomicOp.the-variants.{Lr, Sc, Cas, CasPair, Rmw}
 use Rattle.isa.specs.declared.Atomic.{Atomic}
 use Rattle.isa.specs.declared.Instr.{Instr}
 use Rattle.isa.specs.declared.Instr.the-variants.{Illegal, Lui, Auipc, Jal, Jalr, Branch, Load, Store, OpImm, OpImm32, Op, Op32, Fence, Ecall, Ebreak, Amo}
-use Rattle.effect.specs.Effect.{Exec, trap, effect, none, nothing, offset, nextOf, sets}
+use Rattle.effect.specs.Effect.{Exec, trap, effect, none, nothing, offset, nextPc, sets}
 use Rattle.effect.specs.Integer.{computed, execJump, even, holdsOf, execBranch}
 use Rattle.effect.specs.Memory.{execLoad, execStore}
 use Rattle.effect.specs.Atomic.{execLr, execSc, execAmo, execCas, execCasPair}
@@ -40,7 +40,7 @@ module _ (xlen : ℕ) where
   execute Illegal word x pc base mem covered = trap 2 word
   execute Ecall word x pc base mem covered = trap 8 0
   execute Ebreak word x pc base mem covered = trap 3 0
-  execute (Fence rd rs1 imm) word x pc base mem covered = effect none (nextOf xlen pc) nothing
+  execute (Fence rd rs1 imm) word x pc base mem covered = effect none (nextPc xlen pc) nothing
   execute (Lui rd imm) word x pc base mem covered = sets xlen rd imm pc
   execute (Auipc rd imm) word x pc base mem covered = sets xlen rd (offset xlen pc imm) pc
   execute (Jal rd imm) word x pc base mem covered = execJump xlen rd (offset xlen pc imm) pc

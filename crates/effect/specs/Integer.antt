@@ -8,7 +8,7 @@ use Rattle.alu.specs.Alu.{aluOf}
 use Rattle.isa.specs.declared.AluOp.{AluOp}
 use Rattle.isa.specs.declared.BranchOp.{BranchOp}
 use Rattle.isa.specs.declared.BranchOp.the-variants.{Eq, Ne, Lt, Ge, Ltu, Geu}
-use Rattle.effect.specs.Effect.{Exec, trap, effect, none, one, nothing, nextOf}
+use Rattle.effect.specs.Effect.{Exec, trap, effect, none, one, nothing, nextPc}
 
 module _ (xlen : ℕ) where
   -- the operation at k bits, sign-extended: OP and OP-IMM at xlen, OP-32 and OP-IMM-32 at 32
@@ -17,7 +17,7 @@ module _ (xlen : ℕ) where
 
   -- JAL and JALR. 01: cause 0, "JAL, JALR or a taken branch to a target that isn't a multiple of 4", value "target"
   unfoldable pub execJump : ℕ → ℕ → ℕ → Exec
-  execJump rd to pc = cond (eqb (to % 4) 0) (effect (one rd (nextOf xlen pc)) to nothing) (trap 0 to)
+  execJump rd to pc = cond (eqb (to % 4) 0) (effect (one rd (nextPc xlen pc)) to nothing) (trap 0 to)
 
   -- the branch is taken
   unfoldable pub holdsOf : BranchOp → ℕ → ℕ → Bool
@@ -30,7 +30,7 @@ module _ (xlen : ℕ) where
 
   unfoldable pub execBranch : Bool → ℕ → ℕ → Exec
   execBranch taken to pc =
-      cond taken (cond (eqb (to % 4) 0) (effect none to nothing) (trap 0 to)) (effect none (nextOf xlen pc) nothing)
+      cond taken (cond (eqb (to % 4) 0) (effect none to nothing) (trap 0 to)) (effect none (nextPc xlen pc) nothing)
 
 -- JALR's target: the manual clears its lowest bit
 abbrev pub even : ℕ → ℕ

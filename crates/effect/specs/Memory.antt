@@ -12,7 +12,7 @@ use Rattle.isa.specs.declared.LoadOp.{LoadOp}
 use Rattle.isa.specs.declared.LoadOp.the-variants.{Lb, Lh, Lw, Ld, Lbu, Lhu, Lwu}
 use Rattle.isa.specs.declared.StoreOp.{StoreOp}
 use Rattle.isa.specs.declared.StoreOp.the-variants.{Sb, Sh, Sw, Sd}
-use Rattle.effect.specs.Effect.{Exec, trap, effect, none, store, nextOf, sets}
+use Rattle.effect.specs.Effect.{Exec, trap, effect, none, store, nextPc, sets}
 
 -- 01: causes 4 and 6, "address not aligned to its width", then 5 and 7, "bytes not wholly in memory": the cause of an access of n bytes at a,
 -- or 0. misaligned is 4 or 6, outside is 5 or 7
@@ -60,4 +60,4 @@ module _ (xlen : ℕ) where
 
   unfoldable pub execStore : StoreOp → ℕ → ℕ → ℕ → ℕ → List ℕ → Exec
   execStore op a v pc base mem =
-      checked 6 7 a (storeBytes op) base (length mem) (effect none (nextOf xlen pc) (store a (toLe (storeBytes op) v)))
+      checked 6 7 a (storeBytes op) base (length mem) (effect none (nextPc xlen pc) (store a (toLe (storeBytes op) v)))

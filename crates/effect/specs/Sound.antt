@@ -5,29 +5,29 @@ use mathlib.Core.Logic.{_⊎_}
 use lib.ListN.{length}
 use Rattle.word.specs.Bytes.{IsBytes}
 use Rattle.reserve.specs.Range.{Inside}
-use Rattle.effect.specs.Effect.{Writes, none, one, pair, Touch, nothing, reserve, store, scStore, scLose, Exec, trap, effect}
+use Rattle.effect.specs.Effect.{Writes, none, one, pair, Access, nothing, reserve, store, scStore, scLose, Exec, trap, effect}
 
 -- 01: a reservation's width is 4 or 8, it is aligned to it, and inside memory (refusal 2); bytes stored are wholly in memory (cause 7): in the
 -- len bytes at base
-abbrev pub TouchOk : ℕ → ℕ → Touch → Type 0
-TouchOk base len nothing = Unit {0}
-TouchOk base len (reserve a w) = ((w ≡ 4) ⊎ (w ≡ 8)) × ((a % w ≡ 0) × Inside base len a w)
-TouchOk base len (store a bs) = Inside base len a (length bs)
-TouchOk base len (scStore a bs) = Inside base len a (length bs)
-TouchOk base len scLose = Unit {0}
+abbrev pub AccessOk : ℕ → ℕ → Access → Type 0
+AccessOk base len nothing = Unit {0}
+AccessOk base len (reserve a w) = ((w ≡ 4) ⊎ (w ≡ 8)) × ((a % w ≡ 0) × Inside base len a w)
+AccessOk base len (store a bs) = Inside base len a (length bs)
+AccessOk base len (scStore a bs) = Inside base len a (length bs)
+AccessOk base len scLose = Unit {0}
 
 -- 01: "a pc that is a multiple of 4"
 abbrev pub Sound : ℕ → ℕ → Exec → Type 0
 Sound base len (trap cause value) = Unit {0}
-Sound base len (effect ws to t) = (to % 4 ≡ 0) × TouchOk base len t
+Sound base len (effect ws to t) = (to % 4 ≡ 0) × AccessOk base len t
 
 -- what is stored is bytes
-abbrev pub TouchFits : Touch → Type 0
-TouchFits nothing = Unit {0}
-TouchFits (reserve a w) = Unit {0}
-TouchFits (store a bs) = IsBytes bs
-TouchFits (scStore a bs) = IsBytes bs
-TouchFits scLose = Unit {0}
+abbrev pub AccessFits : Access → Type 0
+AccessFits nothing = Unit {0}
+AccessFits (reserve a w) = Unit {0}
+AccessFits (store a bs) = IsBytes bs
+AccessFits (scStore a bs) = IsBytes bs
+AccessFits scLose = Unit {0}
 
 -- 01: "x0 to x31 (64 bits ..)": the values written and the next pc are numbers of xlen bits
 module _ (xlen : ℕ) where
@@ -38,4 +38,4 @@ module _ (xlen : ℕ) where
 
   abbrev pub Fits : Exec → Type 0
   Fits (trap cause value) = Unit {0}
-  Fits (effect ws to t) = WritesFit ws × ((to < 2 ^ xlen) × TouchFits t)
+  Fits (effect ws to t) = WritesFit ws × ((to < 2 ^ xlen) × AccessFits t)

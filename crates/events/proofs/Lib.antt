@@ -1,2 +1,3 @@
--- The events one after another.
+-- The events one after another, and refusal 11 by its rules.
 pub mod EventLaws
+pub mod RuleLaws

@@ -1,2 +1,3 @@
 -- The events of a case.
 pub mod Events
+pub mod Rules

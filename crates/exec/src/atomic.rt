@@ -20,11 +20,11 @@ ghost use Prim.Native.Nat.{_≤_, _<_};
 ghost use lib.ListN.{length};
 ghost use Rattle.reserve.specs.Reserve.{coversOf};
 ghost use Rattle.alu.specs.Pair.{joined};
-ghost use Rattle.effect.specs.Effect.{retired, told, Meets, nextOf};
-ghost use Rattle.effect.specs.Atomic.{Held, pairWrites, execLr, execSc, execAmo, execCas, execCasPair};
+ghost use Rattle.effect.specs.Effect.{retired, doneOf, Meets, nextPc};
+ghost use Rattle.effect.specs.Atomic.{CoveredInside, pairWrites, execLr, execSc, execAmo, execCas, execCasPair};
 
 pub fn lr(w: Width, rd: usize, a: u64, pc: u64, base: u64, h: usize, mem: &[u8]) -> Done
-    ensures { λ r. ⌜ r ≡ told h (execLr 64 w rd a pc base (now (mem .entry))) ⌝ }
+    ensures { λ r. ⌜ r ≡ doneOf h (execLr 64 w rd a pc base (now (mem .entry))) ⌝ }
 {
     let n = bytes_of(w);
     let cause = fault(4, 5, a, n, base, mem.len());
@@ -57,7 +57,7 @@ pub fn sc(
     res: Reservation,
     mem: &mut [u8],
 ) -> Done
-    requires { ⌜ Held base (length (now mem)) (coversOf 64 res) ⌝ }
+    requires { ⌜ CoveredInside base (length (now mem)) (coversOf 64 res) ⌝ }
     ensures { λ r. ⌜ Meets h (execSc 64 w rd a v pc (coversOf 64 res)) base (now (mem .entry)) r (now (mem .exit)) ⌝ }
 {
     let n = bytes_of(w);
@@ -155,7 +155,7 @@ pub fn cas(
 
 // A pair of registers is set, unless it starts at x0, and the next word comes next.
 fn retire_pair(rd: usize, old: Pair, pc: u64, notice: Notice) -> Done
-    ensures { λ r. ⌜ r ≡ retired (pairWrites rd (joined old)) (nextOf 64 pc) notice ⌝ }
+    ensures { λ r. ⌜ r ≡ retired (pairWrites rd (joined old)) (nextPc 64 pc) notice ⌝ }
 {
     let first = rd % 32;
     if first == 0 {

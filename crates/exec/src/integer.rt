@@ -9,13 +9,13 @@ use word::num::sign_extend;
 use word::num::wrap;
 ghost use mathlib.Core.Path.{_≡_};
 ghost use Prim.Native.Nat.{ℕ, _≤_, _<_};
-ghost use Rattle.effect.specs.Effect.{told, sets};
+ghost use Rattle.effect.specs.Effect.{doneOf, sets};
 ghost use Rattle.effect.specs.Integer.{computed, execJump, holdsOf, execBranch};
 
 // OP and OP-IMM at 64 bits, OP-32 and OP-IMM-32 at 32.
 pub fn compute(op: AluOp, bits: u32, rd: usize, a: u64, b: u64, pc: u64) -> Done
     requires { ⌜ (0 < bits) × (bits ≤ 64) ⌝ }
-    ensures { λ r. ⌜ ((h : ℕ) → r ≡ told h (sets 64 rd (computed 64 bits op a b) pc)) ⌝ }
+    ensures { λ r. ⌜ ((h : ℕ) → r ≡ doneOf h (sets 64 rd (computed 64 bits op a b) pc)) ⌝ }
 {
     let x = wrap(a, bits);
     let y = wrap(b, bits);
@@ -25,7 +25,7 @@ pub fn compute(op: AluOp, bits: u32, rd: usize, a: u64, b: u64, pc: u64) -> Done
 
 // JAL and JALR.
 pub fn jump(rd: usize, to: u64, pc: u64) -> Done
-    ensures { λ r. ⌜ ((h : ℕ) → r ≡ told h (execJump 64 rd to pc)) ⌝ }
+    ensures { λ r. ⌜ ((h : ℕ) → r ≡ doneOf h (execJump 64 rd to pc)) ⌝ }
 {
     if to % 4 != 0 {
         return Done::Trap {
@@ -58,7 +58,7 @@ pub fn holds(op: BranchOp, a: u64, b: u64) -> bool
 }
 
 pub fn branch(taken: bool, to: u64, pc: u64) -> Done
-    ensures { λ r. ⌜ ((h : ℕ) → r ≡ told h (execBranch 64 taken to pc)) ⌝ }
+    ensures { λ r. ⌜ ((h : ℕ) → r ≡ doneOf h (execBranch 64 taken to pc)) ⌝ }
 {
     if taken {
         if to % 4 != 0 {

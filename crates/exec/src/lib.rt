@@ -4,7 +4,7 @@ use effect::Done;
 use effect::Effect;
 use reserve::Notice;
 ghost use mathlib.Core.Path.{_≡_};
-ghost use Rattle.effect.specs.Effect.{one, retired, nextOf};
+ghost use Rattle.effect.specs.Effect.{one, retired, nextPc};
 
 pub mod atomic;
 pub mod integer;
@@ -12,7 +12,7 @@ pub mod memory;
 
 // One register is set, and the next word comes next. Setting x0 is setting none.
 pub fn retire(rd: usize, value: u64, pc: u64, notice: Notice) -> Done
-    ensures { λ r. ⌜ r ≡ retired (one rd value) (nextOf 64 pc) notice ⌝ }
+    ensures { λ r. ⌜ r ≡ retired (one rd value) (nextPc 64 pc) notice ⌝ }
 {
     Done::Retired(Effect {
         rd,

@@ -9,7 +9,7 @@ use word::bytes::store_at;
 use word::num::sign_extend;
 ghost use mathlib.Core.Path.{_≡_};
 ghost use Prim.Native.Nat.{ℕ, _≤_, _<_};
-ghost use Rattle.effect.specs.Effect.{told, Meets};
+ghost use Rattle.effect.specs.Effect.{doneOf, Meets};
 ghost use Rattle.effect.specs.Memory.{faultOf, loadBytes, extended, execLoad, storeBytes, execStore};
 
 // The cause of an access of n bytes at a that traps, or 0. The caller gives both causes: 4 and 5 for what loads, 6 and 7 for what stores.
@@ -56,7 +56,7 @@ fn extend(op: LoadOp, v: u64) -> u64
 
 // The answer is the same for every hart h.
 pub fn load(op: LoadOp, rd: usize, a: u64, pc: u64, base: u64, mem: &[u8]) -> Done
-    ensures { λ r. ⌜ ((h : ℕ) → r ≡ told h (execLoad 64 op rd a pc base (now (mem .entry)))) ⌝ }
+    ensures { λ r. ⌜ ((h : ℕ) → r ≡ doneOf h (execLoad 64 op rd a pc base (now (mem .entry)))) ⌝ }
 {
     let n = load_bytes(op);
     let cause = fault(4, 5, a, n, base, mem.len());

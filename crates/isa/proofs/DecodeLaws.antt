@@ -106,9 +106,9 @@ module _ (P : Instr → Type 0) (w : ℕ)
 
   from-cas-pair : P (D.casPairOf w)
   unfolding D.casPairOf
-  from-cas-pair = go (D.even (rdOf w)) (D.even (rs2Of w)) refl refl
+  from-cas-pair = go (D.isEven (rdOf w)) (D.isEven (rs2Of w)) refl refl
     where
-      go : (d s : Bool) → D.even (rdOf w) ≡ d → D.even (rs2Of w) ≡ s → P (cond (d && s) (D.atomicAs w CasPair Double) Illegal)
+      go : (d s : Bool) → D.isEven (rdOf w) ≡ d → D.isEven (rs2Of w) ≡ s → P (cond (d && s) (D.atomicAs w CasPair Double) Illegal)
       go true true d s = cas-pair (eqb-true (rdOf w % 2) 0 d) (eqb-true (rs2Of w % 2) 0 s)
       go true false d s = illegal
       go false s d e = illegal

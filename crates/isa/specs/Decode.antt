@@ -257,11 +257,11 @@ sizedOf op w = select (funct3Of w) widths (atomicAs w op) Illegal
 unfoldable pub lrOf : ℕ → Instr
 lrOf w = cond (eqb (rs2Of w) 0) (sizedOf Lr w) Illegal
 
-abbrev pub even : ℕ → Bool
-even n = eqb (n % 2) 0
+abbrev pub isEven : ℕ → Bool
+isEven n = eqb (n % 2) 0
 
 unfoldable pub casPairOf : ℕ → Instr
-casPairOf w = cond (even (rdOf w) && even (rs2Of w)) (atomicAs w CasPair Double) Illegal
+casPairOf w = cond (isEven (rdOf w) && isEven (rs2Of w)) (atomicAs w CasPair Double) Illegal
 
 -- 01: "4 (Q, AMOCAS only)"
 unfoldable pub casOf : ℕ → Instr

@@ -3,13 +3,14 @@ use events::Event;
 use machine::State;
 use model::Outcome;
 use model::advance::advance;
+use reserve::lent;
 use text::put_byte;
 use text::put_bytes;
 use text::put_decimal;
 use text::put_hex16;
 ghost use mathlib.Core.Path.{_≡_};
-ghost use Prim.Native.Nat.{_+_, _*_, _/_, _%_, _≤_};
-ghost use lib.ListN.{length};
+ghost use Prim.Native.Nat.{_+_, _*_, _-_, _/_, _%_, _≤_};
+ghost use lib.ListN.{length, drop};
 ghost use Rattle.machine.specs.State.{refusalOf};
 ghost use Rattle.events.specs.Events.{eventsOf};
 ghost use Rattle.model.specs.Perform.{runOf};
@@ -79,35 +80,27 @@ fn put_line(out: &mut [u8], at: usize, k: u64, e: Event, o: Outcome) -> usize
 }
 
 // A line for each event of a body that refusal 11 does not name, performed one after another from a state and a memory that refusals 1 and 2 do
-// not refuse.
-pub fn put_lines(
-    out: &mut [u8],
-    at: usize,
-    s: State,
-    base: u64,
-    mem: &mut [u8],
-    body: &[u8],
-) -> usize
-    requires { ⌜ at + 90 * (length (now body) / 24) ≤ length (now out) ⌝ }
-    requires { ⌜ refusalOf base (length (now mem)) s ≡ 0 ⌝ }
-    ensures { λ r. ⌜ Put (now (out .entry)) at (linesOf base (record { state = s; mem = now (mem .entry) }) 0 (eventsOf (now (body .entry)))) (now (out .exit)) r ⌝ }
+// not refuse. The memory is what stands in the buffer from `from` on, which the lines don't reach.
+pub fn put_lines(out: &mut [u8], at: usize, from: usize, s: State, base: u64, body: &[u8]) -> usize
+    requires { ⌜ (at + 90 * (length (now body) / 24) ≤ from) × (from ≤ length (now out)) ⌝ }
+    requires { ⌜ refusalOf base (length (now out) - from) s ≡ 0 ⌝ }
+    ensures { λ r. ⌜ Put (now (out .entry)) at (linesOf base (record { state = s; mem = drop from (now (out .entry)) }) 0 (eventsOf (now (body .entry)))) (now (out .exit)) r ⌝ }
     ensures { λ r. ⌜ r ≤ at + 90 * (length (now (body .entry)) / 24) ⌝ }
-    ensures { λ _. ⌜ now (mem .exit) ≡ runOf base (record { state = s; mem = now (mem .entry) }) (eventsOf (now (body .entry))) .mem ⌝ }
+    ensures { λ _. ⌜ drop from (now (out .exit)) ≡ runOf base (record { state = s; mem = drop from (now (out .entry)) }) (eventsOf (now (body .entry))) .mem ⌝ }
 {
     let count = s.count;
     let mut x = s.x;
     let mut pc = s.pc;
-    let mut slots = s.res;
+    let res = s.res;
+    let mut t = lent::lend(res);
     let n = body.len() / 24;
     let mut p = at;
     let mut i: usize = 0;
     while i < n {
         let start = i * 24;
         let e = events::read_event(&body[start..start + 24]);
-        let a = advance(&mut x, &mut pc, slots, count, base, mem, e);
-        let outcome = a.outcome;
-        slots = a.slots;
-        p = put_line(out, p, i as u64, e, outcome);
+        let outcome = advance(&mut x, &mut pc, &mut t, count, base, &mut out[from..], e);
+        p = put_line(&mut out[..from], p, i as u64, e, outcome);
         i += 1;
     }
     p

@@ -11,10 +11,11 @@ use Rattle.reserve.specs.declared.Slot.{Slot}
 use Rattle.effect.specs.Effect as E
 use Rattle.model.specs.Act.{Act, refuse, put, told, setReg, registersAfter, countersAfter, slotsAfter, leaves, retiredAs}
 use Rattle.model.specs.Perform.{ofExec, deviceOf}
-use Rattle.model.specs.Advance.{registersBy, countersBy, settledBy}
-use Rattle.model.specs.declared.Advanced.{Advanced}
+use Rattle.model.specs.Advance.{registersBy, countersBy, slotsBy, toldBy}
+use Rattle.model.specs.declared.Outcome.{Outcome}
 use Rattle.events.specs.declared.Event.{Event}
 use Rattle.machine.specs.State.{refusalOf}
+use Rattle.machine.specs.declared.State.{State}
 use Rattle.machine.proofs.StateLaws.{refusal-0}
 use Rattle.model.specs.Perform.{Machine, actOn, actOf, answerOf, memoryOf, nextOf}
 use Rattle.model.specs.Valid.{Valid}
@@ -28,32 +29,38 @@ use Prim.Native.Nat.{zero, suc, _+_, _*_, _-_, _≤_, _<_}
 use native.Mathlib.Omega.{arith}
 
 module _ (h : ℕ) where
-  pub registers-told : (e : E.Exec) (x : List ℕ) → registersBy h (E.told h e) x ≡ registersAfter (ofExec h e) x
+  pub registers-done : (e : E.Exec) (x : List ℕ) → registersBy h (E.doneOf h e) x ≡ registersAfter (ofExec h e) x
   unfolding registersBy setReg
-  registers-told (E.trap cause value) x = refl
-  registers-told (E.effect E.none to t) x = refl
-  registers-told (E.effect (E.one r v) to t) x = refl
-  registers-told (E.effect (E.pair r v r2 v2) to t) x = refl
+  registers-done (E.trap cause value) x = refl
+  registers-done (E.effect E.none to t) x = refl
+  registers-done (E.effect (E.one r v) to t) x = refl
+  registers-done (E.effect (E.pair r v r2 v2) to t) x = refl
 
-  pub counters-told : (e : E.Exec) (pc : List ℕ) → countersBy h (E.told h e) pc ≡ countersAfter (ofExec h e) pc
+  pub counters-done : (e : E.Exec) (pc : List ℕ) → countersBy h (E.doneOf h e) pc ≡ countersAfter (ofExec h e) pc
   unfolding countersBy
-  counters-told (E.trap cause value) pc = refl
-  counters-told (E.effect E.none to t) pc = refl
-  counters-told (E.effect (E.one r v) to t) pc = refl
-  counters-told (E.effect (E.pair r v r2 v2) to t) pc = refl
+  counters-done (E.trap cause value) pc = refl
+  counters-done (E.effect E.none to t) pc = refl
+  counters-done (E.effect (E.one r v) to t) pc = refl
+  counters-done (E.effect (E.pair r v r2 v2) to t) pc = refl
 
-  pub settled-told : (e : E.Exec) (count : ℕ) (l : List Slot)
-      → settledBy count (E.told h e) l ≡ record { outcome = told (ofExec h e); slots = slotsAfter 64 count (ofExec h e) l }
-  unfolding settledBy
-  settled-told (E.trap cause value) count l = refl
-  settled-told (E.effect E.none to t) count l = refl
-  settled-told (E.effect (E.one r v) to t) count l = refl
-  settled-told (E.effect (E.pair r v r2 v2) to t) count l = refl
+  pub slots-done : (e : E.Exec) (count : ℕ) (l : List Slot) → slotsBy count (E.doneOf h e) l ≡ slotsAfter 64 count (ofExec h e) l
+  unfolding slotsBy
+  slots-done (E.trap cause value) count l = refl
+  slots-done (E.effect E.none to t) count l = refl
+  slots-done (E.effect (E.one r v) to t) count l = refl
+  slots-done (E.effect (E.pair r v r2 v2) to t) count l = refl
 
-  pub leaves-told : (e : E.Exec) (base : ℕ) (mem : List ℕ) → E.leaves base mem e ≡ leaves base mem (ofExec h e)
+  pub outcome-done : (e : E.Exec) → toldBy (E.doneOf h e) ≡ told (ofExec h e)
+  unfolding toldBy
+  outcome-done (E.trap cause value) = refl
+  outcome-done (E.effect E.none to t) = refl
+  outcome-done (E.effect (E.one r v) to t) = refl
+  outcome-done (E.effect (E.pair r v r2 v2) to t) = refl
+
+  pub leaves-done : (e : E.Exec) (base : ℕ) (mem : List ℕ) → E.memoryBy base mem e ≡ leaves base mem (ofExec h e)
   unfolding leaves
-  leaves-told (E.trap cause value) base mem = refl
-  leaves-told (E.effect ws to t) base mem = refl
+  leaves-done (E.trap cause value) base mem = refl
+  leaves-done (E.effect ws to t) base mem = refl
 
 -- a device write leaves registers and counters
 module _ (base : ℕ) (mem : List ℕ) (a n v : ℕ) where
@@ -72,6 +79,11 @@ module _ (base : ℕ) (mem : List ℕ) (a n v : ℕ) where
   pub device-counters : (pc : List ℕ) → countersAfter (deviceOf base mem a n v) pc ≡ pc
   device-counters pc = either (λ (act : Act). countersAfter act pc ≡ pc) refl refl refl
 
+-- reservations that are lent are refused as those of the state are
+pub refused-same : (base : ℕ) (mem : List ℕ) (s : State) {l : List Slot} → l ≡ s .res
+    → refusalOf base (length mem) (stateFrom (s .count) (s .x) (s .pc) l) ≡ refusalOf base (length mem) s
+refused-same base mem s e = ap (λ (l : List Slot). refusalOf base (length mem) (stateFrom (s .count) (s .x) (s .pc) l)) e
+
 -- what was performed in place is the machine after the event
 module _ (base count : ℕ) (x pc mem : List ℕ) (res : List Slot) (none : refusalOf base (length mem) (stateFrom count x pc res) ≡ 0) (e : Event) where
   here : Machine
@@ -81,18 +93,18 @@ module _ (base count : ℕ) (x pc mem : List ℕ) (res : List Slot) (none : refu
   unfolding here
   valid = refusal-0 base (length mem) (stateFrom count x pc res) .0 none
 
-  module _ (r : Advanced) (x′ pc′ mem′ : List ℕ) (a : Advances (actOn base mem (stateFrom count x pc res) e) base count res x pc mem r x′ pc′ mem′) where
-    pub advanced-next : record { state = stateFrom count x′ pc′ (r .slots); mem = mem′ } ≡ nextOf base (record { state = stateFrom count x pc res; mem = mem }) e
+  module _ (r : Outcome) (res′ : List Slot) (x′ pc′ mem′ : List ℕ) (a : Advances (actOn base mem (stateFrom count x pc res) e) base count res x pc mem r res′ x′ pc′ mem′) where
+    pub advanced-next : record { state = stateFrom count x′ pc′ res′; mem = mem′ } ≡ nextOf base (record { state = stateFrom count x pc res; mem = mem }) e
     unfolding nextOf answerOf memoryOf apply here
     advanced-next = rw (act-valid base here valid e, a .registers, a .counters, a .slots, a .memory)
 
-    pub advanced-valid : refusalOf base (length mem′) (stateFrom count x′ pc′ (r .slots)) ≡ 0
+    pub advanced-valid : refusalOf base (length mem′) (stateFrom count x′ pc′ res′) ≡ 0
     unfolding here
     advanced-valid =
-        refusal-0 base (length mem′) (stateFrom count x′ pc′ (r .slots)) .1
+        refusal-0 base (length mem′) (stateFrom count x′ pc′ res′) .1
         (subst (λ (m : Machine). Valid base m) (sym advanced-next) (valid-next base here valid e))
 
-    pub advanced-answer : r .outcome ≡ told (actOf base mem (stateFrom count x pc res) e)
+    pub advanced-answer : r ≡ told (actOf base mem (stateFrom count x pc res) e)
     unfolding here
     advanced-answer = rw (act-valid base here valid e) (a .outcome)
 

@@ -29,10 +29,10 @@ use Rattle.isa.specs.declared.Instr.{Instr}
 use Rattle.machine.specs.Rules.{Shaped}
 use Rattle.machine.specs.State.{refusalOf}
 use Rattle.machine.specs.declared.State.{State}
-use Rattle.effect.specs.Effect.{Writes, none, one, pair, Touch as Touched, nothing, reserve, store, scStore, scLose, Exec, trap, effect, stored, noticeOf}
+use Rattle.effect.specs.Effect.{Writes, none, one, pair, Access, nothing, reserve, store, scStore, scLose, Exec, trap, effect, stored, noticeOf}
 use Rattle.effect.specs.Execute.{regAt, execute, executeWord}
 use Rattle.effect.specs.Memory.{valueAt}
-use Rattle.effect.specs.Sound.{TouchOk}
+use Rattle.effect.specs.Sound.{AccessOk}
 use Rattle.events.specs.declared.Event.{Event}
 use Rattle.events.specs.declared.Event.the-variants.{Step, Device, Yield as YieldOf}
 use Rattle.model.specs.Act.{Act, refuse, fault, change, put, release, actNotice, setReg, written, registersAfter, countersAfter, apply, leaves}
@@ -48,12 +48,12 @@ module _ (base : ℕ) (mem : List ℕ) (s : State) (P : Act → Type 0) (refused
   choose true x y f p = f refl
   choose false x y f p = p
 
-  by-exec : (h : ℕ) (x : Exec) → ((cause value : ℕ) → P (fault cause value)) → ((ws : Writes) (to : ℕ) (t : Touched) → P (change h ws to t)) → P (ofExec h x)
+  by-exec : (h : ℕ) (x : Exec) → ((cause value : ℕ) → P (fault cause value)) → ((ws : Writes) (to : ℕ) (t : Access) → P (change h ws to t)) → P (ofExec h x)
   by-exec h (trap cause value) f g = f cause value
   by-exec h (effect ws to t) f g = g ws to t
 
   pub acts : (e : Event) → ((cause value : ℕ) → P (fault cause value))
-      → ((h : ℕ) → e ≡ Step h → h < s .count → (ws : Writes) (to : ℕ) (t : Touched) → P (change h ws to t))
+      → ((h : ℕ) → e ≡ Step h → h < s .count → (ws : Writes) (to : ℕ) (t : Access) → P (change h ws to t))
       → ((a : ℕ) (bs : List ℕ) → P (put a bs)) → ((h : ℕ) → e ≡ YieldOf h → h < s .count → P (release h))
       → P (actOf base mem s e)
   unfolding actOf actOn deviceOf
@@ -194,18 +194,18 @@ module _ (base : ℕ) (mem : List ℕ) (b : ℕ) (bs : List ℕ) (i : Inside bas
 -- what is kept by every write that a notice tells of is kept by the act: kept says it of one write
 module _ (base : ℕ) (mem : List ℕ) (P : List ℕ → Type 0) (same : P mem) (a n : ℕ)
     (kept : (b : ℕ) (bs : List ℕ) → Inside base (length mem) b (length bs) → (Touch b (length bs) a n → ⊥) → P (splice mem (b - base) bs)) where
-  by-touch : (h : ℕ) (t : Touched) → TouchOk base (length mem) t → (WritesInto (noticeOf h t) a n → ⊥) → P (stored base mem t)
-  by-touch h nothing o d = same
-  by-touch h (reserve b w) o d = same
-  by-touch h (store b bs) o d = kept b bs o d
-  by-touch h (scStore b bs) o d = kept b bs o d
-  by-touch h scLose o d = same
+  by-access : (h : ℕ) (t : Access) → AccessOk base (length mem) t → (WritesInto (noticeOf h t) a n → ⊥) → P (stored base mem t)
+  by-access h nothing o d = same
+  by-access h (reserve b w) o d = same
+  by-access h (store b bs) o d = kept b bs o d
+  by-access h (scStore b bs) o d = kept b bs o d
+  by-access h scLose o d = same
 
   by-act : (act : Act) → ActOk base (length mem) act → (WritesInto (actNotice act) a n → ⊥) → P (leaves base mem act)
   unfolding leaves
   by-act (refuse number) o d = same
   by-act (fault cause value) o d = same
-  by-act (change h ws to t) o d = by-touch h t (o .1) d
+  by-act (change h ws to t) o d = by-access h t (o .1) d
   by-act (put b bs) o d = kept b bs o d
   by-act (release h) o d = same
 
@@ -254,16 +254,16 @@ module _ (base : ℕ) (m : Machine) (e : Event) where
         acts base (m .mem) (m .state) (λ (a : Act). getD (countersAfter a (m .state .pc)) h 0 ≡ getD (m .state .pc) h 0) (λ n. refl) e (λ c v. refl)
         (λ g q l ws to t. getD-set-other (m .state .pc) g h to 0 (λ z. not-of g q (sym z))) (λ a bs. refl) (λ g q l. refl)
 
-    not-touch : (g : ℕ) → g ≢ h → (t : Touched) → NotBy h (noticeOf g t)
-    not-touch g d nothing = tt
-    not-touch g d (reserve a w) = d
-    not-touch g d (store a bs) = d
-    not-touch g d (scStore a bs) = d
-    not-touch g d scLose = d
+    not-access : (g : ℕ) → g ≢ h → (t : Access) → NotBy h (noticeOf g t)
+    not-access g d nothing = tt
+    not-access g d (reserve a w) = d
+    not-access g d (store a bs) = d
+    not-access g d (scStore a bs) = d
+    not-access g d scLose = d
 
     pub not-by : NotBy h (noticeAt base m e)
     not-by =
-        acts base (m .mem) (m .state) (λ (a : Act). NotBy h (actNotice a)) (λ n. tt) e (λ c v. tt) (λ g q l ws to t. not-touch g (not-of g q) t)
+        acts base (m .mem) (m .state) (λ (a : Act). NotBy h (actNotice a)) (λ n. tt) e (λ c v. tt) (λ g q l ws to t. not-access g (not-of g q) t)
         (λ a bs. tt) (λ g q l. tt)
 
   module _ (v : Valid base m) where

@@ -30,11 +30,11 @@ use Rattle.machine.specs.Rules.{MemoryRules, ReservationRules, HartRules, State
 use Rattle.machine.specs.State.{refusalOf}
 use Rattle.machine.specs.declared.State.{State}
 use Rattle.machine.proofs.StateLaws.{refusal-0}
-use Rattle.effect.specs.Effect.{Writes, none, one, pair, Touch, nothing, reserve, store, scStore, scLose, Exec, trap, effect, stored, noticeOf}
-use Rattle.effect.specs.Atomic as A
+use Rattle.effect.specs.Effect.{Writes, none, one, pair, Access, nothing, reserve, store, scStore, scLose, Exec, trap, effect, stored, noticeOf}
+use Rattle.effect.specs.Atomic.{CoveredInside}
 use Rattle.effect.specs.Execute.{regAt}
 use Rattle.effect.specs.Memory.{valueAt}
-use Rattle.effect.specs.Sound.{TouchOk, Sound}
+use Rattle.effect.specs.Sound.{AccessOk, Sound}
 use Rattle.effect.proofs.Sound.{sound}
 use Rattle.events.specs.declared.Event.{Event}
 use Rattle.events.specs.declared.Event.the-variants.{Step, Device, Yield as YieldOf}
@@ -97,13 +97,13 @@ module _ (base len : ℕ) where
       rw (List·getD-eq-default (each (observeSlot size n) (s .count) (s .res)) (slot None) {n = k} (rw (length-each (observeSlot size n) (s .count) (s .res)) g)) tt)
       (split-lt k (length (s .res)))
 
-  touch-notice : (h : ℕ) (t : Touch) → TouchOk base len t → NoticeOk (noticeOf h t)
+  access-notice : (h : ℕ) (t : Access) → AccessOk base len t → NoticeOk (noticeOf h t)
   unfolding NoticeOk
-  touch-notice h nothing o = tt
-  touch-notice h (reserve a w) o = (o .0, o .1 .0, o .1 .1)
-  touch-notice h (store a bs) o = tt
-  touch-notice h (scStore a bs) o = tt
-  touch-notice h scLose o = tt
+  access-notice h nothing o = tt
+  access-notice h (reserve a w) o = (o .0, o .1 .0, o .1 .1)
+  access-notice h (store a bs) o = tt
+  access-notice h (scStore a bs) o = tt
+  access-notice h scLose o = tt
 
   -- an act keeps the rules of the state
   pub apply-rules : (size : ℕ) (s : State) (act : Act) → ActOk base len act → StateRules base len s → StateRules base len (apply size s act)
@@ -116,7 +116,7 @@ module _ (base len : ℕ) where
     λ k l. (
       x0-written h ws k (s .x) ∙ r .2 k l .0,
       set-all (λ (p : ℕ). p % 4 ≡ 0) (s .pc) h k to 0 (o .0) (r .2 k l .1),
-      noticed-ok size s (noticeOf h t) k (touch-notice h t (o .1)) l (r .2 k l .2),
+      noticed-ok size s (noticeOf h t) k (access-notice h t (o .1)) l (r .2 k l .2),
     ),
   )
   apply-rules size s (put a bs) o r =
@@ -124,7 +124,7 @@ module _ (base len : ℕ) where
   apply-rules size s (release h) o r = (r .0, r .1, λ k l. (r .2 k l .0, r .2 k l .1, noticed-ok size s (Yield h) k tt l (r .2 k l .2)))
 
 -- and the memory's length
-stored-length : (base : ℕ) (mem : List ℕ) (t : Touch) → TouchOk base (length mem) t → length (stored base mem t) ≡ length mem
+stored-length : (base : ℕ) (mem : List ℕ) (t : Access) → AccessOk base (length mem) t → length (stored base mem t) ≡ length mem
 stored-length base mem nothing o = refl
 stored-length base mem (reserve a w) o = refl
 stored-length base mem (store a bs) o = length-splice mem (a - base) bs (omega arith)
@@ -140,9 +140,9 @@ length-leaves base mem (put a bs) o = length-splice mem (a - base) bs (omega ari
 length-leaves base mem (release h) o = refl
 
 -- what a reservation covers lies in memory
-pub held-rules : (base len : ℕ) (r : Reservation) → MemoryRules base len → ReservationRules base len r → A.Held base len (coversOf 64 r)
-held-rules base len None m o a n e = absurd (let z : _≡_ {A = ℕ} 0 1 = cc (none-covers 64 a n) in omega arith)
-held-rules base len (Held b w) m o a n e =
+pub covered-inside : (base len : ℕ) (r : Reservation) → MemoryRules base len → ReservationRules base len r → CoveredInside base len (coversOf 64 r)
+covered-inside base len None m o a n e = absurd (let z : _≡_ {A = ℕ} 0 1 = cc (none-covers 64 a n) in omega arith)
+covered-inside base len (Held b w) m o a n e =
     cover-inside 64 base len b w (omega arith) (m .3) (m .2)
     (⊎-elim (λ (q : w ≡ 4). omega arith) (λ (q : w ≡ 8). omega arith) (o .0)) (o .2) a n e
 
@@ -156,7 +156,7 @@ module _ (base : ℕ) (mem : List ℕ) (s : State) (mr : MemoryRules base (lengt
   fetch-sound h l =
       cond-all (Sound base (length mem)) (insideOf base (length mem) (getD (s .pc) h 0) 4) _ (trap 1 (getD (s .pc) h 0))
       (sound (valueAt base mem (getD (s .pc) h 0) 4) (regAt (s .x) h) (getD (s .pc) h 0) base mem (coversOf 64 (reservationOf s h)) (sr .2 h l .1)
-      (held-rules base (length mem) (reservationOf s h) mr (sr .2 h l .2))) tt
+      (covered-inside base (length mem) (reservationOf s h) mr (sr .2 h l .2))) tt
 
   choose : (t : Bool) (a b : Act) → (t ≡ true → ActOk base (length mem) a) → (t ≡ false → ActOk base (length mem) b) → ActOk base (length mem) (cond t a b)
   choose true a b f g = f refl

@@ -10,14 +10,14 @@ use Rattle.reserve.specs.declared.Slot.{Slot}
 use Rattle.reserve.specs.declared.Notice.{Notice}
 use Rattle.reserve.specs.declared.Notice.the-variants.{Quiet, LoadReserved, ScDone, ScFailed, Write, DeviceWrite, Yield}
 use Rattle.machine.specs.declared.State.{State}
-use Rattle.effect.specs.Effect.{Writes, none, one, pair, Touch, stored, noticeOf}
+use Rattle.effect.specs.Effect.{Writes, none, one, pair, Access, stored, noticeOf}
 use Rattle.model.specs.declared.Outcome.{Outcome}
 use Rattle.model.specs.declared.Outcome.the-variants as O
 
 pub data Act : Type 0 where
   refuse : ℕ → Act  -- a refusal's number
   fault : ℕ → ℕ → Act  -- a trap's cause and value
-  change : ℕ → Writes → ℕ → Touch → Act  -- a retired step: its hart, the registers written, the next pc, the touch
+  change : ℕ → Writes → ℕ → Access → Act  -- a retired step: its hart, the registers written, the next pc, the access
   put : ℕ → List ℕ → Act  -- a device write: its address and bytes
   release : ℕ → Act  -- a yield of a hart
 

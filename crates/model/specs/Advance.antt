@@ -9,17 +9,17 @@ use Rattle.machine.specs.declared.State.{State}
 use Rattle.effect.specs.declared.Done.{Done}
 use Rattle.effect.specs.declared.Done.the-variants.{Retired, Trap}
 use Rattle.model.specs.Act.{Act, told, setReg, registersAfter, countersAfter, slotsAfter, leaves, retiredAs}
-use Rattle.model.specs.declared.Advanced.{Advanced}
+use Rattle.model.specs.declared.Outcome.{Outcome}
 use Rattle.model.specs.declared.Outcome.the-variants as O
 
 -- a state from its parts
 abbrev pub stateFrom : ℕ → List ℕ → List ℕ → List Slot → State
 stateFrom count x pc res = record { count = count; x = x; pc = pc; res = res }
 
--- Registers x, counters pc, the reservations of the answer and the memory are those after the act; and so is the answer.
-pub record Advances (act : Act) (base count : ℕ) (res : List Slot) (x pc mem : List ℕ) (r : Advanced) (x′ pc′ mem′ : List ℕ) : Type 0 where
-  pub outcome : r .outcome ≡ told act
-  pub slots : r .slots ≡ slotsAfter 64 count act res
+-- The answer r, and reservations, registers, counters and memory afterwards are those of the act.
+pub record Advances (act : Act) (base count : ℕ) (res : List Slot) (x pc mem : List ℕ) (r : Outcome) (res′ : List Slot) (x′ pc′ mem′ : List ℕ) : Type 0 where
+  pub outcome : r ≡ told act
+  pub slots : res′ ≡ slotsAfter 64 count act res
   pub registers : x′ ≡ registersAfter act x
   pub counters : pc′ ≡ countersAfter act pc
   pub memory : mem′ ≡ leaves base mem act
@@ -33,6 +33,10 @@ unfoldable pub countersBy : ℕ → Done → List ℕ → List ℕ
 countersBy h (Retired e) pc = set pc h (e .next)
 countersBy h (Trap cause value) pc = pc
 
-unfoldable pub settledBy : ℕ → Done → List Slot → Advanced
-settledBy count (Retired e) l = record { outcome = retiredAs (e .notice); slots = observeAllOf 64 count (e .notice) l .slots }
-settledBy count (Trap cause value) l = record { outcome = O.Trap cause value; slots = l }
+unfoldable pub slotsBy : ℕ → Done → List Slot → List Slot
+slotsBy count (Retired e) l = observeAllOf 64 count (e .notice) l .slots
+slotsBy count (Trap cause value) l = l
+
+unfoldable pub toldBy : Done → Outcome
+toldBy (Retired e) = retiredAs (e .notice)
+toldBy (Trap cause value) = O.Trap cause value

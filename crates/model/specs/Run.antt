@@ -27,12 +27,12 @@ refusedRun number place s mem = record { ran = record { verdict = Refused number
 abbrev pub performedRun : ℕ → Machine → Result
 performedRun n m = record { ran = record { verdict = Performed; performed = n; state = m .state }; mem = m .mem }
 
-abbrev pub countOf : List ℕ → ℕ → ℕ
-countOf body budget = min budget (length body / 24)
+abbrev pub performedCount : List ℕ → ℕ → ℕ
+performedCount body budget = min budget (length body / 24)
 
 abbrev pub runChecked : Checked → ℕ → List ℕ → State → List ℕ → ℕ → Result
 runChecked Good base mem s body budget =
-    performedRun (countOf body budget) (runOf base (record { state = s; mem = mem }) (take (countOf body budget) (eventsOf body)))
+    performedRun (performedCount body budget) (runOf base (record { state = s; mem = mem }) (take (performedCount body budget) (eventsOf body)))
 runChecked (Bad place) base mem s body budget = refusedRun 11 place s mem
 
 -- 01: "It tries 1 and 2, then the body by 11 with the place counted from the body's first byte, before it performs any"

@@ -4,7 +4,7 @@ use Prim.Native.Nat.{ℕ, _%_}
 use lib.ListN.{length}
 use Rattle.reserve.specs.Range.{Inside}
 use Rattle.machine.specs.Rules.{MemoryRules, StateRules}
-use Rattle.effect.specs.Sound.{TouchOk}
+use Rattle.effect.specs.Sound.{AccessOk}
 use Rattle.model.specs.Act.{Act, refuse, fault, change, put, release}
 use Rattle.model.specs.Perform.{Machine}
 
@@ -16,6 +16,6 @@ Valid base m = MemoryRules base (length (m .mem)) × StateRules base (length (m 
 abbrev pub ActOk : ℕ → ℕ → Act → Type 0
 ActOk base len (refuse number) = Unit {0}
 ActOk base len (fault cause value) = Unit {0}
-ActOk base len (change h ws to t) = (to % 4 ≡ 0) × TouchOk base len t
+ActOk base len (change h ws to t) = (to % 4 ≡ 0) × AccessOk base len t
 ActOk base len (put a bs) = Inside base len a (length bs)
 ActOk base len (release h) = Unit {0}

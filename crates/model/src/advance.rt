@@ -1,27 +1,27 @@
-// Events performed in place, on registers, counters and reservations that refusals 1 and 2 do not refuse.
-use crate::Advanced;
+// Events performed in place, on registers, counters and reservations that refusals 1 and 2 do not refuse. Reservations are lent as 24 numbers.
 use crate::Outcome;
 use effect::Done;
 use events::Event;
 use reserve::Notice;
 use reserve::Reservation;
-use reserve::Slot;
+use reserve::lent;
 ghost use mathlib.Core.Path.{_≡_};
 ghost use Prim.Native.Nat.{_<_, _≤_};
 ghost use lib.ListN.{length};
 ghost use Rattle.reserve.specs.Reserve.{coversOf};
+ghost use Rattle.reserve.specs.Lent.{slotsIn};
 ghost use Rattle.machine.specs.State.{refusalOf};
 ghost use Rattle.effect.specs.Effect.{Meets};
-ghost use Rattle.effect.specs.Atomic.{Held};
+ghost use Rattle.effect.specs.Atomic.{CoveredInside};
 ghost use Rattle.effect.specs.Execute.{regAt};
 ghost use Rattle.model.specs.Act.{retiredAs, setReg, told, release, slotsAfter, leaves};
 ghost use Rattle.model.specs.Perform.{fetchOf, stepOf, ofExec, actOn, deviceOf};
-ghost use Rattle.model.specs.Advance.{Advances, stateFrom, registersBy, countersBy, settledBy};
+ghost use Rattle.model.specs.Advance.{Advances, stateFrom, registersBy, countersBy, slotsBy, toldBy};
 
 // Fetches the word at pc and does what it says, for hart h, whose registers are among x and whose reservation is res.
 fn fetch(x: &[u64; 256], h: usize, pc: u64, base: u64, res: Reservation, mem: &mut [u8]) -> Done
     requires { ⌜ h < 8 ⌝ }
-    requires { ⌜ Held base (length (now mem)) (coversOf 64 res) ⌝ }
+    requires { ⌜ CoveredInside base (length (now mem)) (coversOf 64 res) ⌝ }
     ensures { λ r. ⌜ Meets h (fetchOf (regAt (now (x .entry)) h) pc base (now (mem .entry)) (coversOf 64 res)) base (now (mem .entry)) r (now (mem .exit)) ⌝ }
 {
     if !reserve::inside(base, mem.len() as u64, pc, 4) {
@@ -72,35 +72,18 @@ fn retired_as(n: Notice) -> Outcome
     }
 }
 
-// The reservations and the answer after a step.
-fn settle(res: [Slot; 8], count: usize, d: Done) -> Advanced
+// The reservations after a step, and its answer.
+fn settle(t: &mut [u64; 24], count: usize, d: Done) -> Outcome
     requires { ⌜ count ≤ 8 ⌝ }
-    ensures { λ r. ⌜ r ≡ settledBy count d res ⌝ }
+    ensures { λ r. ⌜ (r ≡ toldBy d) × (slotsIn (now (t .exit)) ≡ slotsBy count d (slotsIn (now (t .entry)))) ⌝ }
 {
     match d {
         Done::Retired(e) => {
             let n = e.notice;
-            let o = reserve::observe(res, count, 64, n);
-            let slots = o.slots;
-            Advanced {
-                outcome: retired_as(n),
-                slots,
-            }
+            lent::observe(t, count, 64, n);
+            retired_as(n)
         }
-        Done::Trap { cause, value } => Advanced {
-            outcome: Outcome::Trap { cause, value },
-            slots: res,
-        },
-    }
-}
-
-// The answer of a refusal, which changes nothing.
-fn refused(number: u64, res: [Slot; 8]) -> Advanced
-    ensures { λ r. ⌜ r ≡ record { outcome = Outcome.Refused number; slots = res } ⌝ }
-{
-    Advanced {
-        outcome: Outcome::Refused { number },
-        slots: res,
+        Done::Trap { cause, value } => Outcome::Trap { cause, value },
     }
 }
 
@@ -108,107 +91,91 @@ fn refused(number: u64, res: [Slot; 8]) -> Advanced
 fn step_hart(
     x: &mut [u64; 256],
     pc: &mut [u64; 8],
-    res: [Slot; 8],
+    t: &mut [u64; 24],
     count: usize,
     h: usize,
     base: u64,
     mem: &mut [u8],
-) -> Advanced
-    requires { ⌜ refusalOf base (length (now mem)) (stateFrom count (now x) (now pc) res) ≡ 0 ⌝ }
+) -> Outcome
+    requires { ⌜ refusalOf base (length (now mem)) (stateFrom count (now x) (now pc) (slotsIn (now t))) ≡ 0 ⌝ }
     requires { ⌜ h < count ⌝ }
-    ensures { λ r. ⌜ Advances (ofExec h (stepOf base (now (mem .entry)) (stateFrom count (now (x .entry)) (now (pc .entry)) res) h)) base count res (now (x .entry)) (now (pc .entry)) (now (mem .entry)) r (now (x .exit)) (now (pc .exit)) (now (mem .exit)) ⌝ }
+    ensures { λ r. ⌜ Advances (ofExec h (stepOf base (now (mem .entry)) (stateFrom count (now (x .entry)) (now (pc .entry)) (slotsIn (now (t .entry)))) h)) base count (slotsIn (now (t .entry))) (now (x .entry)) (now (pc .entry)) (now (mem .entry)) r (slotsIn (now (t .exit))) (now (x .exit)) (now (pc .exit)) (now (mem .exit)) ⌝ }
 {
-    let s = res[h];
-    let r = s.reservation;
+    let r = lent::reservation(t, h);
     let at = pc[h];
     let d = fetch(x, h, at, base, r, mem);
     move_hart(x, pc, h, d);
-    settle(res, count, d)
+    settle(t, count, d)
 }
 
 // A device write of the size lowest bytes of value.
 fn write_device(
-    res: [Slot; 8],
+    t: &mut [u64; 24],
     count: usize,
     addr: u64,
     size: usize,
     value: u64,
     base: u64,
     mem: &mut [u8],
-) -> Advanced
+) -> Outcome
     requires { ⌜ count ≤ 8 ⌝ }
-    ensures { λ r. ⌜ r ≡ record { outcome = told (deviceOf base (now (mem .entry)) addr size value); slots = slotsAfter 64 count (deviceOf base (now (mem .entry)) addr size value) res } ⌝ }
+    ensures { λ r. ⌜ r ≡ told (deviceOf base (now (mem .entry)) addr size value) ⌝ }
+    ensures { λ _. ⌜ slotsIn (now (t .exit)) ≡ slotsAfter 64 count (deviceOf base (now (mem .entry)) addr size value) (slotsIn (now (t .entry))) ⌝ }
     ensures { λ _. ⌜ now (mem .exit) ≡ leaves base (now (mem .entry)) (deviceOf base (now (mem .entry)) addr size value) ⌝ }
 {
     if size == 0 {
-        return refused(4, res);
+        return Outcome::Refused { number: 4 };
     }
     if 8 < size {
-        return refused(4, res);
+        return Outcome::Refused { number: 4 };
     }
     if !reserve::inside(base, mem.len() as u64, addr, size as u64) {
-        return refused(5, res);
+        return Outcome::Refused { number: 5 };
     }
     word::bytes::store_at(mem, (addr - base) as usize, size, value);
-    let o = reserve::observe(
-        res,
-        count,
-        64,
-        Notice::DeviceWrite {
-            addr,
-            len: size as u64,
-        },
-    );
-    let slots = o.slots;
-    Advanced {
-        outcome: Outcome::Retired,
-        slots,
-    }
+    lent::device_write(t, count, 64, addr, size as u64);
+    Outcome::Retired
 }
 
 // A yield of hart h.
-fn release_hart(res: [Slot; 8], count: usize, h: usize) -> Advanced
+fn release_hart(t: &mut [u64; 24], count: usize, h: usize) -> Outcome
     requires { ⌜ count ≤ 8 ⌝ }
-    ensures { λ r. ⌜ r ≡ record { outcome = told (release h); slots = slotsAfter 64 count (release h) res } ⌝ }
+    ensures { λ r. ⌜ (r ≡ told (release h)) × (slotsIn (now (t .exit)) ≡ slotsAfter 64 count (release h) (slotsIn (now (t .entry)))) ⌝ }
 {
-    let o = reserve::observe(res, count, 64, Notice::Yield { hart: h });
-    let slots = o.slots;
-    Advanced {
-        outcome: Outcome::Retired,
-        slots,
-    }
+    lent::release(t, count, h);
+    Outcome::Retired
 }
 
 // An event.
 pub fn advance(
     x: &mut [u64; 256],
     pc: &mut [u64; 8],
-    res: [Slot; 8],
+    t: &mut [u64; 24],
     count: usize,
     base: u64,
     mem: &mut [u8],
     e: Event,
-) -> Advanced
-    requires { ⌜ refusalOf base (length (now mem)) (stateFrom count (now x) (now pc) res) ≡ 0 ⌝ }
-    ensures { λ r. ⌜ Advances (actOn base (now (mem .entry)) (stateFrom count (now (x .entry)) (now (pc .entry)) res) e) base count res (now (x .entry)) (now (pc .entry)) (now (mem .entry)) r (now (x .exit)) (now (pc .exit)) (now (mem .exit)) ⌝ }
+) -> Outcome
+    requires { ⌜ refusalOf base (length (now mem)) (stateFrom count (now x) (now pc) (slotsIn (now t))) ≡ 0 ⌝ }
+    ensures { λ r. ⌜ Advances (actOn base (now (mem .entry)) (stateFrom count (now (x .entry)) (now (pc .entry)) (slotsIn (now (t .entry)))) e) base count (slotsIn (now (t .entry))) (now (x .entry)) (now (pc .entry)) (now (mem .entry)) r (slotsIn (now (t .exit))) (now (x .exit)) (now (pc .exit)) (now (mem .exit)) ⌝ }
 {
     match e {
         Event::Step { hart } => {
             if hart < count {
-                return step_hart(x, pc, res, count, hart, base, mem);
+                return step_hart(x, pc, t, count, hart, base, mem);
             }
-            refused(3, res)
+            Outcome::Refused { number: 3 }
         }
         Event::Device {
             addr,
             size,
             data: value,
-        } => write_device(res, count, addr, size, value, base, mem),
+        } => write_device(t, count, addr, size, value, base, mem),
         Event::Yield { hart } => {
             if hart < count {
-                return release_hart(res, count, hart);
+                return release_hart(t, count, hart);
             }
-            refused(3, res)
+            Outcome::Refused { number: 3 }
         }
     }
 }

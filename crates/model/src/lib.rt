@@ -4,7 +4,7 @@ pub mod run;
 
 use events::Event;
 use machine::State;
-use reserve::Slot;
+use reserve::lent;
 ghost use mathlib.Core.Path.{_≡_};
 ghost use Rattle.events.specs.declared.Event.the-variants.{Step, Device, Yield};
 ghost use Rattle.model.specs.Perform.{answerOf, memoryOf};
@@ -36,12 +36,6 @@ pub struct Ran {
     pub state: State,
 }
 
-// The outcome of an event, and the reservations after it.
-pub struct Advanced {
-    pub outcome: Outcome,
-    pub slots: [Slot; 8],
-}
-
 // An event on a state and the memory at base: the answer with the state afterwards. A refusal and a trap change nothing.
 pub fn perform(s: State, base: u64, mem: &mut [u8], e: Event) -> Answer
     ensures { λ r. ⌜ (r ≡ answerOf base (now (mem .entry)) s e) × (now (mem .exit) ≡ memoryOf base (now (mem .entry)) s e) ⌝ }
@@ -57,16 +51,16 @@ pub fn perform(s: State, base: u64, mem: &mut [u8], e: Event) -> Answer
             state: s,
         };
     }
-    let a = advance::advance(&mut x, &mut pc, res, count, base, mem, e);
-    let outcome = a.outcome;
-    let slots = a.slots;
+    let mut t = lent::lend(res);
+    let outcome = advance::advance(&mut x, &mut pc, &mut t, count, base, mem, e);
+    let after = lent::slots(&t);
     Answer {
         outcome,
         state: State {
             count,
             x,
             pc,
-            res: slots,
+            res: after,
         },
     }
 }

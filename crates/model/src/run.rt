@@ -4,10 +4,11 @@ use crate::Verdict;
 use crate::advance::advance;
 use events::Checked;
 use machine::State;
-use reserve::Slot;
+use reserve::lent;
 ghost use mathlib.Core.Path.{_≡_};
 ghost use Prim.Native.Nat.{_*_, _≤_, min};
 ghost use lib.ListN.{length};
+ghost use Rattle.reserve.specs.Lent.{slotsIn};
 ghost use Rattle.machine.specs.State.{refusalOf};
 ghost use Rattle.events.specs.Events.{firstEvents};
 ghost use Rattle.model.specs.Perform.{runOf};
@@ -30,31 +31,28 @@ fn refused_run(number: u64, place: usize, s: State) -> Ran
     }
 }
 
-// The first n events of a body that refusal 11 does not name: the reservations after them.
+// The first n events of a body that refusal 11 does not name, in place.
 fn perform_first(
     x: &mut [u64; 256],
     pc: &mut [u64; 8],
-    res: [Slot; 8],
+    t: &mut [u64; 24],
     count: usize,
     base: u64,
     mem: &mut [u8],
     body: &[u8],
     n: usize,
-) -> [Slot; 8]
-    requires { ⌜ refusalOf base (length (now mem)) (stateFrom count (now x) (now pc) res) ≡ 0 ⌝ }
+)
+    requires { ⌜ refusalOf base (length (now mem)) (stateFrom count (now x) (now pc) (slotsIn (now t))) ≡ 0 ⌝ }
     requires { ⌜ n * 24 ≤ length (now body) ⌝ }
-    ensures { λ r. ⌜ record { state = stateFrom count (now (x .exit)) (now (pc .exit)) r; mem = now (mem .exit) } ≡ runOf base (record { state = stateFrom count (now (x .entry)) (now (pc .entry)) res; mem = now (mem .entry) }) (firstEvents n (now (body .entry))) ⌝ }
+    ensures { λ _. ⌜ record { state = stateFrom count (now (x .exit)) (now (pc .exit)) (slotsIn (now (t .exit))); mem = now (mem .exit) } ≡ runOf base (record { state = stateFrom count (now (x .entry)) (now (pc .entry)) (slotsIn (now (t .entry))); mem = now (mem .entry) }) (firstEvents n (now (body .entry))) ⌝ }
 {
-    let mut slots = res;
     let mut i: usize = 0;
     while i < n {
         let at = i * 24;
         let e = events::read_event(&body[at..at + 24]);
-        let a = advance(x, pc, slots, count, base, mem, e);
-        slots = a.slots;
+        advance(x, pc, t, count, base, mem, e);
         i += 1;
     }
-    slots
 }
 
 // A run of at most budget events. It tries refusals 1 and 2, then the whole body by 11, before it performs any.
@@ -73,7 +71,9 @@ pub fn run(s: State, base: u64, mem: &mut [u8], body: &[u8], budget: usize) -> R
         Checked::Bad(place) => refused_run(11, place, s),
         Checked::Good => {
             let n = smaller(budget, body.len() / 24);
-            let slots = perform_first(&mut x, &mut pc, res, count, base, mem, body, n);
+            let mut t = lent::lend(res);
+            perform_first(&mut x, &mut pc, &mut t, count, base, mem, body, n);
+            let after = lent::slots(&t);
             Ran {
                 verdict: Verdict::Performed,
                 performed: n,
@@ -81,7 +81,7 @@ pub fn run(s: State, base: u64, mem: &mut [u8], body: &[u8], budget: usize) -> R
                     count,
                     x,
                     pc,
-                    res: slots,
+                    res: after,
                 },
             }
         }

@@ -20,7 +20,7 @@ use Rattle.isa.specs.declared.AtomicOp.the-variants as A
 use Rattle.isa.specs.declared.Atomic.{Atomic}
 use Rattle.isa.specs.declared.Instr.{Instr}
 use Rattle.isa.specs.declared.Instr.the-variants as I
-use Rattle.effect.specs.Effect.{Writes, none, one, Touch, nothing, reserve, scStore, Exec, effect, offset, nextOf}
+use Rattle.effect.specs.Effect.{Writes, none, one, Access, nothing, reserve, scStore, Exec, effect, offset, nextPc}
 use Rattle.effect.specs.Integer.{execJump, execBranch, holdsOf}
 use Rattle.effect.specs.Memory.{valueAt}
 use Rattle.effect.specs.Atomic.{execLr}
@@ -32,8 +32,8 @@ use Rattle.retry.specs.declared.View.{View}
 use Rattle.retry.specs.declared.View.the-variants.{Lr, Sc, Plain, Jump, Branch, Other}
 use Rattle.retry.proofs.Accepted.{Keeps}
 
--- it retires, goes to a place with a touch, and leaves every register that a write of rd leaves
-pub record Moves (e : Exec) (rd to : ℕ) (t : Touch) : Type 0 where
+-- it retires, goes to a place with an access, and leaves every register that a write of rd leaves
+pub record Moves (e : Exec) (rd to : ℕ) (t : Access) : Type 0 where
   pub ws : Writes
   pub is : e ≡ effect ws to t
   pub kept : (x : List ℕ) (h r : ℕ) → r < 32 → Keeps r rd → regAt (written h ws x) h r ≡ regAt x h r
@@ -46,10 +46,10 @@ set-kept x h rd v r d l k =
     rw f (getD-set-other x (h * 32 + rd % 32) (h * 32 + r % 32) v 0
     (λ e. let s : r ≡ rd = omega arith in let z : r ≡ 0 = k s in eqb-false (rd % 32) 0 f (omega arith))))
 
-by-one : (e : Exec) (rd v to : ℕ) (t : Touch) → rd < 32 → e ≡ effect (one rd v) to t → Moves e rd to t
+by-one : (e : Exec) (rd v to : ℕ) (t : Access) → rd < 32 → e ≡ effect (one rd v) to t → Moves e rd to t
 by-one e rd v to t d q = record { ws = one rd v; is = q; kept = λ x h r l k. set-kept x h rd v r d l k }
 
-by-none : (e : Exec) (to : ℕ) (t : Touch) → e ≡ effect none to t → Moves e 0 to t
+by-none : (e : Exec) (to : ℕ) (t : Access) → e ≡ effect none to t → Moves e 0 to t
 by-none e to t q = record { ws = none; is = q; kept = λ x h r l k. refl }
 
 -- where the pc is pc
@@ -62,14 +62,14 @@ Does (Branch off) pc e = off % 4 ≡ 0 → Moves e 0 (pc + 4) nothing ⊎ Moves 
 Does Other pc e = Unit {0}
 
 module _ (pc : ℕ) (aligned : pc % 4 ≡ 0) (small : pc + 4 < 2 ^ 64) where
-  next : nextOf 64 pc ≡ pc + 4
+  next : nextPc 64 pc ≡ pc + 4
   next = omega arith
 
-  computes : (rd v : ℕ) → rd < 32 → Moves (effect (one rd v) (nextOf 64 pc) nothing) rd (pc + 4) nothing
+  computes : (rd v : ℕ) → rd < 32 → Moves (effect (one rd v) (nextPc 64 pc) nothing) rd (pc + 4) nothing
   computes rd v d = by-one _ rd v (pc + 4) nothing d (ap (λ (n : ℕ). effect (one rd v) n nothing) next)
 
   jumps : (rd off : ℕ) → rd < 32 → off % 4 ≡ 0 → Moves (execJump 64 rd (offset 64 pc off) pc) rd ((pc + off) % 2 ^ 64) nothing
-  jumps rd off d o = by-one _ rd (nextOf 64 pc) ((pc + off) % 2 ^ 64) nothing d (jump-retires 64 pc rd (offset 64 pc off) (omega arith))
+  jumps rd off d o = by-one _ rd (nextPc 64 pc) ((pc + off) % 2 ^ 64) nothing d (jump-retires 64 pc rd (offset 64 pc off) (omega arith))
 
   branches : (taken : Bool) (off : ℕ) → off % 4 ≡ 0
       → Moves (execBranch 64 taken (offset 64 pc off) pc) 0 (pc + 4) nothing ⊎ Moves (execBranch 64 taken (offset 64 pc off) pc) 0 ((pc + off) % 2 ^ 64) nothing
@@ -117,8 +117,8 @@ module _ (pc : ℕ) (aligned : pc % 4 ≡ 0) (small : pc + 4 < 2 ^ 64) where
 
     -- an SC of n bytes at addr, aligned and covered
     pub does-sc : (a : Atomic) → a .op ≡ A.Sc → (addr n : ℕ) → x (a .rs1) ≡ addr → bytesOf (a .width) ≡ n → addr % n ≡ 0 → covered addr n ≡ true
-        → execute 64 (I.Amo a) word x pc base mem covered ≡ effect (one (a .rd) 0) (nextOf 64 pc) (scStore addr (toLe n (x (a .rs2))))
+        → execute 64 (I.Amo a) word x pc base mem covered ≡ effect (one (a .rd) 0) (nextPc 64 pc) (scStore addr (toLe n (x (a .rs2))))
     unfolding execute execAtomic
     does-sc a q addr n s l al c =
         rw q (sc-succeeds 64 pc (a .width) (a .rd) (x (a .rs1)) (x (a .rs2)) covered (rw (s, l) al) (rw (s, l) c)
-        ∙ ap₂ (λ (b k : ℕ). effect (one (a .rd) 0) (nextOf 64 pc) (scStore b (toLe k (x (a .rs2))))) s l)
+        ∙ ap₂ (λ (b k : ℕ). effect (one (a .rd) 0) (nextPc 64 pc) (scStore b (toLe k (x (a .rs2))))) s l)

@@ -37,7 +37,7 @@ use Rattle.model.specs.declared.Outcome.the-variants as O
 use Rattle.retry.specs.Reasons.{LrAt}
 use Rattle.retry.specs.declared.LoopAnswer.the-variants.{Accepted}
 use Rattle.retry.specs.Loop.{viewOf, pastSc, wrongOffset, clobbers, lowestOf, scanOf, startOf, checkOf}
-use Rattle.progress.specs.Claim.{answered, Start, Harmless, Finish, stored, left, back, Safe, Finishes, Calm, Unfinished}
+use Rattle.progress.specs.Claim.{answered, Start, Harmless, Finish, succeeded, left, back, Safe, Finishes, Calm, Unfinished}
 use Rattle.progress.proofs.Retry.{retry}
 
 -- Edge 12's loop: lr.w x6,(x5); bne x6,x0,+12; sc.w x7,x8,(x5); bne x7,x0,-12.
@@ -153,7 +153,7 @@ mixed = so-far ++ Step 0 ∷ []
 pub by-sc : Finish 1024 0 1024 1096 leaving lr (runOf 1024 (begin leaving 0) mixed) (Step 0)
 unfolding toLe signExtend ofInt toInt low classOf branchOf sizedOf lrOf atomicOf decodeOf refusalOf memoryOk stateOk hartOk reservationOk insideOf allBelow valueAt le part splice regAt touches coversOf breaksOf ownOf observeOf observeAllOf holdsOf execBranch faultOf checked execLr execSc execAtomic execute executeWord setReg apply leaves fetchOf deviceOf actOn actOf answerOf memoryOf nextOf runOf
 by-sc =
-    stored
+    succeeded
     (record {
       sc = sc;
       fetches = record { inside = inside-of 1024 128 1032 4 refl; decodes = refl };
@@ -190,12 +190,12 @@ by-sc-unfinished = (not-lr, (never, (never, (never, (never, (never, (never, (nev
     never q f = contrary refl (sym q)
 
     not-lr : true ≡ true → Finish 1024 0 1024 1096 leaving lr (begin leaving 0) (Step 0) → ⊥
-    not-lr t (stored s) = let a : O.Retired ≡ O.ScStored = s .succeeds in let z : _≡_ {A = ℕ} 0 1 = cc in omega arith
+    not-lr t (succeeded s) = let a : O.Retired ≡ O.ScStored = s .succeeds in let z : _≡_ {A = ℕ} 0 1 = cc in omega arith
     not-lr t (left d) = d 1 (omega arith) refl
     not-lr t (back q) = let z : _≡_ {A = ℕ} 1028 1024 = q in omega arith
 
     not-branch : true ≡ true → Finish 1024 0 1024 1096 leaving lr (runOf 1024 (begin leaving 0) so-far) (Step 0) → ⊥
-    not-branch t (stored s) = let a : O.Retired ≡ O.ScStored = s .succeeds in let z : _≡_ {A = ℕ} 0 1 = cc in omega arith
+    not-branch t (succeeded s) = let a : O.Retired ≡ O.ScStored = s .succeeds in let z : _≡_ {A = ℕ} 0 1 = cc in omega arith
     not-branch t (left d) = d 2 (omega arith) refl
     not-branch t (back q) = let z : _≡_ {A = ℕ} 1032 1024 = q in omega arith
 
@@ -215,7 +215,7 @@ unfolding toLe signExtend ofInt toInt low classOf branchOf sizedOf lrOf atomicOf
 tight s = go (s .1)
   where
     unfinished : Finish 1024 0 1024 1096 shortest lr (begin shortest 0) (Step 0) → ⊥
-    unfinished (stored f) = let a : O.Retired ≡ O.ScStored = f .succeeds in let z : _≡_ {A = ℕ} 0 1 = cc in omega arith
+    unfinished (succeeded f) = let a : O.Retired ≡ O.ScStored = f .succeeds in let z : _≡_ {A = ℕ} 0 1 = cc in omega arith
     unfinished (left d) = d 1 (omega arith) refl
     unfinished (back q) = let z : _≡_ {A = ℕ} 1028 1024 = q in omega arith
 

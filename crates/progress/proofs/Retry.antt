@@ -29,7 +29,7 @@ use Rattle.isa.specs.declared.Instr.{Instr}
 use Rattle.isa.specs.declared.Instr.the-variants as I
 use Rattle.isa.proofs.DecodeLaws.{regs-below}
 use Rattle.machine.specs.Rules.{Shaped}
-use Rattle.effect.specs.Effect.{Writes, one, Touch as Touched, nothing, reserve, scStore, Exec, noticeOf, nextOf as afterwards}
+use Rattle.effect.specs.Effect.{Writes, one, Access, nothing, reserve, scStore, Exec, noticeOf, nextPc}
 use Rattle.effect.specs.Memory.{valueAt}
 use Rattle.effect.specs.Execute.{regAt, execute}
 use Rattle.effect.proofs.Sound.{width-is}
@@ -52,7 +52,7 @@ use Rattle.retry.specs.declared.View.{View}
 use Rattle.retry.specs.declared.View.the-variants.{Lr, Sc, Plain, Jump, Branch, Other}
 use Rattle.retry.proofs.ViewLaws.{Seen, SeenLr, SeenSc, seen, lr-view}
 use Rattle.retry.proofs.Accepted.{Ahead, Home, Keeps, Before, After, Block, block}
-use Rattle.progress.specs.Claim.{answered, pcOf, isStep, Stored, FineAs, Fine, Start, Harmless, Finish, stored, left, back, Safe, Finishes, Calm, Unfinished, steps, NextStep}
+use Rattle.progress.specs.Claim.{answered, hartPc, isStep, Stored, FineAs, Fine, Start, Harmless, Finish, succeeded, left, back, Safe, Finishes, Calm, Unfinished, steps, NextStep}
 use Rattle.progress.proofs.Does.{Moves, Does, does, does-lr, does-sc}
 
 -- ---- notices
@@ -102,7 +102,7 @@ not-step h (Yield g) f q = let z : _≡_ {A = ℕ} 0 1 = cc in omega arith
 
 -- ---- a step that retires, from its act
 
-module _ (base : ℕ) (m : Machine) (h : ℕ) (ws : Writes) (to : ℕ) (t : Touched) (q : actOf base (m .mem) (m .state) (Step h) ≡ change h ws to t) where
+module _ (base : ℕ) (m : Machine) (h : ℕ) (ws : Writes) (to : ℕ) (t : Access) (q : actOf base (m .mem) (m .state) (Step h) ≡ change h ws to t) where
   said : answered base m (Step h) ≡ retiredAs (noticeOf h t)
   unfolding answerOf
   said = ap told q
@@ -110,7 +110,7 @@ module _ (base : ℕ) (m : Machine) (h : ℕ) (ws : Writes) (to : ℕ) (t : Touc
   noticed : noticeAt base m (Step h) ≡ noticeOf h t
   noticed = ap actNotice q
 
-  goes : h < length (m .state .pc) → pcOf (nextOf base m (Step h)) h ≡ to
+  goes : h < length (m .state .pc) → hartPc (nextOf base m (Step h)) h ≡ to
   unfolding nextOf answerOf apply
   goes l = ap (λ (a : Act). getD (countersAfter a (m .state .pc)) h 0) q ∙ getD-set-same (m .state .pc) h to 0 l
 
@@ -150,7 +150,7 @@ module _ (base h p addr : ℕ) (words : List ℕ) (lr : Atomic) (j : ℕ)
   -- the hart stands at place i
   record At (m : Machine) (i : ℕ) : Type 0 where
     ground : Ground m
-    here : pcOf m h ≡ p + 4 * i
+    here : hartPc m h ≡ p + 4 * i
     inLoop : i < length words
     source : i ≤ j → regAt (m .state .x) h (lr .rs1) ≡ addr
     holds : 0 < i → i ≤ j → reservationOf (m .state) h ≡ Held addr (bytesOf (lr .width))
@@ -196,7 +196,7 @@ module _ (base h p addr : ℕ) (words : List ℕ) (lr : Atomic) (j : ℕ)
     -- what an instruction does here, and the word at the place
     abbrev by : Instr → Exec
     by n =
-        execute 64 n (valueAt base (m .mem) (pcOf m h) 4) (regAt (m .state .x) h) (pcOf m h) base (m .mem) (coversOf 64 (reservationOf (m .state) h))
+        execute 64 n (valueAt base (m .mem) (hartPc m h) 4) (regAt (m .state .x) h) (hartPc m h) base (m .mem) (coversOf 64 (reservationOf (m .state) h))
 
     abbrev exec : Exec
     exec = by (decodeOf (getD words i 0))
@@ -217,20 +217,20 @@ module _ (base h p addr : ℕ) (words : List ℕ) (lr : Atomic) (j : ℕ)
     low : p + 4 * i + 4 ≤ 2 ^ 41
     low = omega (arith, a .ground .mapped i (a .inLoop) .1, a .ground .valid .0 .1, a .ground .valid .0 .4)
 
-    pc-low : pcOf m h + 4 < 2 ^ 64
+    pc-low : hartPc m h + 4 < 2 ^ 64
     pc-low = omega (arith, a .here, low)
 
-    pc-aligned : pcOf m h % 4 ≡ 0
+    pc-aligned : hartPc m h % 4 ≡ 0
     pc-aligned = a .ground .valid .1 .2 h (a .ground .used) .1
 
     -- it retires and goes to a later place: there, or out of the loop
-    module _ (rd i′ : ℕ) (t : Touched) (mv : Moves exec rd (p + 4 * i′) t) (on : i < i′)
+    module _ (rd i′ : ℕ) (t : Access) (mv : Moves exec rd (p + 4 * i′) t) (on : i < i′)
         (quiet : WritesInto (noticeOf h t) p (4 * length words) → ⊥) (rs1-kept : i′ ≤ j → Keeps (lr .rs1) rd)
         (res-held : i′ ≤ j → observeOf 64 h (noticeOf h t) (reservationOf (m .state) h) ≡ Held addr (bytesOf (lr .width))) where
       changed : actOf base (m .mem) (m .state) (Step h) ≡ change h (mv .ws) (p + 4 * i′) t
       changed = act-is ∙ ap (ofExec h) (mv .is)
 
-      to-there : pcOf (nextOf base m (Step h)) h ≡ p + 4 * i′
+      to-there : hartPc (nextOf base m (Step h)) h ≡ p + 4 * i′
       to-there = goes base m h (mv .ws) (p + 4 * i′) t changed (omega (arith, hart-8, a .ground .shaped .counters))
 
       arrive : Onward m i
@@ -269,37 +269,37 @@ module _ (base h p addr : ℕ) (words : List ℕ) (lr : Atomic) (j : ℕ)
       arrive rd i′ nothing mv on (λ t. t) (λ l. ks (omega arith)) (λ l. observe-quiet 64 h _ ∙ a .holds z (omega arith)),
     )
 
-    forward : (rd off : ℕ) → Moves exec rd ((pcOf m h + off) % 2 ^ 64) nothing → Ahead off → 0 < i → (i < j → Keeps (lr .rs1) rd) → Good m i
+    forward : (rd off : ℕ) → Moves exec rd ((hartPc m h + off) % 2 ^ 64) nothing → Ahead off → 0 < i → (i < j → Keeps (lr .rs1) rd) → Good m i
     forward rd off mv f z ks =
         silent rd (i + off / 4) (subst (λ (x : ℕ). Moves exec rd x nothing) (omega (arith, low, a .here)) mv) (omega arith) z ks
 
-    in-order : (rd : ℕ) → Moves exec rd (pcOf m h + 4) nothing → 0 < i → (i < j → Keeps (lr .rs1) rd) → Good m i
+    in-order : (rd : ℕ) → Moves exec rd (hartPc m h + 4) nothing → 0 < i → (i < j → Keeps (lr .rs1) rd) → Good m i
     in-order rd mv z ks =
         silent rd (i + 1) (subst (λ (x : ℕ). Moves exec rd x nothing) (omega (arith, a .here)) mv) (omega arith) z ks
 
-    home : (rd off : ℕ) → Moves exec rd ((pcOf m h + off) % 2 ^ 64) nothing → Home i off → Good m i
+    home : (rd off : ℕ) → Moves exec rd ((hartPc m h + off) % 2 ^ 64) nothing → Home i off → Good m i
     unfolding Good Onward
     home rd off mv f =
-        let q : actOf base (m .mem) (m .state) (Step h) ≡ change h (mv .ws) ((pcOf m h + off) % 2 ^ 64) nothing = act-is ∙ ap (ofExec h) (mv .is) in (
-          subst (FineAs base h p addr words lr m (Step h)) (sym (said base m h (mv .ws) ((pcOf m h + off) % 2 ^ 64) nothing q)) tt,
-          inl (back (goes base m h (mv .ws) ((pcOf m h + off) % 2 ^ 64) nothing q (omega (arith, hart-8, a .ground .shaped .counters)) ∙ omega (arith, low, a .here))),
+        let q : actOf base (m .mem) (m .state) (Step h) ≡ change h (mv .ws) ((hartPc m h + off) % 2 ^ 64) nothing = act-is ∙ ap (ofExec h) (mv .is) in (
+          subst (FineAs base h p addr words lr m (Step h)) (sym (said base m h (mv .ws) ((hartPc m h + off) % 2 ^ 64) nothing q)) tt,
+          inl (back (goes base m h (mv .ws) ((hartPc m h + off) % 2 ^ 64) nothing q (omega (arith, hart-8, a .ground .shaped .counters)) ∙ omega (arith, low, a .here))),
         )
 
     -- between the LR and the first SC
-    middle : 0 < i → (v : View) → Before (lr .rs1) v → Does v (pcOf m h) exec → Good m i
+    middle : 0 < i → (v : View) → Before (lr .rs1) v → Does v (hartPc m h) exec → Good m i
     middle z (Lr rd s u) b d = absurd b
     middle z (Sc s u) b d = absurd b
     middle z (Plain rd) b d = in-order rd d z (λ l. b)
     middle z (Jump rd off) b d = forward rd off (d (b .0 .0)) (b .0) z (λ l. b .1)
     middle z (Branch off) b d = go (d (b .0))
       where
-        go : Moves exec 0 (pcOf m h + 4) nothing ⊎ Moves exec 0 ((pcOf m h + off) % 2 ^ 64) nothing → Good m i
+        go : Moves exec 0 (hartPc m h + 4) nothing ⊎ Moves exec 0 ((hartPc m h + off) % 2 ^ 64) nothing → Good m i
         go (inl mv) = in-order 0 mv z (λ l q. q)
         go (inr mv) = forward 0 off mv b z (λ l q. q)
     middle z Other b d = absurd b
 
     -- after the first SC
-    turn : (rd off : ℕ) → j < i → Moves exec rd ((pcOf m h + off) % 2 ^ 64) nothing → Ahead off ⊎ Home i off → Good m i
+    turn : (rd off : ℕ) → j < i → Moves exec rd ((hartPc m h + off) % 2 ^ 64) nothing → Ahead off ⊎ Home i off → Good m i
     turn rd off z mv (inl f) = forward rd off mv f (omega arith) (λ l. absurd (omega arith))
     turn rd off z mv (inr f) = home rd off mv f
 
@@ -307,14 +307,14 @@ module _ (base h p addr : ℕ) (words : List ℕ) (lr : Atomic) (j : ℕ)
     multiple off (inl f) = f .0
     multiple off (inr f) = f .0
 
-    late : j < i → (v : View) → After i v → Does v (pcOf m h) exec → Good m i
+    late : j < i → (v : View) → After i v → Does v (hartPc m h) exec → Good m i
     late z (Lr rd s u) b d = absurd b
     late z (Sc s u) b d = absurd b
     late z (Plain rd) b d = in-order rd d (omega arith) (λ l. absurd (omega arith))
     late z (Jump rd off) b d = turn rd off z (d (multiple off b)) b
     late z (Branch off) b d = go (d (multiple off b))
       where
-        go : Moves exec 0 (pcOf m h + 4) nothing ⊎ Moves exec 0 ((pcOf m h + off) % 2 ^ 64) nothing → Good m i
+        go : Moves exec 0 (hartPc m h + 4) nothing ⊎ Moves exec 0 ((hartPc m h + off) % 2 ^ 64) nothing → Good m i
         go (inl mv) = in-order 0 mv (omega arith) (λ l. absurd (omega arith))
         go (inr mv) = turn 0 off z mv b
     late z Other b d = absurd b
@@ -333,27 +333,27 @@ module _ (base h p addr : ℕ) (words : List ℕ) (lr : Atomic) (j : ℕ)
         is : decodeOf (getD words i 0) ≡ I.Amo lr
         is = ap (λ (k : ℕ). decodeOf (getD words k 0)) z ∙ first
 
-        at-lr : Moves (by (I.Amo lr)) (lr .rd) (pcOf m h + 4) (reserve (regAt (m .state .x) h (lr .rs1)) (bytesOf (lr .width)))
+        at-lr : Moves (by (I.Amo lr)) (lr .rd) (hartPc m h + 4) (reserve (regAt (m .state .x) h (lr .rs1)) (bytesOf (lr .width)))
         at-lr =
-            does-lr (pcOf m h) pc-aligned pc-low (valueAt base (m .mem) (pcOf m h) 4) (regAt (m .state .x) h) base (m .mem)
+            does-lr (hartPc m h) pc-aligned pc-low (valueAt base (m .mem) (hartPc m h) 4) (regAt (m .state .x) h) base (m .mem)
             (coversOf 64 (reservationOf (m .state) h)) lr isLr lr-regs (ap (λ (x : ℕ). x % bytesOf (lr .width)) src ∙ aligned)
             (subst (λ (x : ℕ). Inside base (length (m .mem)) x (bytesOf (lr .width))) (sym src) (a .ground .reachable))
 
-        next : pcOf m h + 4 ≡ p + 4 * 1
+        next : hartPc m h + 4 ≡ p + 4 * 1
         next = omega (arith, a .here)
 
         mv : Moves exec (lr .rd) (p + 4 * 1) (reserve addr (bytesOf (lr .width)))
         mv =
             subst (λ (n : Instr). Moves (by n) (lr .rd) (p + 4 * 1) (reserve addr (bytesOf (lr .width)))) (sym is)
             (subst (λ (x : ℕ). Moves (by (I.Amo lr)) (lr .rd) x (reserve addr (bytesOf (lr .width)))) next
-            (subst (λ (x : ℕ). Moves (by (I.Amo lr)) (lr .rd) (pcOf m h + 4) (reserve x (bytesOf (lr .width)))) src at-lr))
+            (subst (λ (x : ℕ). Moves (by (I.Amo lr)) (lr .rd) (hartPc m h + 4) (reserve x (bytesOf (lr .width)))) src at-lr))
 
     -- the place of the first SC
     closing : i ≡ j → Good m i
     unfolding Good Onward coversOf leaves
     closing z = (
       subst (FineAs base h p addr words lr m (Step h)) (sym succeeds) kept,
-      inl (stored kept),
+      inl (succeeded kept),
     )
       where
         s : SeenSc (decodeOf (getD words i 0)) (lr .rs1) (bytesOf (lr .width))
@@ -370,16 +370,16 @@ module _ (base h p addr : ℕ) (words : List ℕ) (lr : Atomic) (j : ℕ)
             ap (λ (r : Reservation). coversOf 64 r addr (bytesOf (lr .width))) (a .holds (omega arith) (omega arith))
             ∙ of-inside (setOf 64 addr) 64 addr (bytesOf (lr .width)) own-set
 
-        act : actOf base (m .mem) (m .state) (Step h) ≡ change h (one (s .of .rd) 0) (afterwards 64 (pcOf m h)) (scStore addr new)
+        act : actOf base (m .mem) (m .state) (Step h) ≡ change h (one (s .of .rd) 0) (nextPc 64 (hartPc m h)) (scStore addr new)
         act =
             act-is
             ∙ ap (λ (n : Instr). ofExec h (by n)) (s .is)
             ∙ ap (ofExec h)
-            (does-sc (pcOf m h) pc-aligned pc-low (valueAt base (m .mem) (pcOf m h) 4) (regAt (m .state .x) h) base (m .mem)
+            (does-sc (hartPc m h) pc-aligned pc-low (valueAt base (m .mem) (hartPc m h) 4) (regAt (m .state .x) h) base (m .mem)
             (coversOf 64 (reservationOf (m .state) h)) (s .of) (s .kind) addr (bytesOf (lr .width)) src (s .width-is) aligned covered)
 
         succeeds : answered base m (Step h) ≡ O.ScStored
-        succeeds = said base m h (one (s .of .rd) 0) (afterwards 64 (pcOf m h)) (scStore addr new) act
+        succeeds = said base m h (one (s .of .rd) 0) (nextPc 64 (hartPc m h)) (scStore addr new) act
 
         size : length new ≡ bytesOf (lr .width)
         size = length-toLe (bytesOf (lr .width)) (regAt (m .state .x) h (s .of .rs2))
@@ -387,7 +387,7 @@ module _ (base h p addr : ℕ) (words : List ℕ) (lr : Atomic) (j : ℕ)
         bytes : part (nextOf base m (Step h) .mem) (addr - base) (bytesOf (lr .width)) ≡ new
         bytes =
             ap₂ (λ (l : List ℕ) (n : ℕ). part l (addr - base) n)
-            (leaves-mem base m h (one (s .of .rd) 0) (afterwards 64 (pcOf m h)) (scStore addr new) act) (sym size)
+            (leaves-mem base m h (one (s .of .rd) 0) (nextPc 64 (hartPc m h)) (scStore addr new) act) (sym size)
             ∙ part-splice (m .mem) (addr - base) new (omega (arith, size, a .ground .reachable .0, a .ground .reachable .1))
 
         kept : Stored base h p addr words lr m (Step h)
@@ -421,9 +421,9 @@ module _ (base h p addr : ℕ) (words : List ℕ) (lr : Atomic) (j : ℕ)
     own : Good m i
     own = go place
       where
-        d : Does (viewAt words i) (pcOf m h) exec
+        d : Does (viewAt words i) (hartPc m h) exec
         d =
-            does (pcOf m h) pc-aligned pc-low (valueAt base (m .mem) (pcOf m h) 4) (regAt (m .state .x) h) base (m .mem)
+            does (hartPc m h) pc-aligned pc-low (valueAt base (m .mem) (hartPc m h) 4) (regAt (m .state .x) h) base (m .mem)
             (coversOf 64 (reservationOf (m .state) h)) (decodeOf (getD words i 0)) (regs-below (getD words i 0))
 
         go : Place → Good m i

@@ -35,8 +35,8 @@ abbrev pub answered : ℕ → Machine → Event → Outcome
 answered base m e = answerOf base (m .mem) (m .state) e .outcome
 
 -- a hart's pc
-abbrev pub pcOf : Machine → ℕ → ℕ
-pcOf m h = getD (m .state .pc) h 0
+abbrev pub hartPc : Machine → ℕ → ℕ
+hartPc m h = getD (m .state .pc) h 0
 
 -- the event is a step of hart h
 abbrev pub isStep : ℕ → Event → Bool
@@ -59,7 +59,7 @@ module _ (base h p addr : ℕ) (words : List ℕ) (lr : Atomic) where
     -- "and a hart below the count"
     pub used : h < m .state .count
     -- "Its pc is the address of place 0"
-    pub here : pcOf m h ≡ p
+    pub here : hartPc m h ≡ p
     -- "of an accepted block"
     pub accepted : checkOf words ≡ Accepted
     -- "the word at place k stands at that address plus 4k"
@@ -106,9 +106,9 @@ module _ (base h p addr : ℕ) (words : List ℕ) (lr : Atomic) where
   -- "The hart has left the loop when its pc is the address of none of the block's words, and has come back when, after a step, its pc is that of
   -- place 0."
   pub data Finish (m : Machine) (e : Event) : Type 0 where
-    stored : Stored m e → Finish m e
-    left : ((k : ℕ) → k < length words → pcOf (nextOf base m e) h ≢ p + 4 * k) → Finish m e
-    back : pcOf (nextOf base m e) h ≡ p → Finish m e
+    succeeded : Stored m e → Finish m e
+    left : ((k : ℕ) → k < length words → hartPc (nextOf base m e) h ≢ p + 4 * k) → Finish m e
+    back : hartPc (nextOf base m e) h ≡ p → Finish m e
 
   -- From m on, hart h makes no step but fine ones up to its finish, which is at most its k-th, as long as all other events leave the loop alone:
   -- "a single claim about the whole list of events"; "Each event gets the state and the memory as the event before returned or left them";

@@ -52,43 +52,45 @@ fn put_end(out: &mut [u8], at: usize, events: u64) -> usize
     put_byte(out, q, b'\n')
 }
 
-// All lines of a case whose memory is lent and whose events are body.
-fn put_lines_of_case(out: &mut [u8], s: State, base: u64, mem: &mut [u8], body: &[u8]) -> usize
-    requires { ⌜ 115 + 90 * (length (now body) / 24) ≤ length (now out) ⌝ }
-    requires { ⌜ refusalOf base (length (now mem)) s ≡ 0 ⌝ }
-    ensures { λ r. ⌜ Put (now (out .entry)) 0 (linesOfCase base s (now (mem .entry)) (now (body .entry))) (now (out .exit)) r ⌝ }
-    ensures { λ r. ⌜ r ≤ 115 + 90 * (length (now (body .entry)) / 24) ⌝ }
+// All lines of a case whose events are body. Its memory is what stands in the buffer from `from` on, which the lines don't reach.
+fn put_lines_of_case(out: &mut [u8], from: usize, s: State, base: u64, body: &[u8]) -> usize
+    requires { ⌜ (115 + 90 * (length (now body) / 24) ≤ from) × (from ≤ length (now out)) ⌝ }
+    requires { ⌜ refusalOf base (length (now out) - from) s ≡ 0 ⌝ }
+    ensures { λ r. ⌜ Put (now (out .entry)) 0 (linesOfCase base s (drop from (now (out .entry))) (now (body .entry))) (now (out .exit)) r ⌝ }
+    ensures { λ r. ⌜ r ≤ from ⌝ }
 {
     let count = s.count;
     let n = (body.len() / 24) as u64;
-    let p = put_case(out, 0, count as u64, mem.len() as u64, n);
-    let q = lines::put_lines(out, p, s, base, mem, body);
+    let bytes = (out.len() - from) as u64;
+    let p = put_case(&mut out[..from], 0, count as u64, bytes, n);
+    let q = lines::put_lines(out, p, from, s, base, body);
     put_end(out, q, n)
 }
 
-// The report of a file whose memory body and events body start at these places. The memory is copied to space, since events write to it.
+// The report of a file whose memory body and events body start at these places. The memory is copied to the end of the buffer, since events
+// write to it: an event has 24 bytes in the file and a line at most 90 in the buffer, which has four times the room, so no line reaches it.
 fn put_bodies(
     out: &mut [u8],
-    space: &mut [u8],
     file: &[u8],
     s: State,
     base: u64,
     memory: usize,
     events: usize,
 ) -> usize
-    requires { ⌜ (length (now out) ≡ 262144) × (length (now space) ≡ 65536) ⌝ }
+    requires { ⌜ length (now out) ≡ 262144 ⌝ }
     requires { ⌜ (40 ≤ memory) × (memory ≤ events) × (events ≤ length (now file)) × (length (now file) ≤ 65536) ⌝ }
     requires { ⌜ refusalOf base (events - memory) s ≡ 0 ⌝ }
     ensures { λ r. ⌜ Put (now (out .entry)) 0 (linesOfCase base s (part (now (file .entry)) memory (events - memory)) (drop events (now (file .entry)))) (now (out .exit)) r ⌝ }
     ensures { λ r. ⌜ r ≤ 262144 ⌝ }
 {
-    let len = put_bytes(space, 0, &file[memory..events]);
-    put_lines_of_case(out, s, base, &mut space[0..len], &file[events..])
+    let from = out.len() - (events - memory);
+    put_bytes(out, from, &file[memory..events]);
+    put_lines_of_case(out, from, s, base, &file[events..])
 }
 
-// The report of any bytes, put into a lent buffer; space is for the memory.
-pub fn put_report(out: &mut [u8], space: &mut [u8], file: &[u8]) -> usize
-    requires { ⌜ (length (now out) ≡ 262144) × (length (now space) ≡ 65536) ⌝ }
+// The report of any bytes, put into a lent buffer.
+pub fn put_report(out: &mut [u8], file: &[u8]) -> usize
+    requires { ⌜ length (now out) ≡ 262144 ⌝ }
     ensures { λ r. ⌜ Put (now (out .entry)) 0 (reportOf (now (file .entry))) (now (out .exit)) r ⌝ }
     ensures { λ r. ⌜ r ≤ 262144 ⌝ }
 {
@@ -98,7 +100,7 @@ pub fn put_report(out: &mut [u8], space: &mut [u8], file: &[u8]) -> usize
     let s = c.state;
     match found {
         Found::Refused { number, place } => put_refused(out, 0, number as u64, place as u64),
-        Found::Bodies { memory, events } => put_bodies(out, space, file, s, base, memory, events),
+        Found::Bodies { memory, events } => put_bodies(out, file, s, base, memory, events),
     }
 }
 
@@ -107,6 +109,5 @@ pub fn report(file: &[u8], out: &mut [u8; 262144]) -> usize
     ensures { λ r. ⌜ Counts r (now (out .exit)) ⌝ }
     ensures { λ r. ⌜ take r (now (out .exit)) ≡ reportOf (now (file .entry)) ⌝ }
 {
-    let mut space = [0u8; 65536];
-    put_report(out, &mut space, file)
+    put_report(out, file)
 }

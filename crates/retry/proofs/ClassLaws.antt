@@ -114,7 +114,7 @@ module _ (c w : ℕ) where
 
   from-cas-pair : c ≡ D.AMO → InClass c (D.casPairOf w)
   unfolding D.casPairOf
-  from-cas-pair e = cond-all (InClass c) (D.even (rdOf w) && D.even (rs2Of w)) (D.atomicAs w A.CasPair Double) I.Illegal e tt
+  from-cas-pair e = cond-all (InClass c) (D.isEven (rdOf w) && D.isEven (rs2Of w)) (D.atomicAs w A.CasPair Double) I.Illegal e tt
 
   from-cas : c ≡ D.AMO → InClass c (D.casOf w)
   unfolding D.casOf

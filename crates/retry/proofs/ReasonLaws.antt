@@ -16,7 +16,7 @@ use Rattle.retry.specs.declared.View.{View}
 use Rattle.retry.specs.declared.View.the-variants.{Lr, Sc, Plain, Jump, Branch, Other}
 use Rattle.retry.specs.declared.LoopAnswer.{LoopAnswer}
 use Rattle.retry.specs.declared.LoopAnswer.the-variants.{Accepted, Rejected, Refused}
-use Rattle.retry.specs.Loop.{refusalOf, viewOf, viewAt, pastSc, reason2, reason3, reason4, reason5, lowestOf, orElse, scanOf, startOf, checkOf}
+use Rattle.retry.specs.Loop.{loopRefusal, viewOf, viewAt, pastSc, reason2, reason3, reason4, reason5, lowestOf, orElse, scanOf, startOf, checkOf}
 use Rattle.retry.specs.Reasons.{LrAt, NotLr, NotPermitted, BadOffset, LeadsBy, Overwrites, OtherSc, NoSc, Reason, one, two, three, four, five, six, Unreasoned, Lowest, Sized, Exactly}
 use Rattle.retry.proofs.ViewLaws.{SeenLr, seen, Seen, lr-view}
 use Rattle.retry.proofs.PlaceLaws.{past-none, past-first, two-true, two-false, three-true, three-false, four-true, four-false, five-true, five-false}
@@ -256,7 +256,7 @@ module _ (ws : List ℕ) where
   to-rejects p r Refused (judged s d) h = absurd d
   to-rejects p r Refused (turned u q) h = absurd (sized-not ws (h .0) u)
 
-  refuses-to : (a : LoopAnswer) → Checked ws a → refusalOf a ≡ 6 → Unsized ws
+  refuses-to : (a : LoopAnswer) → Checked ws a → loopRefusal a ≡ 6 → Unsized ws
   refuses-to Accepted c e = absurd (omega arith)
   refuses-to (Rejected p r) c e = absurd (omega arith)
   refuses-to Refused (judged s d) e = absurd d
@@ -272,6 +272,6 @@ module _ (ws : List ℕ) where
       record {
         accepts = (accepts-to (checkOf ws) (checked ws), to-accepts (checkOf ws) (checked ws));
         rejects = λ p r. (rejects-to p r (checkOf ws) (checked ws), to-rejects p r (checkOf ws) (checked ws));
-        refuses = ((λ e. refuses-to (checkOf ws) (checked ws) (ap refusalOf e)), to-refuses (checkOf ws) (checked ws));
-        number = (refuses-to (checkOf ws) (checked ws), λ u. ap refusalOf (to-refuses (checkOf ws) (checked ws) u));
+        refuses = ((λ e. refuses-to (checkOf ws) (checked ws) (ap loopRefusal e)), to-refuses (checkOf ws) (checked ws));
+        number = (refuses-to (checkOf ws) (checked ws), λ u. ap loopRefusal (to-refuses (checkOf ws) (checked ws) u));
       }

@@ -20,10 +20,10 @@ use Rattle.retry.specs.declared.LoopAnswer.{LoopAnswer}
 use Rattle.retry.specs.declared.LoopAnswer.the-variants.{Accepted, Rejected, Refused}
 
 -- 01's number of a refusal; 0 is none
-abbrev pub refusalOf : LoopAnswer → ℕ
-refusalOf Accepted = 0
-refusalOf (Rejected place reason) = 0
-refusalOf Refused = 6
+abbrev pub loopRefusal : LoopAnswer → ℕ
+loopRefusal Accepted = 0
+loopRefusal (Rejected place reason) = 0
+loopRefusal Refused = 6
 
 -- What the checker sees of an instruction. The words of reason 2, "LUI, AUIPC, JAL, a branch, or an OP, OP-IMM, OP-32, OP-IMM-32 word of RV64I", are
 -- Plain by their rd, Jump by rd and offset, and Branch by its offset. An offset is a number modulo 2 ^ 64.

@@ -11,7 +11,7 @@ use Rattle.isa.specs.declared.AtomicOp.the-variants as A
 use Rattle.isa.specs.declared.Instr.{Instr}
 use Rattle.isa.specs.declared.Instr.the-variants as I
 use Rattle.retry.specs.declared.LoopAnswer.the-variants.{Accepted, Rejected, Refused}
-use Rattle.retry.specs.Loop.{refusalOf, checkOf}
+use Rattle.retry.specs.Loop.{loopRefusal, checkOf}
 
 -- the word at a place of the block decodes to this instruction
 pub record Stands (ws : List ℕ) (place : ℕ) (i : Instr) : Type 0 where
@@ -143,4 +143,4 @@ pub record Exactly (ws : List ℕ) : Type 0 where
   pub accepts : (checkOf ws ≡ Accepted) ↔ (Sized ws × Unreasoned ws)
   pub rejects : (place reason : ℕ) → (checkOf ws ≡ Rejected place reason) ↔ (Sized ws × Lowest ws place reason)
   pub refuses : (checkOf ws ≡ Refused) ↔ ((length ws < 2) ⊎ (16 < length ws))
-  pub number : (refusalOf (checkOf ws) ≡ 6) ↔ ((length ws < 2) ⊎ (16 < length ws))
+  pub number : (loopRefusal (checkOf ws) ≡ 6) ↔ ((length ws < 2) ⊎ (16 < length ws))

@@ -3,11 +3,12 @@ use mathlib.Core.Path.{_≡_, refl, sym, _∙_, ap, subst}
 use mathlib.Core.Logic.{_↔_, _≢_}
 use mathlib.Core.Bool.{Bool, true, false}
 use mathlib.Core.List.{List, [], _∷_}
-use Prim.Native.Nat.{ℕ, _%_, _<_}
+use Prim.Native.Nat.{ℕ, _+_, _*_, _%_, _<_}
 use native.Mathlib.Omega.{arith}
 use lib.Dec.{eqb}
-use lib.ListN.{getD}
-use borrow.Author.Tests.{eqb-true, eqb-false}
+use lib.ListN.{length, getD}
+use lib.Seq.{getD-set-same}
+use borrow.Author.Tests.{eqb-true, eqb-false, ne-eqb}
 use Rattle.word.proofs.TestLaws.{bool-cases}
 use Rattle.reserve.specs.Reserve.{coversOf}
 use Rattle.reserve.specs.declared.Reservation.{Reservation}
@@ -21,8 +22,8 @@ use Rattle.effect.specs.Execute.{regAt, execute, execAtomic}
 use Rattle.effect.proofs.TrapLaws as T
 use Rattle.events.specs.declared.Event.{Event}
 use Rattle.events.specs.declared.Event.the-variants.{Step}
-use Rattle.model.specs.Act.{told}
-use Rattle.model.specs.Perform.{Machine, reservationOf, ofExec, actOf, answerOf, nextOf, runOf}
+use Rattle.model.specs.Act.{Act, told, setReg, apply, leaves}
+use Rattle.model.specs.Perform.{Machine, reservationOf, ofExec, actOf, answerOf, memoryOf, nextOf, runOf}
 use Rattle.model.specs.Valid.{Valid}
 use Rattle.model.specs.Trace.{traceOf}
 use Rattle.model.specs.declared.Outcome.the-variants.{ScStored, ScFailed, Trap}
@@ -30,7 +31,12 @@ use Rattle.model.proofs.Valid.{valid-next, valid-run}
 use Rattle.model.proofs.Frame.{count-next, count-run, shaped-next, res-next, step-act}
 use Rattle.history.specs.History.{observes, Reserved, Since}
 use Rattle.history.proofs.History.{history, sc-exact}
-use Rattle.sc_history.specs.Sc.{Reservationless, FetchesSc, addressOf, sizeOf, answered, Traps}
+use Rattle.sc_history.specs.Sc.{Reservationless, FetchesSc, atomicAddress, atomicSize, answered, Traps, Stores, Loses}
+
+-- a register that was set
+set-own : (h r v : ℕ) (x : List ℕ) → h < 8 → length x ≡ 256 → r % 32 ≢ 0 → regAt (setReg h r v x) h r ≡ v
+unfolding setReg regAt
+set-own h r v x l e z = rw (ne-eqb (r % 32) 0 z) (getD-set-same x (h * 32 + r % 32) v 0 (omega arith))
 
 -- an SC's step in a machine that 1 and 2 don't refuse: by its address, and by what the hart's reservation covers
 module _ (base : ℕ) (m : Machine) (v : Valid base m) (h : ℕ) (u : h < m .state .count) (sc : Atomic) (f : FetchesSc base m h sc) where
@@ -38,7 +44,7 @@ module _ (base : ℕ) (m : Machine) (v : Valid base m) (h : ℕ) (u : h < m .sta
   covered = coversOf 64 (reservationOf (m .state) h)
 
   exec : Exec
-  exec = execSc 64 (sc .width) (sc .rd) (addressOf m h sc) (regAt (m .state .x) h (sc .rs2)) (getD (m .state .pc) h 0) covered
+  exec = execSc 64 (sc .width) (sc .rd) (atomicAddress m h sc) (regAt (m .state .x) h (sc .rs2)) (getD (m .state .pc) h 0) covered
 
   act-sc : actOf base (m .mem) (m .state) (Step h) ≡ ofExec h exec
   unfolding exec covered execute execAtomic
@@ -49,41 +55,41 @@ module _ (base : ℕ) (m : Machine) (v : Valid base m) (h : ℕ) (u : h < m .sta
   by-exec e q = ap told (act-sc ∙ ap (ofExec h) q)
 
   -- 01: cause 6, "address not aligned to its width", value "address"; "SC has no cause 7"
-  pub sc-misaligned : addressOf m h sc % sizeOf sc ≢ 0 → answered base m (Step h) ≡ Trap 6 (addressOf m h sc)
+  pub sc-misaligned : atomicAddress m h sc % atomicSize sc ≢ 0 → answered base m (Step h) ≡ Trap 6 (atomicAddress m h sc)
   unfolding exec covered
-  sc-misaligned d = by-exec _ (T.sc-traps 64 (getD (m .state .pc) h 0) (sc .width) (sc .rd) (addressOf m h sc) _ covered d)
+  sc-misaligned d = by-exec _ (T.sc-traps 64 (getD (m .state .pc) h 0) (sc .width) (sc .rd) (atomicAddress m h sc) _ covered d)
 
-  pub sc-covered : addressOf m h sc % sizeOf sc ≡ 0 → coversOf 64 (reservationOf (m .state) h) (addressOf m h sc) (sizeOf sc) ≡ true
+  pub sc-covered : atomicAddress m h sc % atomicSize sc ≡ 0 → coversOf 64 (reservationOf (m .state) h) (atomicAddress m h sc) (atomicSize sc) ≡ true
       → answered base m (Step h) ≡ ScStored
   unfolding exec covered
-  sc-covered al c = by-exec _ (T.sc-succeeds 64 (getD (m .state .pc) h 0) (sc .width) (sc .rd) (addressOf m h sc) _ covered al c)
+  sc-covered al c = by-exec _ (T.sc-succeeds 64 (getD (m .state .pc) h 0) (sc .width) (sc .rd) (atomicAddress m h sc) _ covered al c)
 
-  pub sc-uncovered : addressOf m h sc % sizeOf sc ≡ 0 → coversOf 64 (reservationOf (m .state) h) (addressOf m h sc) (sizeOf sc) ≡ false
+  pub sc-uncovered : atomicAddress m h sc % atomicSize sc ≡ 0 → coversOf 64 (reservationOf (m .state) h) (atomicAddress m h sc) (atomicSize sc) ≡ false
       → answered base m (Step h) ≡ ScFailed
   unfolding exec covered
-  sc-uncovered al c = by-exec _ (T.sc-fails 64 (getD (m .state .pc) h 0) (sc .width) (sc .rd) (addressOf m h sc) _ covered al c)
+  sc-uncovered al c = by-exec _ (T.sc-fails 64 (getD (m .state .pc) h 0) (sc .width) (sc .rd) (atomicAddress m h sc) _ covered al c)
 
   -- An SC traps exactly if its address isn't aligned, whatever the reservation, and then with cause 6 and the address.
-  pub sc-traps : Traps (answered base m (Step h)) ↔ (addressOf m h sc % sizeOf sc ≢ 0)
+  pub sc-traps : Traps (answered base m (Step h)) ↔ (atomicAddress m h sc % atomicSize sc ≢ 0)
   sc-traps = (
     λ t al.
-        bool-cases (coversOf 64 (reservationOf (m .state) h) (addressOf m h sc) (sizeOf sc))
+        bool-cases (coversOf 64 (reservationOf (m .state) h) (atomicAddress m h sc) (atomicSize sc))
         (λ c. let o = sc-covered al c in let z : _≡_ {A = ℕ} 0 1 = cc (t .2) in omega arith)
         (λ c. let o = sc-uncovered al c in let z : _≡_ {A = ℕ} 0 1 = cc (t .2) in omega arith),
-    λ d. (6, addressOf m h sc, sc-misaligned d),
+    λ d. (6, atomicAddress m h sc, sc-misaligned d),
   )
 
   -- one that doesn't trap succeeds exactly if the reservation's set contains its bytes, and fails otherwise
   module _ (d : Traps (answered base m (Step h)) → ⊥) where
-    aligned : addressOf m h sc % sizeOf sc ≡ 0
+    aligned : atomicAddress m h sc % atomicSize sc ≡ 0
     aligned =
-        bool-cases (eqb (addressOf m h sc % sizeOf sc) 0) (λ t. eqb-true (addressOf m h sc % sizeOf sc) 0 t)
-        (λ t. absurd (d (sc-traps .1 (eqb-false (addressOf m h sc % sizeOf sc) 0 t))))
+        bool-cases (eqb (atomicAddress m h sc % atomicSize sc) 0) (λ t. eqb-true (atomicAddress m h sc % atomicSize sc) 0 t)
+        (λ t. absurd (d (sc-traps .1 (eqb-false (atomicAddress m h sc % atomicSize sc) 0 t))))
 
-    pub sc-stored : (answered base m (Step h) ≡ ScStored) ↔ (coversOf 64 (reservationOf (m .state) h) (addressOf m h sc) (sizeOf sc) ≡ true)
+    pub sc-stored : (answered base m (Step h) ≡ ScStored) ↔ (coversOf 64 (reservationOf (m .state) h) (atomicAddress m h sc) (atomicSize sc) ≡ true)
     sc-stored = (
       λ o.
-          bool-cases (coversOf 64 (reservationOf (m .state) h) (addressOf m h sc) (sizeOf sc)) (λ c. c)
+          bool-cases (coversOf 64 (reservationOf (m .state) h) (atomicAddress m h sc) (atomicSize sc)) (λ c. c)
           (λ c. let p = sc-uncovered aligned c in absurd (let z : _≡_ {A = ℕ} 0 1 = cc in omega arith)),
       λ c. sc-covered aligned c,
     )
@@ -92,9 +98,39 @@ module _ (base : ℕ) (m : Machine) (v : Valid base m) (h : ℕ) (u : h < m .sta
     sc-failed = (
       λ o p. let z : _≡_ {A = ℕ} 0 1 = cc in omega arith,
       λ n.
-          bool-cases (coversOf 64 (reservationOf (m .state) h) (addressOf m h sc) (sizeOf sc)) (λ c. absurd (n (sc-covered aligned c)))
+          bool-cases (coversOf 64 (reservationOf (m .state) h) (atomicAddress m h sc) (atomicSize sc)) (λ c. absurd (n (sc-covered aligned c)))
           (λ c. sc-uncovered aligned c),
     )
+
+  -- what an SC leaves, by its answer
+  next-by : (e : Exec) → exec ≡ e → nextOf base m (Step h) ≡ record { state = apply 64 (m .state) (ofExec h e); mem = leaves base (m .mem) (ofExec h e) }
+  unfolding nextOf answerOf memoryOf
+  next-by e q = ap (λ (a : Act). record { state = apply 64 (m .state) a; mem = leaves base (m .mem) a }) (act-sc ∙ ap (ofExec h) q)
+
+  module _ (shaped : Shaped (m .state)) where
+    -- 01: "Success writes memory and puts 0 in rd"
+    pub sc-stores : answered base m (Step h) ≡ ScStored → Stores base m h sc
+    unfolding exec covered apply leaves
+    sc-stores o =
+        let d : Traps (answered base m (Step h)) → ⊥ = λ t. let z : _≡_ {A = ℕ} 0 1 = cc (t .2) in omega arith in
+        let q = next-by _ (T.sc-succeeds 64 (getD (m .state .pc) h 0) (sc .width) (sc .rd) (atomicAddress m h sc) _ covered (aligned d) (sc-stored d .0 o)) in
+        record {
+          memory = ap (λ (n : Machine). n .mem) q;
+          register = λ z. ap (λ (n : Machine). regAt (n .state .x) h (sc .rd)) q ∙ set-own h (sc .rd) 0 (m .state .x) (omega (arith, v .1 .1)) (shaped .registers) z;
+        }
+
+    -- 01: "failure puts 1 in rd and writes nothing"
+    pub sc-loses : answered base m (Step h) ≡ ScFailed → Loses base m h sc
+    unfolding exec covered apply leaves
+    sc-loses o =
+        let d : Traps (answered base m (Step h)) → ⊥ = λ t. let z : _≡_ {A = ℕ} 0 1 = cc (t .2) in omega arith in
+        let c = bool-cases (coversOf 64 (reservationOf (m .state) h) (atomicAddress m h sc) (atomicSize sc))
+        (λ t. absurd (sc-failed d .0 o (sc-covered (aligned d) t))) (λ t. t) in
+        let q = next-by _ (T.sc-fails 64 (getD (m .state .pc) h 0) (sc .width) (sc .rd) (atomicAddress m h sc) _ covered (aligned d) c) in
+        record {
+          memory = ap (λ (n : Machine). n .mem) q;
+          register = λ z. ap (λ (n : Machine). regAt (n .state .x) h (sc .rd)) q ∙ set-own h (sc .rd) 1 (m .state .x) (omega (arith, v .1 .1)) (shaped .registers) z;
+        }
 
 -- a used hart's reservation after a run
 pub res-run : (base : ℕ) (m : Machine) → Valid base m → Shaped (m .state) → (h : ℕ) → h < m .state .count → (es : List Event)
@@ -125,20 +161,20 @@ module _ (base : ℕ) (m : Machine) (v : Valid base m) (s : Shaped (m .state)) (
     used = subst (λ (k : ℕ). h < k) (sym (count-run base m es)) u
 
     pub sc-succeeds : (answered base (runOf base m es) (Step h) ≡ ScStored)
-        ↔ Since 64 h (addressOf (runOf base m es) h sc) (sizeOf sc) (traceOf base m es)
+        ↔ Since 64 h (atomicAddress (runOf base m es) h sc) (atomicSize sc) (traceOf base m es)
     sc-succeeds =
         let p = sc-stored base (runOf base m es) (valid-run base m v es) h used sc f d in
-        let q = covered-exact (addressOf (runOf base m es) h sc) (sizeOf sc) in
+        let q = covered-exact (atomicAddress (runOf base m es) h sc) (atomicSize sc) in
         (λ o. q .0 (p .0 o), λ y. p .1 (q .1 y))
 
     pub sc-fails : (answered base (runOf base m es) (Step h) ≡ ScFailed)
-        ↔ (Since 64 h (addressOf (runOf base m es) h sc) (sizeOf sc) (traceOf base m es) → ⊥)
+        ↔ (Since 64 h (atomicAddress (runOf base m es) h sc) (atomicSize sc) (traceOf base m es) → ⊥)
     sc-fails =
         let p = sc-failed base (runOf base m es) (valid-run base m v es) h used sc f d in
         (λ o y. p .0 o (sc-succeeds .1 y), λ n. p .1 (λ o. n (sc-succeeds .0 o)))
 
   -- which SC traps, after any events
   module _ (sc : Atomic) (f : FetchesSc base (runOf base m es) h sc) where
-    pub sc-traps-run : Traps (answered base (runOf base m es) (Step h)) ↔ (addressOf (runOf base m es) h sc % sizeOf sc ≢ 0)
+    pub sc-traps-run : Traps (answered base (runOf base m es) (Step h)) ↔ (atomicAddress (runOf base m es) h sc % atomicSize sc ≢ 0)
     sc-traps-run =
         sc-traps base (runOf base m es) (valid-run base m v es) h (subst (λ (k : ℕ). h < k) (sym (count-run base m es)) u) sc f

@@ -23,7 +23,7 @@ use Rattle.isa.specs.declared.AtomicOp.the-variants.{Lr, Sc, Cas, CasPair, Rmw}
 use Rattle.isa.specs.declared.Atomic.{Atomic}
 use Rattle.isa.specs.declared.Instr.{Instr}
 use Rattle.isa.specs.declared.Instr.the-variants.{Illegal, Lui, Auipc, Jal, Jalr, Branch, Load, Store, OpImm, OpImm32, Op, Op32, Fence, Ecall, Ebreak, Amo}
-use Rattle.effect.specs.Effect.{Writes, Touch, nothing, reserve, store, scStore, scLose, Exec, trap, effect, offset}
+use Rattle.effect.specs.Effect.{Writes, Access, nothing, reserve, store, scStore, scLose, Exec, trap, effect, offset}
 use Rattle.effect.specs.Integer.{execJump, execBranch}
 use Rattle.effect.specs.Memory.{faultOf, checked, valueAt, storeBytes, execLoad, execStore}
 use Rattle.effect.specs.Atomic.{swapped, execLr, execSc, execAmo, execCas, execCasPair}
@@ -40,7 +40,7 @@ use Rattle.model.specs.declared.Outcome.the-variants as O
 use Rattle.model.proofs.Valid.{act-valid}
 use Rattle.model.proofs.Frame.{step-act}
 use Rattle.sc_history.specs.Sc.{answered, Traps, Refuses}
-use Rattle.sc_history.specs.Told.{toldSc, toldAtomic, toldBy, RetiredLr}
+use Rattle.sc_history.specs.Told.{toldSc, toldAtomic, noticeBy, RetiredLr}
 
 -- ---- the notice of each instruction
 
@@ -112,11 +112,11 @@ module _ (h : ℕ) where
     tells-branch true to = pick (λ (o : Outcome). Quiet) (eqb (to % 4) 0) _ _ (λ t. silent _ _) (λ f. trapped (λ (o : Outcome). Quiet) 0 to)
     tells-branch false to = silent _ _
 
-    tells : (i : Instr) (word : ℕ) → Tells (toldBy h x base mem i) (execute 64 i word x pc base mem covered)
+    tells : (i : Instr) (word : ℕ) → Tells (noticeBy h x base mem i) (execute 64 i word x pc base mem covered)
     unfolding execute execAtomic execLoad execStore
-    tells Illegal word = trapped (toldBy h x base mem Illegal) 2 word
-    tells Ecall word = trapped (toldBy h x base mem Ecall) 8 0
-    tells Ebreak word = trapped (toldBy h x base mem Ebreak) 3 0
+    tells Illegal word = trapped (noticeBy h x base mem Illegal) 2 word
+    tells Ecall word = trapped (noticeBy h x base mem Ecall) 8 0
+    tells Ebreak word = trapped (noticeBy h x base mem Ebreak) 3 0
     tells (Fence rd rs1 imm) word = silent _ _
     tells (Lui rd imm) word = silent _ _
     tells (Auipc rd imm) word = silent _ _
@@ -148,19 +148,19 @@ Happens O.ScFailed = Unit {0}
 Happens (O.Trap cause value) = ⊥
 Happens (O.Refused number) = ⊥
 
-happens-touch : (h : ℕ) (ws : Writes) (to : ℕ) (t : Touch) → Happens (told (change h ws to t))
+happens-access : (h : ℕ) (ws : Writes) (to : ℕ) (t : Access) → Happens (told (change h ws to t))
 unfolding Happens
-happens-touch h ws to nothing = tt
-happens-touch h ws to (reserve a w) = tt
-happens-touch h ws to (store a bs) = tt
-happens-touch h ws to (scStore a bs) = tt
-happens-touch h ws to scLose = tt
+happens-access h ws to nothing = tt
+happens-access h ws to (reserve a w) = tt
+happens-access h ws to (store a bs) = tt
+happens-access h ws to (scStore a bs) = tt
+happens-access h ws to scLose = tt
 
 quiet-or : (act : Act) → (actNotice act ≡ Quiet) ⊎ Happens (told act)
 unfolding Happens
 quiet-or (refuse number) = inl refl
 quiet-or (fault cause value) = inl refl
-quiet-or (change h ws to t) = inr (happens-touch h ws to t)
+quiet-or (change h ws to t) = inr (happens-access h ws to t)
 quiet-or (put a bs) = inr tt
 quiet-or (release h) = inr tt
 
@@ -176,11 +176,11 @@ notice-none base m e w =
 module _ (base : ℕ) (m : Machine) (v : Valid base m) where
   -- a retired step tells what its instruction does
   pub notice-step : (h : ℕ) → h < m .state .count → (i : Instr) → Fetches base m h i → (Traps (answered base m (Step h)) → ⊥)
-      → noticeAt base m (Step h) ≡ toldBy h (regAt (m .state .x) h) base (m .mem) i (answered base m (Step h))
+      → noticeAt base m (Step h) ≡ noticeBy h (regAt (m .state .x) h) base (m .mem) i (answered base m (Step h))
   unfolding answerOf Tells
   notice-step h u i f =
       subst
-      (λ (act : Act). (Traps (told act) → ⊥) → actNotice act ≡ toldBy h (regAt (m .state .x) h) base (m .mem) i (told act))
+      (λ (act : Act). (Traps (told act) → ⊥) → actNotice act ≡ noticeBy h (regAt (m .state .x) h) base (m .mem) i (told act))
       (sym (step-act base m v h u i f))
       (tells h (regAt (m .state .x) h) (getD (m .state .pc) h 0) base (m .mem) (coversOf 64 (reservationOf (m .state) h)) i
       (valueAt base (m .mem) (getD (m .state .pc) h 0) 4))
@@ -251,7 +251,7 @@ module _ (h : ℕ) (x : ℕ → ℕ) (base : ℕ) (mem : List ℕ) (o : Outcome)
   lr-op (Rmw op) i l = absurd l
 
   -- only an LR tells of one
-  lr-instr : (i : Instr) → IsLr (toldBy h x base mem i o) → (lr : Atomic) × (i ≡ Amo lr) × (lr .op ≡ Lr)
+  lr-instr : (i : Instr) → IsLr (noticeBy h x base mem i o) → (lr : Atomic) × (i ≡ Amo lr) × (lr .op ≡ Lr)
   unfolding IsLr
   lr-instr Illegal l = absurd l
   lr-instr Ecall l = absurd l
@@ -333,10 +333,10 @@ module _ (base : ℕ) (m : Machine) (v : Valid base m) where
         let p = fetched h l in
         let f : Fetches base m h i = record { inside = p .1; decodes = refl } in
         let r : o ≡ O.Retired = retired-lr (actOf base (m .mem) (m .state) (Step h)) l in
-        let n : noticeAt base m (Step h) ≡ toldBy h x base (m .mem) i o = notice-step base m v h (p .0) i f (λ t. subst NoTrap (sym r ∙ t .2) tt) in
+        let n : noticeAt base m (Step h) ≡ noticeBy h x base (m .mem) i o = notice-step base m v h (p .0) i f (λ t. subst NoTrap (sym r ∙ t .2) tt) in
         let c = lr-instr h x base (m .mem) o i (subst IsLr n l) in
         let e : LoadReserved h (x (c .0 .rs1)) (bytesOf (c .0 .width)) ≡ LoadReserved g a w =
-        sym (n ∙ ap (λ (j : Instr). toldBy h x base (m .mem) j o) (c .1) ∙ ap (λ (op : AtomicOp). toldAtomic h x base (m .mem) op (c .0) o) (c .2)) ∙ q in
+        sym (n ∙ ap (λ (j : Instr). noticeBy h x base (m .mem) j o) (c .1) ∙ ap (λ (op : AtomicOp). toldAtomic h x base (m .mem) op (c .0) o) (c .2)) ∙ q in
         let same : h ≡ g = cc in
         let address : x (c .0 .rs1) ≡ a = cc in
         let width : bytesOf (c .0 .width) ≡ w = cc in

@@ -1,7 +1,10 @@
 -- The words of demand 2's sentence on SC: "from a start without reservations an SC that doesn't trap succeeds exactly if the history since its
 -- hart's latest retired LR allows it".
 use mathlib.Core.Path.{_≡_}
-use Prim.Native.Nat.{ℕ, _<_}
+use mathlib.Core.Logic.{_≢_}
+use Prim.Native.Nat.{ℕ, _-_, _%_, _<_}
+use Rattle.word.specs.Bytes.{toLe}
+use Rattle.word.specs.Memory.{splice}
 use Rattle.reserve.specs.declared.Reservation.the-variants.{None}
 use Rattle.isa.specs.Width.{bytesOf}
 use Rattle.isa.specs.declared.AtomicOp.the-variants.{Sc}
@@ -10,7 +13,8 @@ use Rattle.isa.specs.declared.Instr.the-variants.{Amo}
 use Rattle.machine.specs.declared.State.{State}
 use Rattle.effect.specs.Execute.{regAt}
 use Rattle.events.specs.declared.Event.{Event}
-use Rattle.model.specs.Perform.{Machine, reservationOf, answerOf}
+use Rattle.events.specs.declared.Event.the-variants.{Step}
+use Rattle.model.specs.Perform.{Machine, reservationOf, answerOf, nextOf}
 use Rattle.model.specs.Fetch.{Fetches}
 use Rattle.model.specs.declared.Outcome.{Outcome}
 use Rattle.model.specs.declared.Outcome.the-variants.{Trap, Refused}
@@ -25,11 +29,11 @@ pub record FetchesSc (base : ℕ) (m : Machine) (h : ℕ) (sc : Atomic) : Type 0
   pub isSc : sc .op ≡ Sc
 
 -- an atomic instruction's address and bytes, for hart h
-abbrev pub addressOf : Machine → ℕ → Atomic → ℕ
-addressOf m h i = regAt (m .state .x) h (i .rs1)
+abbrev pub atomicAddress : Machine → ℕ → Atomic → ℕ
+atomicAddress m h i = regAt (m .state .x) h (i .rs1)
 
-abbrev pub sizeOf : Atomic → ℕ
-sizeOf i = bytesOf (i .width)
+abbrev pub atomicSize : Atomic → ℕ
+atomicSize i = bytesOf (i .width)
 
 -- the answer to an event
 abbrev pub answered : ℕ → Machine → Event → Outcome
@@ -41,3 +45,14 @@ Traps o = (cause : ℕ) × (value : ℕ) × (o ≡ Trap cause value)
 
 abbrev pub Refuses : Outcome → Type 0
 Refuses o = (number : ℕ) × (o ≡ Refused number)
+
+-- 01: "Success writes memory and puts 0 in rd": the low bytes of rs2 stand at the SC's address, the rest of memory is as it was, and rd is 0, unless it
+-- is x0
+pub record Stores (base : ℕ) (m : Machine) (h : ℕ) (sc : Atomic) : Type 0 where
+  pub memory : nextOf base m (Step h) .mem ≡ splice (m .mem) (atomicAddress m h sc - base) (toLe (atomicSize sc) (regAt (m .state .x) h (sc .rs2)))
+  pub register : sc .rd % 32 ≢ 0 → regAt (nextOf base m (Step h) .state .x) h (sc .rd) ≡ 0
+
+-- 01: "failure puts 1 in rd and writes nothing"
+pub record Loses (base : ℕ) (m : Machine) (h : ℕ) (sc : Atomic) : Type 0 where
+  pub memory : nextOf base m (Step h) .mem ≡ m .mem
+  pub register : sc .rd % 32 ≢ 0 → regAt (nextOf base m (Step h) .state .x) h (sc .rd) ≡ 1

@@ -23,7 +23,7 @@ use Rattle.model.specs.Perform.{Machine}
 use Rattle.model.specs.Fetch.{Fetches}
 use Rattle.model.specs.declared.Outcome.{Outcome}
 use Rattle.model.specs.declared.Outcome.the-variants as O
-use Rattle.sc_history.specs.Sc.{addressOf, sizeOf, answered}
+use Rattle.sc_history.specs.Sc.{atomicAddress, atomicSize, answered}
 
 -- hart h, its registers x and the memory before the step
 module _ (h : ℕ) (x : ℕ → ℕ) (base : ℕ) (mem : List ℕ) where
@@ -45,23 +45,23 @@ module _ (h : ℕ) (x : ℕ → ℕ) (base : ℕ) (mem : List ℕ) where
   toldAtomic (Rmw op) i o = Write h (x (i .rs1)) (bytesOf (i .width))
 
   -- a retired instruction with its answer
-  abbrev pub toldBy : Instr → Outcome → Notice
-  toldBy Illegal o = Quiet
-  toldBy Ecall o = Quiet
-  toldBy Ebreak o = Quiet
-  toldBy (Fence rd rs1 imm) o = Quiet
-  toldBy (Lui rd imm) o = Quiet
-  toldBy (Auipc rd imm) o = Quiet
-  toldBy (Jal rd imm) o = Quiet
-  toldBy (Jalr rd rs1 imm) o = Quiet
-  toldBy (Branch op rs1 rs2 imm) o = Quiet
-  toldBy (Load op rd rs1 imm) o = Quiet
-  toldBy (Store op rs1 rs2 imm) o = Write h (offset 64 (x rs1) imm) (storeBytes op)
-  toldBy (OpImm op rd rs1 imm) o = Quiet
-  toldBy (OpImm32 op rd rs1 imm) o = Quiet
-  toldBy (Op op rd rs1 rs2) o = Quiet
-  toldBy (Op32 op rd rs1 rs2) o = Quiet
-  toldBy (Amo i) o = toldAtomic (i .op) i o
+  abbrev pub noticeBy : Instr → Outcome → Notice
+  noticeBy Illegal o = Quiet
+  noticeBy Ecall o = Quiet
+  noticeBy Ebreak o = Quiet
+  noticeBy (Fence rd rs1 imm) o = Quiet
+  noticeBy (Lui rd imm) o = Quiet
+  noticeBy (Auipc rd imm) o = Quiet
+  noticeBy (Jal rd imm) o = Quiet
+  noticeBy (Jalr rd rs1 imm) o = Quiet
+  noticeBy (Branch op rs1 rs2 imm) o = Quiet
+  noticeBy (Load op rd rs1 imm) o = Quiet
+  noticeBy (Store op rs1 rs2 imm) o = Write h (offset 64 (x rs1) imm) (storeBytes op)
+  noticeBy (OpImm op rd rs1 imm) o = Quiet
+  noticeBy (OpImm32 op rd rs1 imm) o = Quiet
+  noticeBy (Op op rd rs1 rs2) o = Quiet
+  noticeBy (Op32 op rd rs1 rs2) o = Quiet
+  noticeBy (Amo i) o = toldAtomic (i .op) i o
 
 -- "its hart's .. retired LR": the event is hart h's step, its instruction is an LR of w bytes at a, and it retires
 pub record RetiredLr (base : ℕ) (m : Machine) (e : Event) (h a w : ℕ) : Type 0 where
@@ -69,6 +69,6 @@ pub record RetiredLr (base : ℕ) (m : Machine) (e : Event) (h a w : ℕ) : Type
   pub lr : Atomic
   pub fetches : Fetches base m h (Amo lr)
   pub isLr : lr .op ≡ Lr
-  pub address : addressOf m h lr ≡ a
-  pub width : sizeOf lr ≡ w
+  pub address : atomicAddress m h lr ≡ a
+  pub width : atomicSize lr ≡ w
   pub retires : answered base m e ≡ O.Retired

@@ -4,11 +4,13 @@ use mathlib.Core.Bool.{Bool, true, false, cond}
 use mathlib.Core.List.{List, [], _∷_, _++_}
 use Prim.Native.Nat.{ℕ, zero, suc, _+_, _*_, _-_, _/_, _%_, _^_, _≤_, _<_, zero-le}
 use borrow.Author.Tests.{lt-ltb, le-ltb, ltb-true, ltb-false}
-use native.Mathlib.Nat.{mod-lt, pow-suc, div-add-mod', zero-mul}
+use native.Mathlib.Nat.{mod-lt, pow-suc, div-add-mod', div-div-eq-div-mul, zero-mul}
 use native.Mathlib.Omega.{arith}
-use lib.Dec.{ltb, lit<, lit≤}
+use lib.Dec.{eqb, eqb→eq, ltb, lit<, lit≤}
 use lib.ListN.{length, length-append, getD}
+use Rattle.word.proofs.TableLaws.{rule-at}
 use Rattle.word.proofs.TestLaws.{bool-cases}
+use Rattle.text.specs.Ascii.{ascii}
 use Rattle.text.specs.Number.{glyph, decimalFrom, decimalOf, hexFrom, hexOf, digitOf, readFrom, Digits, Numeral}
 
 pub decimalFrom-le : (k n : ℕ) → length (decimalFrom k n) ≤ k
@@ -28,33 +30,75 @@ unfolding hexFrom
 length-hexFrom zero n = refl
 length-hexFrom (suc k) n = rw (length-append, length-hexFrom k (n / 16)) (omega arith)
 
-less : (k : ℕ) → suc k - 1 ≡ k
-less k = omega arith
-
-pub decimalFrom-none : (k n : ℕ) → k ≡ 0 → decimalFrom k n ≡ []
+decimalFrom-more : (k n : ℕ) → 10 ≤ n → decimalFrom (suc k) n ≡ decimalFrom k (n / 10) ++ (glyph (n % 10) ∷ [])
 unfolding decimalFrom
-decimalFrom-none zero n h = refl
-decimalFrom-none (suc k) n h = absurd (omega arith)
+decimalFrom-more k n h = rw (le-ltb n 10 h)
 
-pub decimalFrom-last : (k n : ℕ) → (k ≡ 0 → ⊥) → n < 10 → decimalFrom k n ≡ glyph n ∷ []
+-- places enough: one more makes no digit more
+decimalFrom-enough : (k n : ℕ) → n < 10 ^ suc k → decimalFrom (suc (suc k)) n ≡ decimalFrom (suc k) n
 unfolding decimalFrom
-decimalFrom-last zero n some h = absurd (some refl)
-decimalFrom-last (suc k) n some h = rw (lt-ltb n 10 h)
+decimalFrom-enough zero n h = rw (lt-ltb n 10 (omega arith))
+decimalFrom-enough (suc k) n h =
+    ap (λ (l : List ℕ). cond (ltb n 10) (glyph n ∷ []) (l ++ (glyph (n % 10) ∷ [])))
+    (decimalFrom-enough k (n / 10) (omega (arith, pow-suc 10 (suc k))))
 
-pub decimalFrom-more : (k n : ℕ) → (k ≡ 0 → ⊥) → 10 ≤ n → decimalFrom k n ≡ decimalFrom (k - 1) (n / 10) ++ (glyph (n % 10) ∷ [])
+-- a number below ten is its one digit; any other is the rest of it and then its last digit
+pub decimal-last : (n : ℕ) → n < 10 → decimalOf n ≡ glyph n ∷ []
 unfolding decimalFrom
-decimalFrom-more zero n some h = absurd (some refl)
-decimalFrom-more (suc k) n some h = rw (le-ltb n 10 h, less k)
+decimal-last n h = rw (lt-ltb n 10 h)
 
-pub hexFrom-none : (k n : ℕ) → k ≡ 0 → hexFrom k n ≡ []
+pub decimal-more : (n : ℕ) → 10 ≤ n → n < 2 ^ 64 → decimalOf n ≡ decimalOf (n / 10) ++ (glyph (n % 10) ∷ [])
+decimal-more n h k =
+    decimalFrom-more 19 n h
+    ∙ ap (λ (l : List ℕ). l ++ (glyph (n % 10) ∷ [])) (sym (decimalFrom-enough 18 (n / 10) (omega arith)))
+
+-- how many digits
+pub length-last : (n : ℕ) → n < 10 → length (decimalOf n) ≡ 1
+length-last n h = ap length (decimal-last n h)
+
+pub length-more : (n : ℕ) → 10 ≤ n → n < 2 ^ 64 → length (decimalOf n) ≡ length (decimalOf (n / 10)) + 1
+length-more n h k = ap length (decimal-more n h k) ∙ length-append (decimalOf (n / 10)) (glyph (n % 10) ∷ [])
+
+pub length-two : (n : ℕ) → 10 ≤ n → n < 100 → length (decimalOf n) ≡ 2
+length-two n h k = omega (arith, length-more n h (omega arith), length-last (n / 10) (omega arith))
+
+pub length-three : (n : ℕ) → 100 ≤ n → n < 1000 → length (decimalOf n) ≡ 3
+length-three n h k = omega (arith, length-more n (omega arith) (omega arith), length-two (n / 10) (omega arith) (omega arith))
+
+pub length-four : (n : ℕ) → 1000 ≤ n → n < 10000 → length (decimalOf n) ≡ 4
+length-four n h k = omega (arith, length-more n (omega arith) (omega arith), length-three (n / 10) (omega arith) (omega arith))
+
+-- four digits less
+by-four : (n : ℕ) → n / 10 / 10 / 10 / 10 ≡ n / 10000
+by-four n = div-div-eq-div-mul (n / 10 / 10) 10 10 ∙ div-div-eq-div-mul (n / 10) 10 100 ∙ div-div-eq-div-mul n 10 1000
+
+pub length-four-more : (n : ℕ) → 10000 ≤ n → n < 2 ^ 64 → length (decimalOf n) ≡ length (decimalOf (n / 10000)) + 4
+length-four-more n h k =
+    let a : length (decimalOf n) ≡ length (decimalOf (n / 10)) + 1 = length-more n (omega arith) k in
+    let b : length (decimalOf (n / 10)) ≡ length (decimalOf (n / 10 / 10)) + 1 = length-more (n / 10) (omega arith) (omega arith) in
+    let c : length (decimalOf (n / 10 / 10)) ≡ length (decimalOf (n / 10 / 10 / 10)) + 1 = length-more (n / 10 / 10) (omega arith) (omega arith) in
+    let d : length (decimalOf (n / 10 / 10 / 10)) ≡ length (decimalOf (n / 10 / 10 / 10 / 10)) + 1 =
+    length-more (n / 10 / 10 / 10) (omega arith) (omega arith) in
+    omega (arith, ap (λ (m : ℕ). length (decimalOf m)) (by-four n))
+
+-- a table of the characters of the hexadecimal digits
+abbrev pub hexTable : List ℕ
+hexTable = ascii "0123456789abcdef"
+
+entry : ℕ → ℕ → Bool
+entry d x = eqb x (glyph d)
+
+pub hex-glyph : (d : ℕ) → d < 16 → getD hexTable d 0 ≡ glyph d
+unfolding entry
+hex-glyph d h = eqb→eq (getD hexTable d 0) (glyph d) (rule-at entry hexTable tt d h)
+
+pub hexFrom-none : (n : ℕ) → hexFrom 0 n ≡ []
 unfolding hexFrom
-hexFrom-none zero n h = refl
-hexFrom-none (suc k) n h = absurd (omega arith)
+hexFrom-none n = refl
 
-pub hexFrom-more : (k n : ℕ) → (k ≡ 0 → ⊥) → hexFrom k n ≡ hexFrom (k - 1) (n / 16) ++ (glyph (n % 16) ∷ [])
+pub hexFrom-more : (k n : ℕ) → hexFrom (suc k) n ≡ hexFrom k (n / 16) ++ (glyph (n % 16) ∷ [])
 unfolding hexFrom
-hexFrom-more zero n some = absurd (some refl)
-hexFrom-more (suc k) n some = rw (less k)
+hexFrom-more k n = refl
 
 -- reading back
 

@@ -4,7 +4,7 @@ ghost use mathlib.Core.List.{_∷_, []};
 ghost use Prim.Native.Nat.{_+_, _≤_, _<_};
 ghost use lib.ListN.{length};
 ghost use Rattle.text.specs.Put.{Put};
-ghost use Rattle.text.specs.Number.{glyph as Number·glyph, decimalFrom, decimalOf, hexFrom, hexOf};
+ghost use Rattle.text.specs.Number.{glyph, decimalOf, hexOf};
 
 // One byte.
 pub fn put_byte(out: &mut [u8], at: usize, b: u8) -> usize
@@ -28,55 +28,67 @@ pub fn put_bytes(out: &mut [u8], at: usize, s: &[u8]) -> usize
     at + i
 }
 
-// The character of a digit.
-fn glyph(d: u64) -> u8
-    requires { ⌜ d < 16 ⌝ }
-    ensures { λ r. ⌜ r ≡ Number·glyph d ⌝ }
+// The character of a digit below ten.
+fn decimal_digit(d: u64) -> u8
+    requires { ⌜ d < 10 ⌝ }
+    ensures { λ r. ⌜ r ≡ glyph d ⌝ }
 {
-    if d < 10 { 48 + d as u8 } else { 87 + d as u8 }
+    48 + d as u8
 }
 
-// At most the last k decimal digits of n, the highest first: so the rest of n is put before its last digit.
-fn decimal_from(out: &mut [u8], at: usize, k: usize, n: u64) -> usize
-    requires { ⌜ at + k ≤ length (now out) ⌝ }
-    ensures { λ r. ⌜ Put (now (out .entry)) at (decimalFrom k n) (now (out .exit)) r ⌝ }
+// How many digits n has in decimal. Four are counted in a turn, so a number below 10000, as most are, takes none.
+fn decimal_length(n: u64) -> usize
+    ensures { λ r. ⌜ r ≡ length (decimalOf n) ⌝ }
 {
-    if k == 0 {
-        return at;
+    let mut k = 1;
+    let mut rest = n;
+    while 10000 <= rest {
+        rest /= 10000;
+        k += 4;
     }
-    if n < 10 {
-        return put_byte(out, at, glyph(n));
+    if rest < 10 {
+        return k;
     }
-    let p = decimal_from(out, at, k - 1, n / 10);
-    put_byte(out, p, glyph(n % 10))
+    if rest < 100 {
+        return k + 1;
+    }
+    if rest < 1000 {
+        return k + 2;
+    }
+    k + 3
 }
 
-// n in decimal.
+// n in decimal, from its last digit back to its first, which is what is left of n below ten.
 pub fn put_decimal(out: &mut [u8], at: usize, n: u64) -> usize
     requires { ⌜ at + 20 ≤ length (now out) ⌝ }
     ensures { λ r. ⌜ Put (now (out .entry)) at (decimalOf n) (now (out .exit)) r ⌝ }
     ensures { λ r. ⌜ r ≤ at + 20 ⌝ }
 {
-    decimal_from(out, at, 20, n)
-}
-
-// The last k hexadecimal digits of n.
-fn hex_from(out: &mut [u8], at: usize, k: usize, n: u64) -> usize
-    requires { ⌜ at + k ≤ length (now out) ⌝ }
-    ensures { λ r. ⌜ Put (now (out .entry)) at (hexFrom k n) (now (out .exit)) r ⌝ }
-{
-    if k == 0 {
-        return at;
+    let past = at + decimal_length(n);
+    let mut p = past;
+    let mut rest = n;
+    while 10 <= rest {
+        p -= 1;
+        out[p] = decimal_digit(rest % 10);
+        rest /= 10;
     }
-    let p = hex_from(out, at, k - 1, n / 16);
-    put_byte(out, p, glyph(n % 16))
+    out[at] = decimal_digit(rest);
+    past
 }
 
-// n in 16 hexadecimal digits.
+// n in 16 hexadecimal digits, from the last back to the first. A table of their characters is faster than a test of each digit.
 pub fn put_hex16(out: &mut [u8], at: usize, n: u64) -> usize
     requires { ⌜ at + 16 ≤ length (now out) ⌝ }
     ensures { λ r. ⌜ Put (now (out .entry)) at (hexOf n) (now (out .exit)) r ⌝ }
     ensures { λ r. ⌜ r ≡ at + 16 ⌝ }
 {
-    hex_from(out, at, 16, n)
+    let digits = b"0123456789abcdef";
+    let mut i = 16;
+    let mut rest = n;
+    while 0 < i {
+        i -= 1;
+        out[at + i] = digits[(rest % 16) as usize];
+        rest /= 16;
+    }
+    at + 16
 }

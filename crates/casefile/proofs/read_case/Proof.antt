@@ -1,6 +1,6 @@
 use mathlib.Core.Path.{sym, subst, _∙_}
 use lib.ListN.{length}
-use Rattle.casefile.specs.Table.{Inside}
+use Rattle.casefile.specs.Table.{InsideFile}
 use Rattle.casefile.specs.Case.{caseOf}
 use Rattle.casefile.specs.declared.Found.{Found}
 use Rattle.casefile.proofs.TableLaws.{table-inside}
@@ -29,7 +29,7 @@ enum-known-memory c = search needs
 read-bodies-requires : tie.Need-read-bodies-requires
 read-bodies-requires c κs =
     let file = c .before .before .before .before .before .args .file .now in
-    let i = subst (λ (f : Found). Inside (length file) f) (sym (c .before .before .before .read-table .ensures) ∙ c .before .memory .given .1) (table-inside file) in
+    let i = subst (λ (f : Found). InsideFile (length file) f) (sym (c .before .before .before .read-table .ensures) ∙ c .before .memory .given .1) (table-inside file) in
     ((i .0, i .1), (i .2, i .3))
 
 returns : tie.Need-returns

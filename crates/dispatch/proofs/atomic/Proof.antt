@@ -1,6 +1,6 @@
 use mathlib.Core.Path.{sym}
 use Rattle.effect.specs.Execute.{execAtomic}
-use Rattle.exec.proofs.LeavesLaws.{leaves-lr}
+use Rattle.exec.proofs.MemoryByLaws.{memoryBy-lr}
 use borrow.Author.Needs.{needs}
 use Rattle.dispatch.proofs.atomic.Statement.{statement}
 use Rattle.dispatch.proofs.atomic.Tie as tie
@@ -61,7 +61,7 @@ same-length c = search needs
 
 returns : tie.Need-returns
 unfolding execAtomic
-returns c = rw (c .before .before .enum-told .given .1, ← c .before .before .before .before .reg .ensures) (record { answer = c .lr .ensures; memory = sym (leaves-lr _ _ 64 _ _ _ _) })
+returns c = rw (c .before .before .enum-told .given .1, ← c .before .before .before .before .reg .ensures) (record { answer = c .lr .ensures; memory = sym (memoryBy-lr _ _ 64 _ _ _ _) })
 
 same-length-2 : tie.Need-same-length-2
 same-length-2 c = search needs

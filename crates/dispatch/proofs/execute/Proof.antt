@@ -1,6 +1,6 @@
 use mathlib.Core.Path.{refl, sym}
 use Rattle.effect.specs.Execute.{execute}
-use Rattle.exec.proofs.LeavesLaws.{leaves-jump, leaves-branch, leaves-load}
+use Rattle.exec.proofs.MemoryByLaws.{memoryBy-jump, memoryBy-branch, memoryBy-load}
 use borrow.Author.Needs.{needs}
 use Rattle.dispatch.proofs.execute.Statement.{statement}
 use Rattle.dispatch.proofs.execute.Tie as tie
@@ -149,18 +149,18 @@ returns-3 c = rw (c .before .before .before .i2 .given .1, ← c .before .plus .
 returns-4 : tie.Need-returns-4
 unfolding execute
 returns-4 c =
-    rw (c .before .before .before .i3 .given .1, ← c .before .plus2 .ensures) (record { answer = c .jump .ensures _; memory = sym (leaves-jump _ _ 64 _ _ _) })
+    rw (c .before .before .before .i3 .given .1, ← c .before .plus2 .ensures) (record { answer = c .jump .ensures _; memory = sym (memoryBy-jump _ _ 64 _ _ _) })
 
 returns-5 : tie.Need-returns-5
 unfolding execute
 returns-5 c =
     rw (c .before .before .before .before .i4 .given .1, ← c .before .before .reg .ensures, ← c .before .plus3 .ensures)
-    (record { answer = c .jump2 .ensures _; memory = sym (leaves-jump _ _ 64 _ _ _) })
+    (record { answer = c .jump2 .ensures _; memory = sym (memoryBy-jump _ _ 64 _ _ _) })
 
 returns-6 : tie.Need-returns-6
 unfolding execute
 returns-6 c =
-    rw (c .before .before .before .i5 .given .1, ← c .before .plus4 .ensures) (record { answer = c .branch .ensures; memory = sym (leaves-branch _ _ 64 _ _ _) })
+    rw (c .before .before .before .i5 .given .1, ← c .before .plus4 .ensures) (record { answer = c .branch .ensures; memory = sym (memoryBy-branch _ _ 64 _ _ _) })
 
 same-length : tie.Need-same-length
 same-length c = search needs
@@ -169,7 +169,7 @@ returns-7 : tie.Need-returns-7
 unfolding execute
 returns-7 c =
     rw (c .before .before .before .before .before .i6 .given .1, ← c .before .before .before .reg2 .ensures, ← c .before .before .plus5 .ensures)
-    (record { answer = c .load .ensures _; memory = sym (leaves-load _ _ 64 _ _ _ _) })
+    (record { answer = c .load .ensures _; memory = sym (memoryBy-load _ _ 64 _ _ _ _) })
 
 same-length-2 : tie.Need-same-length-2
 same-length-2 c = search needs

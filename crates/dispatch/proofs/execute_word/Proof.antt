@@ -1,4 +1,8 @@
-use Rattle.effect.specs.Execute.{executeWord}
+use mathlib.Core.Path.{subst}
+use Rattle.reserve.specs.Reserve.{coversOf}
+use Rattle.isa.specs.declared.Instr.{Instr}
+use Rattle.effect.specs.Effect.{Meets}
+use Rattle.effect.specs.Execute.{regAt, execute, executeWord}
 use borrow.Author.Needs.{needs}
 use Rattle.dispatch.proofs.execute_word.Statement.{statement}
 use Rattle.dispatch.proofs.execute_word.Tie as tie
@@ -14,7 +18,10 @@ same-length c = search needs
 
 returns : tie.Need-returns
 unfolding executeWord
-returns c = rw (← c .before .before .before .before .decode .ensures) (c .before .before .execute .ensures)
+returns c =
+    let a = c .before .before .before .before .before .before .args in
+    subst (λ (i : Instr). Meets (a .h) (execute 64 i (a .word) (regAt (a .x .now) (a .h)) (a .pc) (a .base) (a .mem .now) (coversOf 64 (a .res))) (a .base) (a .mem .now) (c .before .before .execute .result) (c .before .before .execute .last .1 .1 .1 .1 .1 .1 .1 .0))
+    (c .before .before .before .before .decode .ensures) (c .before .before .execute .ensures)
 
 pub execute-word-spec : {M : Type 1} → statement M
 execute-word-spec =

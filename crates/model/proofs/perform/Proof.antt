@@ -1,10 +1,17 @@
 use mathlib.Core.Path.{_≡_, refl, sym, ap, ap₂, _∙_}
+use mathlib.Core.List.{List}
 use borrow.Author.Tests.{ne-eqb}
+use lib.ListN.{length}
+use Rattle.reserve.specs.Lent.{slotsIn}
+use Rattle.reserve.specs.declared.Slot.{Slot}
+use Rattle.machine.specs.State.{refusalOf}
 use Rattle.machine.specs.declared.State.{State}
-use Rattle.model.specs.Act.{apply, leaves}
+use Rattle.model.specs.Act.{told, apply, leaves}
 use Rattle.model.specs.Perform.{Machine, actOf, answerOf, memoryOf, nextOf}
+use Rattle.model.specs.Advance.{stateFrom}
 use Rattle.model.specs.declared.Outcome.{Outcome}
-use Rattle.model.proofs.AdvanceLaws.{advanced-next, advanced-answer}
+use Rattle.model.proofs.AdvanceLaws.{refused-same, advanced-next, advanced-answer}
+use Prim.Native.Nat.{ℕ}
 use borrow.Author.Needs.{needs}
 use Rattle.model.proofs.perform.Statement.{statement}
 use Rattle.model.proofs.perform.Tie as tie
@@ -16,8 +23,16 @@ returns : tie.Need-returns
 unfolding answerOf memoryOf actOf apply leaves
 returns c = rw (← c .before .refusal .ensures, ne-eqb _ _ (c .if1 .taken)) (refl, refl)
 
+lend-requires : tie.Need-lend-requires
+lend-requires c κs = search needs
+
 advance-requires : tie.Need-advance-requires
-advance-requires c κs = sym (c .before .before .before .before .refusal .ensures) ∙ c .before .before .before .if1 .left
+advance-requires c κs =
+    let a = c .before .before .before .before .before .before .before .before .before .before .before .before .before .args in
+    refused-same (a .base) (a .mem .now) (a .s) (c .before .before .before .before .lend .ensures) ∙ sym (c .before .before .before .before .before .before .refusal .ensures) ∙ c .before .before .before .before .before .if1 .left
+
+slots-requires : tie.Need-slots-requires
+slots-requires c κs = search needs
 
 same-length : tie.Need-same-length
 same-length c = search needs
@@ -25,12 +40,18 @@ same-length c = search needs
 returns-2 : tie.Need-returns-2
 unfolding answerOf memoryOf nextOf
 returns-2 c =
-    let a = c .before .before .before .before .before .before .before .before .before .before .before .before .before .before .before .args in
+    let a = c .before .before .before .before .before .before .before .before .before .before .before .before .before .before .before .before .before .before .args in
     let s = a .s in
-    let none = sym (c .before .before .before .before .before .before .before .before .refusal .ensures) ∙ c .before .before .before .before .before .before .before .if1 .left in
-    let q = advanced-next (a .base) (s .count) (s .x) (s .pc) (a .mem .now) (s .res) none (a .e) _ _ _ _ (c .before .before .before .advance .ensures) in
-    let t = advanced-answer (a .base) (s .count) (s .x) (s .pc) (a .mem .now) (s .res) none (a .e) _ _ _ _ (c .before .before .before .advance .ensures) in
-    (ap₂ (λ (o : Outcome) (n : State). record { outcome = o; state = n }) t (ap (λ (m : Machine). m .state) q), ap (λ (m : Machine). m .mem) q)
+    let l = slotsIn (c .before .before .before .before .before .before .before .before .before .lend .result) in
+    let m = a .mem .now in
+    let same = c .before .before .before .before .before .before .before .before .before .lend .ensures in
+    let none = refused-same (a .base) m s same ∙ sym (c .before .before .before .before .before .before .before .before .before .before .before .refusal .ensures) ∙ c .before .before .before .before .before .before .before .before .before .before .if1 .left in
+    let q = advanced-next (a .base) (s .count) (s .x) (s .pc) m l none (a .e) _ _ _ _ _ (c .before .before .before .before .advance .ensures)
+    ∙ ap (λ (k : List Slot). nextOf (a .base) (record { state = stateFrom (s .count) (s .x) (s .pc) k; mem = m }) (a .e)) same in
+    let t = advanced-answer (a .base) (s .count) (s .x) (s .pc) m l none (a .e) _ _ _ _ _ (c .before .before .before .before .advance .ensures)
+    ∙ ap (λ (k : List Slot). told (actOf (a .base) m (stateFrom (s .count) (s .x) (s .pc) k) (a .e))) same in
+    let after = ap (λ (k : List Slot). stateFrom (s .count) (c .before .before .before .before .advance .last .0) (c .before .before .before .before .advance .last .1 .0) k) (c .slots .ensures) in
+    (ap₂ (λ (o : Outcome) (n : State). record { outcome = o; state = n }) t (after ∙ ap (λ (n : Machine). n .state) q), ap (λ (n : Machine). n .mem) q)
 
 pub perform-spec : {M : Type 1} → statement M
 perform-spec =
@@ -38,6 +59,8 @@ perform-spec =
     (tie.spec
     refusal-requires
     returns
+    lend-requires
     advance-requires
+    slots-requires
     same-length
     returns-2)

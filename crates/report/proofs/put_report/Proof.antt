@@ -1,12 +1,8 @@
+use mathlib.Core.Path.{_≡_, subst}
 use native.Mathlib.Omega.{arith}
-use mathlib.Core.Path.{_≡_, sym, _∙_, ap, subst}
-use mathlib.Core.List.{List}
-use Rattle.text.proofs.PutLaws.{as-text}
-use Rattle.casefile.specs.Case.{caseOf, SoundAs, Sound}
-use Rattle.casefile.specs.declared.Case.{Case}
+use Rattle.casefile.specs.Case.{SoundCaseAs}
 use Rattle.casefile.specs.declared.Found.{Found}
-use Rattle.report.specs.Report.{reportOf, textOf, textOfCase}
-use mathlib.Core.Path.{_≡_, sym, _∙_, subst}
+use Rattle.report.specs.Report.{reportOf}
 use borrow.Author.Needs.{needs}
 use Rattle.report.proofs.put_report.Statement.{statement}
 use Rattle.report.proofs.put_report.Tie as tie
@@ -25,9 +21,9 @@ enum-known-found-2 c = search needs
 
 put-bodies-requires : tie.Need-put-bodies-requires
 put-bodies-requires c κs =
-    let k = c .before .before .before .before .before .before .read-case in
-    let t = subst (λ (f : Found). SoundAs (c .before .before .before .before .before .before .before .before .before .before .args .file .now) (k .result .base) (k .result .state) f) (c .before .before .before .found2 .given .1) (k .ensures .1) in
-    (c .before .before .before .before .before .before .before .before .before .before .pre, ((t .0, t .1, t .2, t .3), t .4))
+    let k = c .before .before .before .before .before .read-case in
+    let t = subst (λ (f : Found). SoundCaseAs (c .before .before .before .before .before .before .before .before .args .file .now) (k .result .base) (k .result .state) f) (c .before .before .found2 .given .1) (k .ensures .1) in
+    (c .before .before .before .before .before .before .before .before .pre, ((t .0, t .1, t .2, t .3), t .4))
 
 same-length : tie.Need-same-length
 same-length c = search needs
@@ -40,12 +36,9 @@ returns c =
 same-length-2 : tie.Need-same-length-2
 same-length-2 c = search needs
 
-same-length-3 : tie.Need-same-length-3
-same-length-3 c = search needs
-
 returns-2 : tie.Need-returns-2
 unfolding reportOf
-returns-2 c = (rw (← c .before .before .before .before .before .before .before .before .before .before .before .read-case .ensures .0, c .before .before .before .before .before .before .before .before .found2 .given .1) (c .before .before .before .before .put-bodies .ensures .0), c .before .before .before .before .put-bodies .ensures .1)
+returns-2 c = (rw (← c .before .before .before .before .before .before .before .before .read-case .ensures .0, c .before .before .before .before .before .found2 .given .1) (c .before .before .put-bodies .ensures .0), c .before .before .put-bodies .ensures .1)
 
 pub put-report-spec : {M : Type 1} → statement M
 put-report-spec =
@@ -59,5 +52,4 @@ put-report-spec =
     same-length
     returns
     same-length-2
-    same-length-3
     returns-2)

@@ -1,6 +1,6 @@
 use mathlib.Core.Path.{ap, _∙_}
 use native.Mathlib.Omega.{arith}
-use Rattle.effect.specs.Effect.{told}
+use Rattle.effect.specs.Effect.{doneOf}
 use Rattle.effect.specs.Memory.{valueAt}
 use Rattle.effect.specs.Atomic.{execLr}
 use Rattle.exec.proofs.AccessLaws.{trapped, passed, room}
@@ -16,7 +16,7 @@ fault-requires c κs = search needs
 
 returns : tie.Need-returns
 unfolding execLr
-returns c = rw (← c .before .before .bytes-of .ensures .0) (ap (told _) (trapped 4 5 _ _ _ _ _ (c .before .fault .ensures) _ (c .if1 .taken)))
+returns c = rw (← c .before .before .bytes-of .ensures .0) (ap (doneOf _) (trapped 4 5 _ _ _ _ _ (c .before .fault .ensures) _ (c .if1 .taken)))
 
 sub-load-at : tie.Need-sub-load-at
 sub-load-at c = let i = room 4 5 _ _ _ _ _ (c .before .fault .ensures) (omega arith) (omega arith) (c .if1 .left) in omega arith
@@ -39,7 +39,7 @@ returns-2 : tie.Need-returns-2
 unfolding execLr valueAt
 returns-2 c =
     rw (← c .before .before .before .before .before .before .bytes-of .ensures .0, ← c .before .before .bits-of .ensures .0, ← c .before .before .before .load-at .ensures, ← c .before .sign-extend .ensures)
-    (c .retire .ensures ∙ ap (told _) (passed 4 5 _ _ _ _ _ (c .before .before .before .before .before .fault .ensures) _ (c .before .before .before .before .if1 .left)))
+    (c .retire .ensures ∙ ap (doneOf _) (passed 4 5 _ _ _ _ _ (c .before .before .before .before .before .fault .ensures) _ (c .before .before .before .before .if1 .left)))
 
 pub lr-spec : {M : Type 1} → statement M
 lr-spec =

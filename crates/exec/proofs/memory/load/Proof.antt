@@ -1,6 +1,6 @@
 use mathlib.Core.Path.{ap, _∙_}
 use native.Mathlib.Omega.{arith}
-use Rattle.effect.specs.Effect.{told}
+use Rattle.effect.specs.Effect.{doneOf}
 use Rattle.effect.specs.Memory.{valueAt, execLoad}
 use Rattle.exec.proofs.AccessLaws.{trapped, passed, room}
 use borrow.Author.Needs.{needs}
@@ -16,7 +16,7 @@ fault-requires c κs = search needs
 returns : tie.Need-returns
 unfolding execLoad
 returns c = λ h.
-    rw (← c .before .before .load-bytes .ensures .0) (ap (told h) (trapped 4 5 _ _ _ _ _ (c .before .fault .ensures) _ (c .if1 .taken)))
+    rw (← c .before .before .load-bytes .ensures .0) (ap (doneOf h) (trapped 4 5 _ _ _ _ _ (c .before .fault .ensures) _ (c .if1 .taken)))
 
 sub-load-at : tie.Need-sub-load-at
 sub-load-at c = let i = room 4 5 _ _ _ _ _ (c .before .fault .ensures) (omega arith) (omega arith) (c .if1 .left) in omega arith
@@ -36,7 +36,7 @@ returns-2 : tie.Need-returns-2
 unfolding execLoad valueAt
 returns-2 c = λ h.
     rw (← c .before .before .before .before .before .load-bytes .ensures .0, ← c .before .before .load-at .ensures, ← c .before .extend .ensures)
-    (c .retire .ensures ∙ ap (told h) (passed 4 5 _ _ _ _ _ (c .before .before .before .before .fault .ensures) _ (c .before .before .before .if1 .left)))
+    (c .retire .ensures ∙ ap (doneOf h) (passed 4 5 _ _ _ _ _ (c .before .before .before .before .fault .ensures) _ (c .before .before .before .if1 .left)))
 
 pub load-spec : {M : Type 1} → statement M
 load-spec =

@@ -3,14 +3,14 @@ use mathlib.Core.Path.{_≡_, sym, _∙_}
 use mathlib.Core.Bool.{Bool, true, false, cond, _&&_}
 use Prim.Native.Nat.{ℕ}
 use Rattle.isa.specs.Fields.{rdOf, rs2Of}
-use Rattle.isa.specs.Decode.{casPairOf, atomicAs, even}
+use Rattle.isa.specs.Decode.{casPairOf, atomicAs, isEven}
 use Rattle.isa.specs.declared.AtomicOp.the-variants.{CasPair}
 use Rattle.isa.specs.declared.Width.the-variants.{Double}
 use Rattle.isa.specs.declared.Instr.the-variants.{Illegal}
 use Rattle.isa.proofs.amo.cas_pair.Statement.{statement}
 use Rattle.isa.proofs.amo.cas_pair.Tie as tie
 
-by-test : (w : ℕ) (t : Bool) → even (rdOf w) && even (rs2Of w) ≡ t → casPairOf w ≡ cond t (atomicAs w CasPair Double) Illegal
+by-test : (w : ℕ) (t : Bool) → isEven (rdOf w) && isEven (rs2Of w) ≡ t → casPairOf w ≡ cond t (atomicAs w CasPair Double) Illegal
 unfolding casPairOf
 by-test w t e = rw e
 

@@ -2,18 +2,18 @@ use mathlib.Core.Path.{_≡_, refl, sym, ap, _∙_}
 use native.Mathlib.Omega.{arith}
 use borrow.Author.Tests.{lt-ltb, le-ltb}
 use lib.ListN.{length}
+use Rattle.reserve.specs.Lent.{slotsIn}
 use Rattle.machine.specs.Rules.{MemoryRules, StateRules}
 use Rattle.machine.proofs.StateLaws.{refusal-0}
 use Rattle.model.specs.Act.{leaves}
 use Rattle.model.specs.Perform.{actOn}
 use Rattle.model.specs.Advance.{stateFrom}
-use Rattle.model.specs.declared.Advanced.{Advanced}
 use Rattle.model.proofs.AdvanceLaws.{device-registers, device-counters}
 use borrow.Author.Needs.{needs}
 use Rattle.model.proofs.advance.advance.Statement.{statement}
 use Rattle.model.proofs.advance.advance.Tie as tie
 
-rules : (c : tie.Start) → MemoryRules (c .args .base) (length (c .args .mem .now)) × StateRules (c .args .base) (length (c .args .mem .now)) (stateFrom (c .args .count) (c .args .x .now) (c .args .pc .now) (c .args .res))
+rules : (c : tie.Start) → MemoryRules (c .args .base) (length (c .args .mem .now)) × StateRules (c .args .base) (length (c .args .mem .now)) (stateFrom (c .args .count) (c .args .x .now) (c .args .pc .now) (slotsIn (c .args .t .now)))
 rules c = refusal-0 _ _ _ .0 (c .pre)
 
 enum-known-e : tie.Need-enum-known-e
@@ -27,49 +27,31 @@ same-length c = search needs
 
 returns : tie.Need-returns
 unfolding actOn
-returns c = rw (c .before .before .before .before .before .before .before .before .e .given .1, lt-ltb _ _ (c .before .before .before .before .before .before .if1 .taken)) (c .before .before .step-hart .ensures)
-
-refused-requires : tie.Need-refused-requires
-refused-requires c κs = search needs
+returns c = rw (c .before .before .before .before .before .before .before .before .before .e .given .1, lt-ltb _ _ (c .before .before .before .before .before .before .before .if1 .taken)) (c .before .before .step-hart .ensures)
 
 enum-known-e-2 : tie.Need-enum-known-e-2
 enum-known-e-2 c = search needs
 
 write-device-requires : tie.Need-write-device-requires
-write-device-requires c κs = omega (arith, rules (c .before .before .before .before .before) .1 .1)
+write-device-requires c κs = omega (arith, rules (c .before .before .before .before .before .before) .1 .1)
 
 enum-known-e-3 : tie.Need-enum-known-e-3
 enum-known-e-3 c = search needs
 
 release-hart-requires : tie.Need-release-hart-requires
-release-hart-requires c κs = omega (arith, rules (c .before .before .before .before .before) .1 .1)
+release-hart-requires c κs = omega (arith, rules (c .before .before .before .before .before .before) .1 .1)
 
 returns-2 : tie.Need-returns-2
 unfolding actOn leaves
 returns-2 c =
-    rw (c .before .before .before .e3 .given .1, lt-ltb _ _ (c .before .if2 .taken))
-    (record {
-      outcome = ap (λ (r : Advanced). r .outcome) (c .release-hart .ensures);
-      slots = ap (λ (r : Advanced). r .slots) (c .release-hart .ensures);
-      registers = refl;
-      counters = refl;
-      memory = refl;
-    })
-
-refused-requires-2 : tie.Need-refused-requires-2
-refused-requires-2 c κs = search needs
+    rw (c .before .before .before .before .e3 .given .1, lt-ltb _ _ (c .before .before .if2 .taken))
+    (record { outcome = c .release-hart .ensures .0; slots = c .release-hart .ensures .1; registers = refl; counters = refl; memory = refl })
 
 returns-3 : tie.Need-returns-3
 unfolding actOn leaves
 returns-3 c =
-    rw (c .before .before .before .e .given .1, le-ltb _ _ (c .before .if1 .left))
-    (record {
-      outcome = ap (λ (r : Advanced). r .outcome) (c .refused .ensures);
-      slots = ap (λ (r : Advanced). r .slots) (c .refused .ensures);
-      registers = refl;
-      counters = refl;
-      memory = refl;
-    })
+    rw (c .before .before .e .given .1, le-ltb _ _ (c .if1 .left))
+    (record { outcome = refl; slots = refl; registers = refl; counters = refl; memory = refl })
 
 same-length-2 : tie.Need-same-length-2
 same-length-2 c = search needs
@@ -77,27 +59,21 @@ same-length-2 c = search needs
 returns-4 : tie.Need-returns-4
 unfolding actOn
 returns-4 c =
-    let a = c .before .before .before .before .before .before .before .before .args in
-    rw (c .before .before .before .before .before .e2 .given .1)
+    let w = c .before .before .write-device .ensures in
+    rw (c .before .before .before .before .before .before .e2 .given .1)
     (record {
-      outcome = ap (λ (r : Advanced). r .outcome) (c .before .before .write-device .ensures .0);
-      slots = ap (λ (r : Advanced). r .slots) (c .before .before .write-device .ensures .0);
+      outcome = w .0;
+      slots = w .1 .0;
       registers = sym (device-registers _ _ _ _ _ _);
       counters = sym (device-counters _ _ _ _ _ _);
-      memory = c .before .before .write-device .ensures .1;
+      memory = w .1 .1;
     })
 
 returns-5 : tie.Need-returns-5
 unfolding actOn leaves
 returns-5 c =
-    rw (c .before .before .before .e3 .given .1, le-ltb _ _ (c .before .if2 .left))
-    (record {
-      outcome = ap (λ (r : Advanced). r .outcome) (c .refused2 .ensures);
-      slots = ap (λ (r : Advanced). r .slots) (c .refused2 .ensures);
-      registers = refl;
-      counters = refl;
-      memory = refl;
-    })
+    rw (c .before .before .e3 .given .1, le-ltb _ _ (c .if2 .left))
+    (record { outcome = refl; slots = refl; registers = refl; counters = refl; memory = refl })
 
 pub advance-spec : {M : Type 1} → statement M
 advance-spec =
@@ -107,13 +83,11 @@ advance-spec =
     step-hart-requires
     same-length
     returns
-    refused-requires
     enum-known-e-2
     write-device-requires
     enum-known-e-3
     release-hart-requires
     returns-2
-    refused-requires-2
     returns-3
     same-length-2
     returns-4

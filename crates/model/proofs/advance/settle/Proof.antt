@@ -1,4 +1,6 @@
-use Rattle.model.specs.Advance.{settledBy}
+use mathlib.Core.Path.{_≡_, refl, sym, ap, _∙_}
+use Rattle.reserve.specs.Reserve.{Observed}
+use Rattle.model.specs.Advance.{slotsBy, toldBy}
 use borrow.Author.Needs.{needs}
 use Rattle.model.proofs.advance.settle.Statement.{statement}
 use Rattle.model.proofs.advance.settle.Tie as tie
@@ -16,20 +18,14 @@ enum-known-d-2 : tie.Need-enum-known-d-2
 enum-known-d-2 c = search needs
 
 returns : tie.Need-returns
-unfolding settledBy
-returns c = rw (c .before .before .before .before .d .given .1, ← c .before .before .observe .ensures, ← c .retired-as .ensures)
+unfolding toldBy slotsBy
+returns c = rw (c .before .before .before .before .d .given .1) (c .retired-as .ensures, ap (λ (o : Observed). o .slots) (c .before .observe .ensures))
 
 returns-2 : tie.Need-returns-2
-unfolding settledBy
-returns-2 c = rw (c .before .d2 .given .1)
+unfolding toldBy slotsBy
+returns-2 c = rw (c .before .d2 .given .1) (refl, refl)
 
 pub settle-spec : {M : Type 1} → statement M
 settle-spec =
     tie.close
-    (tie.spec
-    enum-known-d
-    observe-requires
-    retired-as-requires
-    enum-known-d-2
-    returns
-    returns-2)
+    (tie.spec enum-known-d observe-requires retired-as-requires enum-known-d-2 returns returns-2)

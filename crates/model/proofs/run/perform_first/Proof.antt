@@ -3,6 +3,7 @@ use Prim.Native.Nat.{ℕ, _+_, _-_, _*_, _≤_}
 use native.Mathlib.Nat.{sub-zero}
 use native.Mathlib.Omega.{arith}
 use lib.ListN.{length, take, drop, length-take, length-drop}
+use Rattle.reserve.specs.Lent.{slotsIn}
 use Rattle.machine.specs.State.{refusalOf}
 use Rattle.events.specs.Events.{eventOf, firstEvents}
 use Rattle.events.specs.declared.Event.{Event}
@@ -13,16 +14,19 @@ use borrow.Author.Needs.{needs}
 use Rattle.model.proofs.run.perform_first.Statement.{statement}
 use Rattle.model.proofs.run.perform_first.Tie as tie
 
+width : (i : ℕ) → i * 24 + 24 - i * 24 ≡ 24
+width i = omega arith
+
 abbrev Inv-loop : tie.InvT-loop
-Inv-loop x₀ pc₀ count base mem₀ body n slots₀ i₀ x pc mem slots i =
+Inv-loop x₀ pc₀ t₀ count base mem₀ body n i₀ x pc t mem i =
     (i ≤ n)
     × (length mem ≡ length mem₀)
-    × (refusalOf base (length mem) (stateFrom count x pc slots) ≡ 0)
-    × (runOf base (record { state = stateFrom count x pc slots; mem = mem }) (firstEvents (n - i) (drop (i * 24) body))
-    ≡ runOf base (record { state = stateFrom count x₀ pc₀ slots₀; mem = mem₀ }) (firstEvents n body))
+    × (refusalOf base (length mem) (stateFrom count x pc (slotsIn t)) ≡ 0)
+    × (runOf base (record { state = stateFrom count x pc (slotsIn t); mem = mem }) (firstEvents (n - i) (drop (i * 24) body))
+    ≡ runOf base (record { state = stateFrom count x₀ pc₀ (slotsIn t₀); mem = mem₀ }) (firstEvents n body))
 
 abbrev μ-loop : tie.MeasureT-loop
-μ-loop x₀ pc₀ count base mem₀ body n slots₀ i₀ x pc mem slots i = n - i
+μ-loop x₀ pc₀ t₀ count base mem₀ body n i₀ x pc t mem i = n - i
 
 loop-holds : tie.Need-loop-holds Inv-loop μ-loop
 loop-holds c = (search needs, refl, c .before .before .pre .0, rw sub-zero refl)
@@ -46,7 +50,7 @@ read-event-requires : tie.Need-read-event-requires Inv-loop μ-loop
 read-event-requires c κs = simp (length-take, length-drop) (omega arith)
 
 advance-requires : tie.Need-advance-requires Inv-loop μ-loop
-advance-requires c κs = c .before .before .before .before .before .before .loop .inv .2
+advance-requires c κs = c .before .before .before .before .before .before .before .loop .inv .2
 
 add-i : tie.Need-add-i Inv-loop μ-loop
 add-i c = omega arith
@@ -59,19 +63,19 @@ unfolding runOf
 loop-again c =
     let a = c .before .before .before .before .before .before .before .before .before .before .before .before .before .args in
     let l = c .before .before .before .before .before .before .before .before .before .before .loop in
-    let b = a .body .now in
-    let here : Machine = record { state = stateFrom (a .count) (l .x) (l .pc) (l .slots); mem = l .mem } in
-    let more = c .before .before .before .advance .ensures in
-    let q = advanced-next (a .base) (a .count) (l .x) (l .pc) (l .mem) (l .slots) (l .inv .2) (c .before .before .before .before .before .before .before .read-event .result) _ _ _ _ more in
-    let w : l .i * 24 + 24 - l .i * 24 ≡ 24 = omega arith in
-    let e : c .before .before .before .before .before .before .before .read-event .result ≡ eventOf (take 24 (drop (l .i * 24) b)) = rw w at (c .before .before .before .before .before .before .before .read-event .ensures) in
-    let rest = firstEvents (a .n - (l .i + 1)) (drop ((l .i + 1) * 24) b) in (
+    let body = a .body .now in
+    let here : Machine = record { state = stateFrom (a .count) (l .x) (l .pc) (slotsIn (l .t)); mem = l .mem } in
+    let more = c .before .before .advance .ensures in
+    let ev = c .before .before .before .before .before .before .before .read-event .result in
+    let q = advanced-next (a .base) (a .count) (l .x) (l .pc) (l .mem) (slotsIn (l .t)) (l .inv .2) ev _ _ _ _ _ more in
+    let e = c .before .before .before .before .before .before .before .read-event .ensures ∙ ap (λ (k : ℕ). eventOf (take k (drop (l .i * 24) body))) (width (l .i)) in
+    let rest = firstEvents (a .n - (l .i + 1)) (drop ((l .i + 1) * 24) body) in (
       omega arith,
-      c .before .before .before .advance .kept .1 .1 .1 .1 .1 .0 ∙ l .inv .1,
-      advanced-valid (a .base) (a .count) (l .x) (l .pc) (l .mem) (l .slots) (l .inv .2) (c .before .before .before .before .before .before .before .read-event .result) _ _ _ _ more,
+      c .before .before .advance .kept .1 .1 .1 .1 .1 .0 ∙ l .inv .1,
+      advanced-valid (a .base) (a .count) (l .x) (l .pc) (l .mem) (slotsIn (l .t)) (l .inv .2) ev _ _ _ _ _ more,
       ap (λ (m : Machine). runOf (a .base) m rest) q
           ∙ ap (λ (v : Event). runOf (a .base) (nextOf (a .base) here v) rest) e
-          ∙ ap (runOf (a .base) here) (sym (events-more (a .n) (l .i) b (omega arith)))
+          ∙ ap (runOf (a .base) here) (sym (events-more (a .n) (l .i) body (omega arith)))
           ∙ l .inv .3,
     )
 

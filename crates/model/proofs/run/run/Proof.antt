@@ -1,12 +1,18 @@
 use mathlib.Core.Path.{_≡_, refl, sym, ap, ap₂, _∙_}
+use mathlib.Core.List.{List}
 use Prim.Native.Nat.{ℕ, _/_}
 use native.Mathlib.Omega.{arith}
 use borrow.Author.Tests.{ne-eqb, eq-eqb}
 use lib.ListN.{length}
-use Rattle.model.specs.Perform.{Machine}
+use Rattle.reserve.specs.declared.Slot.{Slot}
+use Rattle.machine.specs.State.{refusalOf}
+use Rattle.machine.specs.declared.State.{State}
+use Rattle.events.specs.Events.{firstEvents}
+use Rattle.model.specs.Perform.{Machine, runOf}
+use Rattle.model.specs.Advance.{stateFrom}
 use Rattle.model.specs.Run.{resultOf}
 use Rattle.model.specs.declared.Verdict.the-variants.{Performed}
-use Rattle.model.proofs.AdvanceLaws.{take-events}
+use Rattle.model.proofs.AdvanceLaws.{refused-same, take-events}
 use borrow.Author.Needs.{needs}
 use Rattle.model.proofs.run.run.Statement.{statement}
 use Rattle.model.proofs.run.run.Tie as tie
@@ -36,13 +42,24 @@ enum-told c = search needs
 smaller-requires : tie.Need-smaller-requires
 smaller-requires c κs = search needs
 
+lend-requires : tie.Need-lend-requires
+lend-requires c κs = search needs
+
 perform-first-requires : tie.Need-perform-first-requires
-perform-first-requires c κs = (sym (c .before .before .before .before .before .before .before .before .refusal .ensures) ∙ c .before .before .before .before .before .before .before .if1 .left, omega (arith, c .before .before .before .smaller .ensures))
+perform-first-requires c κs =
+    let a = c .before .before .before .before .before .before .before .before .before .before .before .before .before .before .before .before .before .before .args in (
+      refused-same (a .base) (a .mem .now) (a .s) (c .before .before .before .before .lend .ensures) ∙ sym (c .before .before .before .before .before .before .before .before .before .before .refusal .ensures) ∙ c .before .before .before .before .before .before .before .before .before .if1 .left,
+      omega (arith, c .before .before .before .before .before .smaller .ensures),
+    )
+
+slots-requires : tie.Need-slots-requires
+slots-requires c κs = search needs
 
 returns-2 : tie.Need-returns-2
 unfolding resultOf
 returns-2 c =
-    rw (sym (c .before .before .before .before .before .before .refusal .ensures) ∙ c .before .before .before .before .before .if1 .left, sym (c .before .before .before .before .check .ensures .0) ∙ c .before .before .place .given .1) (c .refused-run2 .ensures, refl)
+    rw (sym (c .before .before .before .before .before .before .refusal .ensures) ∙ c .before .before .before .before .before .if1 .left, sym (c .before .before .before .before .check .ensures .0) ∙ c .before .before .place .given .1)
+    (c .refused-run2 .ensures, refl)
 
 same-length : tie.Need-same-length
 same-length c = search needs
@@ -50,13 +67,18 @@ same-length c = search needs
 returns-3 : tie.Need-returns-3
 unfolding resultOf
 returns-3 c =
-    let a = c .before .before .before .before .before .before .before .before .before .before .before .before .before .before .before .before .before .before .before .args in
-    let b = a .body .now in
-    let n = c .before .before .before .before .before .before .smaller .result in
-    let t = take-events n (length b / 24) b (omega (arith, c .before .before .before .before .before .before .smaller .ensures)) in
-    let p = c .before .before .perform-first .ensures in
-    rw (sym (c .before .before .before .before .before .before .before .before .before .before .before .refusal .ensures) ∙ c .before .before .before .before .before .before .before .before .before .before .if1 .left, sym (c .before .before .before .before .before .before .before .before .before .check .ensures .0) ∙ c .before .before .before .before .before .before .before .enum-told .given .1, ← c .before .before .before .before .before .before .smaller .ensures, t)
-    (ap (λ (m : Machine). record { verdict = Performed; performed = n; state = m .state }) p, ap (λ (m : Machine). m .mem) p)
+    let a = c .before .before .before .before .before .before .before .before .before .before .before .before .before .before .before .before .before .before .before .before .before .before .before .args in
+    let s = a .s in
+    let m = a .mem .now in
+    let body = a .body .now in
+    let n = c .before .before .before .before .before .before .before .before .before .before .smaller .result in
+    let t = take-events n (length body / 24) body (omega (arith, c .before .before .before .before .before .before .before .before .before .before .smaller .ensures)) in
+    let p = c .before .before .before .before .perform-first .ensures
+    ∙ ap (λ (l : List Slot). runOf (a .base) (record { state = stateFrom (s .count) (s .x) (s .pc) l; mem = m }) (firstEvents n body))
+    (c .before .before .before .before .before .before .before .before .before .lend .ensures) in
+    let after = ap (λ (l : List Slot). stateFrom (s .count) (c .before .before .before .before .perform-first .last .0) (c .before .before .before .before .perform-first .last .1 .0) l) (c .slots .ensures) in
+    rw (sym (c .before .before .before .before .before .before .before .before .before .before .before .before .before .before .before .refusal .ensures) ∙ c .before .before .before .before .before .before .before .before .before .before .before .before .before .before .if1 .left, sym (c .before .before .before .before .before .before .before .before .before .before .before .before .before .check .ensures .0) ∙ c .before .before .before .before .before .before .before .before .before .before .before .enum-told .given .1, ← c .before .before .before .before .before .before .before .before .before .before .smaller .ensures, t)
+    (ap (λ (q : State). record { verdict = Performed; performed = n; state = q }) (after ∙ ap (λ (q : Machine). q .state) p), ap (λ (q : Machine). q .mem) p)
 
 pub run-spec : {M : Type 1} → statement M
 run-spec =
@@ -70,7 +92,9 @@ run-spec =
     refused-run-requires-2
     enum-told
     smaller-requires
+    lend-requires
     perform-first-requires
+    slots-requires
     returns-2
     same-length
     returns-3)

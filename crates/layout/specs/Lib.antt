@@ -1,0 +1,3 @@
+-- A state as bytes at fixed offsets.
+pub mod Layout
+pub mod Ranged

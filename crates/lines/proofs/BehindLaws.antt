@@ -1,0 +1,78 @@
+-- Text that is put into the front of a buffer, before a memory that stands at its end. Assumes nothing.
+use mathlib.Core.Path.{_≡_, sym, ap, _∙_, subst}
+use mathlib.Core.List.{List, _++_, append-nil}
+use Prim.Native.Nat.{ℕ, _-_, _≤_}
+use native.Mathlib.Omega.{arith}
+use lib.ListN.{length, take, drop, length-drop, drop-of-length-le}
+use lib.Seq.{length-take-le, length-front, take-all, take-take, take-append-le, drop-at}
+use borrow.Rule.Slice.PartMut.{putMid, same-len-mid, take-put}
+use Rattle.text.specs.Put.{Put}
+use Rattle.reserve.specs.declared.Slot.{Slot}
+use Rattle.machine.specs.declared.State.{State}
+use Rattle.events.specs.declared.Event.{Event}
+use Rattle.model.specs.Perform.{actOn}
+use Rattle.model.specs.Advance.{Advances}
+use Rattle.model.specs.declared.Outcome.{Outcome}
+
+-- a text that was put into a part `&mut out[..from]`, which is back
+module _ (out front : List ℕ) (from : ℕ) (within : from ≤ length out) (kept : length front ≡ length (take from out)) where
+  whole : length front ≡ from
+  whole = kept ∙ length-take-le from out within
+
+  pub front-length : length (front ++ drop from out) ≡ length out
+  front-length = length-front out front from kept
+
+  pub front-behind : drop from (front ++ drop from out) ≡ drop from out
+  front-behind = drop-at front (drop from out) from whole
+
+  pub front-put : {text : List ℕ} {p r : ℕ} → p ≤ from → r ≤ from → Put (take from out) p text front r → Put out p text (front ++ drop from out) r
+  front-put {text} {p} {r} h k x =
+      record {
+        end = x .end;
+        holds = take-append-le r front (drop from out) (omega (arith, whole, k)) ∙ x .holds ∙ ap (λ (l : List ℕ). l ++ text) (take-take p from out h);
+      }
+
+-- a text that was put up to the end of a buffer
+pub put-last : {a b s : List ℕ} {p r : ℕ} → p ≤ length a → length b ≤ r → Put a p s b r → drop p b ≡ s
+put-last {a} {b} {s} {p} {r} h k x =
+    ap (λ (l : List ℕ). drop p l) (sym (take-all r b k) ∙ x .holds) ∙ drop-at (take p a) s p (length-take-le p a h)
+
+-- what a part `&mut out[from..]` holds
+pub lent-behind : (out : List ℕ) (from : ℕ) → take (length out - from) (drop from out) ≡ drop from out
+lent-behind out from = take-all (length out - from) (drop from out) (rw length-drop (omega arith))
+
+-- the buffer when that part is back, where mem is what it last held
+abbrev pub back : List ℕ → List ℕ → ℕ → List ℕ
+back out mem from = putMid from (length out - from) out mem
+
+module _ (out mem : List ℕ) (from : ℕ) (within : from ≤ length out) (kept : length mem ≡ length (take (length out - from) (drop from out))) where
+  pub back-length : length (back out mem from) ≡ length out
+  back-length = same-len-mid from (length out - from) out mem kept
+
+  pub back-within : from ≤ length (back out mem from)
+  back-within = omega (arith, back-length, within)
+
+  pub back-behind : drop from (back out mem from) ≡ mem
+  back-behind =
+      let short : length (drop from out) ≤ length out - from = rw length-drop (omega arith) in
+      drop-at (take from out) _ from (length-take-le from out within)
+      ∙ ap (λ (l : List ℕ). mem ++ l) (drop-of-length-le (drop from out) short)
+      ∙ append-nil mem
+
+  same-front : (p : ℕ) → p ≤ from → take p (back out mem from) ≡ take p out
+  same-front p h =
+      sym (take-take p from (back out mem from) h)
+      ∙ ap (λ (l : List ℕ). take p l) (take-put from (length out - from) out mem within)
+      ∙ take-take p from out h
+
+  -- a text put into the front of it is put into the buffer as it was before
+  pub back-put : {text after : List ℕ} {p r : ℕ} → p ≤ from → Put (back out mem from) p text after r → Put out p text after r
+  back-put {text} {after} {p} {r} h x = record { end = x .end; holds = x .holds ∙ ap (λ (l : List ℕ). l ++ text) (same-front p h) }
+
+-- the same event, on memories written in another way
+pub advances-as : {base count : ℕ} (s : State) (e : Event) {res res′ : List Slot} {x pc x′ pc′ mem mem′ a b : List ℕ} {r : Outcome} → mem ≡ a → mem′ ≡ b
+    → Advances (actOn base mem s e) base count res x pc mem r res′ x′ pc′ mem′
+    → Advances (actOn base a s e) base count res x pc a r res′ x′ pc′ b
+advances-as {base} {count} s e {res} {res′} {x} {pc} {x′} {pc′} {mem} {mem′} {a} {b} {r} h k y =
+    subst (λ (m : List ℕ). Advances (actOn base m s e) base count res x pc m r res′ x′ pc′ b) h
+    (subst (λ (m : List ℕ). Advances (actOn base mem s e) base count res x pc mem r res′ x′ pc′ m) k y)
