@@ -169,50 +169,55 @@ fn put_hex(out: &mut Vec<u8>, value: u64) {
 /// All that the program writes for a file.
 pub fn report(file: &[u8]) -> Vec<u8> {
     let mut out = Vec::new();
-    let mut case = match read_case(file) {
-        Ok(case) => case,
+    match read_case(file) {
+        Ok(case) => put_case(&mut out, case),
         Err(refusal) => {
             out.extend_from_slice(b"refused ");
             put_decimal(&mut out, refusal.number as usize);
             out.push(b' ');
             put_decimal(&mut out, refusal.place);
             out.push(b'\n');
-            return out;
         }
-    };
+    }
+    out
+}
+
+fn put_case(out: &mut Vec<u8>, mut case: Case) {
     let events = case.events.len() / EVENT;
     out.reserve(64 + 16 * events);
     out.extend_from_slice(b"case ");
-    put_decimal(&mut out, case.state.count);
+    put_decimal(out, case.state.count);
     out.extend_from_slice(b" harts ");
-    put_decimal(&mut out, case.memory.len());
+    put_decimal(out, case.memory.len());
     out.extend_from_slice(b" bytes ");
-    put_decimal(&mut out, events);
+    put_decimal(out, events);
     out.extend_from_slice(b" events\n");
     let mut bytes = case.memory.to_vec();
     let mut memory = Memory { base: case.base, bytes: &mut bytes };
-    perform(&mut case.state, &mut memory, case.events, |n, kind, hart, outcome| {
-        put_decimal(&mut out, n);
-        match kind {
-            1 => out.extend_from_slice(&[b' ', b'h', b'0' + hart as u8]),
-            2 => out.extend_from_slice(b" d"),
-            _ => out.extend_from_slice(&[b' ', b'y', b'0' + hart as u8]),
-        }
-        match outcome {
-            Outcome::Retired => out.extend_from_slice(b" ok"),
-            Outcome::Sc { success: true } => out.extend_from_slice(b" sc 0"),
-            Outcome::Sc { success: false } => out.extend_from_slice(b" sc 1"),
-            Outcome::Trap(trap) => {
-                out.extend_from_slice(b" trap ");
-                put_decimal(&mut out, trap.cause as usize);
-                out.push(b' ');
-                put_hex(&mut out, trap.value);
-            }
-        }
-        out.push(b'\n');
-    });
+    perform(&mut case.state, &mut memory, case.events, |n, kind, hart, outcome| put_line(out, n, kind, hart, outcome));
     out.extend_from_slice(b"end ");
-    put_decimal(&mut out, events);
+    put_decimal(out, events);
     out.push(b'\n');
-    out
+}
+
+#[inline]
+fn put_line(out: &mut Vec<u8>, n: usize, kind: u8, hart: usize, outcome: Outcome) {
+    put_decimal(out, n);
+    match kind {
+        1 => out.extend_from_slice(&[b' ', b'h', b'0' + hart as u8]),
+        2 => out.extend_from_slice(b" d"),
+        _ => out.extend_from_slice(&[b' ', b'y', b'0' + hart as u8]),
+    }
+    match outcome {
+        Outcome::Retired => out.extend_from_slice(b" ok"),
+        Outcome::Sc { success: true } => out.extend_from_slice(b" sc 0"),
+        Outcome::Sc { success: false } => out.extend_from_slice(b" sc 1"),
+        Outcome::Trap(trap) => {
+            out.extend_from_slice(b" trap ");
+            put_decimal(out, trap.cause as usize);
+            out.push(b' ');
+            put_hex(out, trap.value);
+        }
+    }
+    out.push(b'\n');
 }

@@ -38,42 +38,21 @@ pub fn check_loop(block: &[u32]) -> Result<Verdict, u8> {
     let Some(lr) = atomic(decode(block[0]), AtomicOp::Lr) else {
         return reject(0, 1);
     };
-    let kept = |rd: u8| lr.rs1 != 0 && rd == lr.rs1;
-    if kept(lr.rd) {
+    if kept(lr, lr.rd) {
         return reject(0, 4);
     }
     let mut seen_sc = false;
     for (place, &word) in block.iter().enumerate().skip(1) {
         let instr = decode(word);
-        if !seen_sc {
-            if let Some(sc) = atomic(instr, AtomicOp::Sc) {
-                if sc.width != lr.width || sc.rs1 != lr.rs1 {
-                    return reject(place, 5);
-                }
+        let reason = match atomic(instr, AtomicOp::Sc) {
+            Some(sc) if !seen_sc => {
                 seen_sc = true;
-                continue;
+                (sc.width != lr.width || sc.rs1 != lr.rs1).then_some(5)
             }
-        }
-        match instr {
-            Some(Instr::Jal { offset, .. } | Instr::Branch { offset, .. }) => {
-                let offset = offset as i64;
-                let back_to_start = seen_sc && offset == -4 * place as i64;
-                if offset % 4 != 0 || (offset <= 0 && !back_to_start) {
-                    return reject(place, 3);
-                }
-            }
-            Some(
-                Instr::Lui { .. }
-                | Instr::Auipc { .. }
-                | Instr::Op { .. }
-                | Instr::OpImm { .. }
-                | Instr::Op32 { .. }
-                | Instr::OpImm32 { .. },
-            ) => {}
-            _ => return reject(place, 2),
-        }
-        if !seen_sc && instr.and_then(destination).is_some_and(kept) {
-            return reject(place, 4);
+            _ => reason_of(lr, instr, place, seen_sc),
+        };
+        if let Some(reason) = reason {
+            return reject(place, reason);
         }
     }
     if seen_sc {
@@ -81,6 +60,31 @@ pub fn check_loop(block: &[u32]) -> Result<Verdict, u8> {
     } else {
         reject(block.len(), 6)
     }
+}
+
+/// Whether rd is the register that must stay, up to the first SC.
+fn kept(lr: Atomic, rd: u8) -> bool {
+    lr.rs1 != 0 && rd == lr.rs1
+}
+
+/// The lowest reason against a later word that isn't the first SC.
+fn reason_of(lr: Atomic, instr: Option<Instr>, place: usize, seen_sc: bool) -> Option<u8> {
+    let Some(instr) = instr else {
+        return Some(2);
+    };
+    match instr {
+        Instr::Jal { offset, .. } | Instr::Branch { offset, .. } => {
+            let offset = offset as i64;
+            let back_to_start = seen_sc && offset == -4 * place as i64;
+            if offset % 4 != 0 || (offset <= 0 && !back_to_start) {
+                return Some(3);
+            }
+        }
+        Instr::Lui { .. } | Instr::Auipc { .. } => {}
+        Instr::Op { .. } | Instr::OpImm { .. } | Instr::Op32 { .. } | Instr::OpImm32 { .. } => {}
+        _ => return Some(2),
+    }
+    (!seen_sc && destination(instr).is_some_and(|rd| kept(lr, rd))).then_some(4)
 }
 
 #[cfg(test)]

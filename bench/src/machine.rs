@@ -8,7 +8,7 @@ const SET: u64 = 64;
 #[derive(Clone, Copy, PartialEq, Eq, Debug)]
 pub struct Reservation {
     pub addr: u64,
-    pub width: u8,
+    pub width: u64,
 }
 
 #[derive(Clone, Copy, PartialEq, Eq, Debug, Default)]
@@ -61,6 +61,41 @@ impl Memory<'_> {
 
     pub fn contains(&self, addr: u64, width: u64) -> bool {
         self.place(addr, width).is_some()
+    }
+
+    #[inline]
+    fn fetch(&self, pc: u64) -> Result<Instr, Trap> {
+        let Some(place) = self.place(pc, 4) else {
+            return trap(1, pc);
+        };
+        let word = read(&self.bytes[place..], 4) as u32;
+        match decode(word) {
+            Some(instr) => Ok(instr),
+            None => trap(2, word as u64),
+        }
+    }
+
+    #[inline]
+    fn load(&self, addr: u64, width: u8) -> Result<u64, Trap> {
+        if addr % width as u64 != 0 {
+            return trap(4, addr);
+        }
+        match self.place(addr, width as u64) {
+            Some(place) => Ok(read(&self.bytes[place..], width)),
+            None => trap(5, addr),
+        }
+    }
+
+    #[inline]
+    fn store(&mut self, addr: u64, width: u8, value: u64) -> Result<(), Trap> {
+        if addr % width as u64 != 0 {
+            return trap(6, addr);
+        }
+        match self.place(addr, width as u64) {
+            Some(place) => write(&mut self.bytes[place..], width, value),
+            None => return trap(7, addr),
+        }
+        Ok(())
     }
 
     fn check(&self) -> Result<(), u8> {
@@ -154,10 +189,33 @@ fn amo(op: AtomicOp, old: u64, arg: u64) -> u64 {
 
 impl Hart {
     #[inline]
+    fn get(&self, r: u8) -> u64 {
+        self.x[r as usize]
+    }
+
+    #[inline]
     fn set(&mut self, rd: u8, value: u64) {
         if rd != 0 {
             self.x[rd as usize] = value;
         }
+    }
+
+    /// A jump that leaves the address after it in rd.
+    #[inline]
+    fn link(&mut self, rd: u8, target: u64) -> Result<u64, Trap> {
+        let target = jump(target)?;
+        self.set(rd, self.pc.wrapping_add(4));
+        Ok(target)
+    }
+}
+
+/// The target of a jump or of a taken branch, if it is allowed.
+#[inline]
+fn jump(target: u64) -> Result<u64, Trap> {
+    if target % 4 == 0 {
+        Ok(target)
+    } else {
+        trap(0, target)
     }
 }
 
@@ -181,9 +239,9 @@ impl State {
         let sound = |hart: &Hart| {
             hart.x[0] == 0
                 && hart.pc % 4 == 0
-                && hart.reservation.is_none_or(|r| {
-                    (r.width == 4 || r.width == 8) && r.addr % r.width as u64 == 0 && memory.contains(r.addr, r.width as u64)
-                })
+                && hart
+                    .reservation
+                    .is_none_or(|r| (r.width == 4 || r.width == 8) && r.addr % r.width == 0 && memory.contains(r.addr, r.width))
         };
         if self.harts[..self.count].iter().all(sound) {
             Ok(())
@@ -207,15 +265,16 @@ impl State {
         Ok(self.perform_step(memory, hart))
     }
 
-    pub fn device(&mut self, memory: &mut Memory, addr: u64, data: &[u8]) -> Result<(), u8> {
+    /// A device write of the low `size` bytes of `data`.
+    pub fn device(&mut self, memory: &mut Memory, addr: u64, size: usize, data: u64) -> Result<(), u8> {
         self.check(memory)?;
-        if !(1..=8).contains(&data.len()) {
+        if !(1..=8).contains(&size) {
             return Err(4);
         }
-        if !memory.contains(addr, data.len() as u64) {
+        if !memory.contains(addr, size as u64) {
             return Err(5);
         }
-        self.perform_device(memory, addr, data);
+        self.perform_device(memory, addr, &data.to_le_bytes()[..size]);
         Ok(())
     }
 
@@ -237,7 +296,7 @@ impl State {
         let end = addr + data.len() as u64;
         for hart in &mut self.harts[..self.count] {
             if let Some(r) = hart.reservation {
-                if r.addr < end && addr < r.addr + r.width as u64 {
+                if r.addr < end && addr < r.addr + r.width {
                     hart.reservation = None;
                 }
             }
@@ -272,71 +331,32 @@ impl State {
     fn execute(&mut self, memory: &mut Memory, number: usize) -> Result<Outcome, Trap> {
         let hart = &mut self.harts[number];
         let pc = hart.pc;
-        let Some(place) = memory.place(pc, 4) else {
-            return trap(1, pc);
-        };
-        let word = read(&memory.bytes[place..], 4) as u32;
-        let Some(instr) = decode(word) else {
-            return trap(2, word as u64);
-        };
-        let x = |r: u8| hart.x[r as usize];
+        let instr = memory.fetch(pc)?;
         let mut next = pc.wrapping_add(4);
         let mut outcome = Outcome::Retired;
         match instr {
             Instr::Lui { rd, imm } => hart.set(rd, imm),
             Instr::Auipc { rd, imm } => hart.set(rd, pc.wrapping_add(imm)),
-            Instr::Jal { rd, offset } => {
-                let target = pc.wrapping_add(offset);
-                if target % 4 != 0 {
-                    return trap(0, target);
-                }
-                hart.set(rd, next);
-                next = target;
-            }
-            Instr::Jalr { rd, rs1, imm } => {
-                let target = x(rs1).wrapping_add(imm) & !1;
-                if target % 4 != 0 {
-                    return trap(0, target);
-                }
-                hart.set(rd, next);
-                next = target;
-            }
+            Instr::Jal { rd, offset } => next = hart.link(rd, pc.wrapping_add(offset))?,
+            Instr::Jalr { rd, rs1, imm } => next = hart.link(rd, hart.get(rs1).wrapping_add(imm) & !1)?,
             Instr::Branch { cond, rs1, rs2, offset } => {
-                if taken(cond, x(rs1), x(rs2)) {
-                    next = pc.wrapping_add(offset);
-                    if next % 4 != 0 {
-                        return trap(0, next);
-                    }
+                if taken(cond, hart.get(rs1), hart.get(rs2)) {
+                    next = jump(pc.wrapping_add(offset))?;
                 }
             }
             Instr::Load { width, signed, rd, rs1, imm } => {
-                let addr = x(rs1).wrapping_add(imm);
-                if addr % width as u64 != 0 {
-                    return trap(4, addr);
-                }
-                let Some(place) = memory.place(addr, width as u64) else {
-                    return trap(5, addr);
-                };
-                let value = read(&memory.bytes[place..], width);
+                let value = memory.load(hart.get(rs1).wrapping_add(imm), width)?;
                 hart.set(rd, if signed { sign_extend(value, width) } else { value });
             }
             Instr::Store { width, rs1, rs2, imm } => {
-                let addr = x(rs1).wrapping_add(imm);
-                if addr % width as u64 != 0 {
-                    return trap(6, addr);
-                }
-                let Some(place) = memory.place(addr, width as u64) else {
-                    return trap(7, addr);
-                };
-                write(&mut memory.bytes[place..], width, x(rs2));
-                hart.pc = next;
+                let addr = hart.get(rs1).wrapping_add(imm);
+                memory.store(addr, width, hart.get(rs2))?;
                 self.break_others(number, addr);
-                return Ok(outcome);
             }
-            Instr::OpImm { op, rd, rs1, imm } => hart.set(rd, alu(op, x(rs1), imm)),
-            Instr::Op { op, rd, rs1, rs2 } => hart.set(rd, alu(op, x(rs1), x(rs2))),
-            Instr::OpImm32 { op, rd, rs1, imm } => hart.set(rd, alu32(op, x(rs1), imm)),
-            Instr::Op32 { op, rd, rs1, rs2 } => hart.set(rd, alu32(op, x(rs1), x(rs2))),
+            Instr::OpImm { op, rd, rs1, imm } => hart.set(rd, alu(op, hart.get(rs1), imm)),
+            Instr::Op { op, rd, rs1, rs2 } => hart.set(rd, alu(op, hart.get(rs1), hart.get(rs2))),
+            Instr::OpImm32 { op, rd, rs1, imm } => hart.set(rd, alu32(op, hart.get(rs1), imm)),
+            Instr::Op32 { op, rd, rs1, rs2 } => hart.set(rd, alu32(op, hart.get(rs1), hart.get(rs2))),
             Instr::Fence => {}
             Instr::Ecall => return trap(8, 0),
             Instr::Ebreak => return trap(3, 0),
@@ -349,22 +369,13 @@ impl State {
     fn atomic(&mut self, memory: &mut Memory, number: usize, a: Atomic) -> Result<Outcome, Trap> {
         let hart = &mut self.harts[number];
         let width = a.width as u64;
-        let addr = hart.x[a.rs1 as usize];
+        let addr = hart.get(a.rs1);
         let load = a.op == AtomicOp::Lr;
         if addr % width != 0 {
             return trap(if load { 4 } else { 6 }, addr);
         }
         if a.op == AtomicOp::Sc {
-            let success = hart.reservation.take().is_some_and(|r| r.addr / SET == addr / SET);
-            if success {
-                let place = memory.place(addr, width).expect("a set is inside memory");
-                write(&mut memory.bytes[place..], a.width, hart.x[a.rs2 as usize]);
-            }
-            hart.set(a.rd, !success as u64);
-            if success {
-                self.break_others(number, addr);
-            }
-            return Ok(Outcome::Sc { success });
+            return Ok(Outcome::Sc { success: self.store_conditional(memory, number, a, addr) });
         }
         let Some(place) = memory.place(addr, width) else {
             return trap(if load { 5 } else { 7 }, addr);
@@ -374,13 +385,13 @@ impl State {
             cas_quad(hart, bytes, a)
         } else {
             let old = sign_extend(read(bytes, a.width), a.width);
-            let arg = sign_extend(hart.x[a.rs2 as usize], a.width);
+            let arg = sign_extend(hart.get(a.rs2), a.width);
             let new = match a.op {
                 AtomicOp::Lr => {
-                    hart.reservation = Some(Reservation { addr, width: a.width });
+                    hart.reservation = Some(Reservation { addr, width });
                     None
                 }
-                AtomicOp::Cas => (old == sign_extend(hart.x[a.rd as usize], a.width)).then_some(arg),
+                AtomicOp::Cas => (old == sign_extend(hart.get(a.rd), a.width)).then_some(arg),
                 op => Some(amo(op, old, arg)),
             };
             if let Some(new) = new {
@@ -393,6 +404,20 @@ impl State {
             self.break_others(number, addr);
         }
         Ok(Outcome::Retired)
+    }
+
+    /// An SC whose address is aligned; whether it stored.
+    fn store_conditional(&mut self, memory: &mut Memory, number: usize, a: Atomic, addr: u64) -> bool {
+        let hart = &mut self.harts[number];
+        let success = hart.reservation.take().is_some_and(|r| r.addr / SET == addr / SET);
+        let value = hart.get(a.rs2);
+        hart.set(a.rd, !success as u64);
+        if success {
+            let place = memory.place(addr, a.width as u64).expect("a set is inside memory");
+            write(&mut memory.bytes[place..], a.width, value);
+            self.break_others(number, addr);
+        }
+        success
     }
 }
 

@@ -1,0 +1,188 @@
+//! speed BATCHES FILE..: measures the calls of libcapi.a against this crate in one process and prints tables: long runs, `report` of the
+//! files, growth with harts, memory and events, single calls. A ratio is the library's time by this crate's.
+//!
+//! Times are processor time, the least of BATCHES batches, both sides in turns so that other work on the machine meets both alike.
+
+use bench::calls::{Call, Machine};
+use bench::case::EVENT;
+use bench::clock::now;
+use bench::machine::{Memory, State};
+use bench::work::{self, Work, BASE};
+use bench::{floecavern, layout};
+use std::hint::black_box;
+
+const LONG: usize = 1_000_000;
+/// A batch has about as many events, however few a call has.
+const BATCH: usize = 200_000;
+
+/// Nanoseconds, of the library and of this crate.
+#[derive(Clone, Copy)]
+struct Times {
+    theirs: f64,
+    ours: f64,
+}
+
+impl Times {
+    fn ratio(self) -> f64 {
+        self.theirs / self.ours
+    }
+
+    /// For one of `n`.
+    fn each(self, n: usize) -> Times {
+        Times { theirs: self.theirs / n as f64, ours: self.ours / n as f64 }
+    }
+}
+
+fn timed(work: impl FnOnce()) -> f64 {
+    let from = now();
+    work();
+    (now() - from) as f64
+}
+
+/// The least time of both, taken in turns.
+fn in_turns(batches: usize, mut theirs: impl FnMut(), mut ours: impl FnMut()) -> Times {
+    let mut least = Times { theirs: f64::INFINITY, ours: f64::INFINITY };
+    for _ in 0..batches {
+        least.theirs = least.theirs.min(timed(&mut theirs));
+        least.ours = least.ours.min(timed(&mut ours));
+    }
+    least
+}
+
+/// The time of one run of the work's events. Every run takes up where the last one ended, on both sides, and both end alike.
+fn run(batches: usize, work: Work) -> Times {
+    let Work { mut state, mut memory, events } = work;
+    let number = events.len() / EVENT;
+    let runs = (BATCH / number.max(1)).clamp(1, 10_000);
+    let mut machine = Machine { state: layout::bytes(&state), base: BASE, memory: memory.clone() };
+    let call = Call::Run { events: events.clone(), budget: number };
+    let theirs = || {
+        for _ in 0..runs {
+            let mut ran = [0; 16];
+            assert_eq!(floecavern::perform(&mut machine, &call, &mut ran), 0);
+            assert_eq!(layout::get(&ran, 0), number as u64);
+        }
+    };
+    let ours = || {
+        for _ in 0..runs {
+            let mut lent = Memory { base: BASE, bytes: &mut memory };
+            assert_eq!(bench::run(&mut state, &mut lent, black_box(&events), number), Ok(number));
+        }
+    };
+    let times = in_turns(batches, theirs, ours).each(runs);
+    assert!(machine.memory == memory && machine.state == layout::bytes(&state), "the runs end differently");
+    times
+}
+
+fn heading(title: &str) {
+    println!("\n{title}");
+}
+
+fn long_runs(batches: usize) {
+    heading(&format!("Long runs: one call of {LONG} events; million events a second"));
+    println!("{:<28} {:>9} {:>9} {:>7}", "", "library", "bench", "ratio");
+    let works: [(&str, Work); 6] = [
+        ("compute, 4 harts", work::compute(4, LONG)),
+        ("memory, 4 harts, 64 KiB", work::memory(4, 65_536, LONG)),
+        ("LR/SC on one line, 8 harts", work::contention(8, LONG)),
+        ("AMO and AMOCAS, 4 harts", work::amos(4, LONG)),
+        ("traps, 8 harts", work::traps(LONG)),
+        ("devices, yields, LR/SC", work::devices(8, LONG)),
+    ];
+    let mut worst: f64 = 0.0;
+    for (name, work) in works {
+        let times = run(batches, work).each(LONG);
+        println!("{name:<28} {:>9.1} {:>9.1} {:>7.2}", 1e3 / times.theirs, 1e3 / times.ours, times.ratio());
+        worst = worst.max(times.ratio());
+    }
+    println!("highest ratio {worst:.2}, target 2.0");
+}
+
+fn reports(batches: usize, files: &[String]) -> std::io::Result<()> {
+    heading("report: one call; microseconds");
+    println!("{:<16} {:>7} {:>9} {:>9} {:>7}", "case", "events", "library", "bench", "ratio");
+    let mut out = vec![0; floecavern::REPORT_ROOM];
+    let mut worst: f64 = 0.0;
+    for path in files {
+        let file = std::fs::read(path)?;
+        let events = u32::from_le_bytes(file[36..40].try_into().unwrap()) as usize / EVENT;
+        let expected = bench::report(&file);
+        let length = floecavern::report(&file, &mut out) as usize;
+        assert!(out[..length] == expected, "{path}: the reports differ");
+        let runs = 1 + BATCH / (20 * events.max(100));
+        let theirs = || (0..runs).for_each(|_| assert_eq!(floecavern::report(&file, &mut out), expected.len() as u64));
+        let ours = || (0..runs).for_each(|_| drop(black_box(bench::report(black_box(&file)))));
+        let times = in_turns(4 * batches, theirs, ours).each(1000 * runs);
+        let name = path.rsplit('/').next().unwrap().trim_end_matches(".case");
+        println!("{name:<16} {events:>7} {:>9.1} {:>9.1} {:>7.2}", times.theirs, times.ours, times.ratio());
+        worst = worst.max(times.ratio());
+    }
+    println!("highest ratio {worst:.2}, target 1.5");
+    Ok(())
+}
+
+/// A table of nanoseconds: a row for each of `values`, two columns of work.
+fn growth<T: std::fmt::Display + Copy>(title: &str, columns: [&str; 2], values: &[T], each: impl Fn(T) -> [Times; 2]) {
+    heading(title);
+    println!("{:>9} | {:<27} | {:<27}", "", columns[0], columns[1]);
+    println!("{:>9} | {:>9} {:>9} {:>7} | {:>9} {:>9} {:>7}", "", "library", "bench", "ratio", "library", "bench", "ratio");
+    for &value in values {
+        print!("{value:>9}");
+        for times in each(value) {
+            print!(" | {:>9.1} {:>9.1} {:>7.2}", times.theirs, times.ours, times.ratio());
+        }
+        println!();
+    }
+}
+
+fn growths(batches: usize) {
+    let events = BATCH;
+    growth("Growth with harts: nanoseconds an event", ["compute", "LR/SC on one line"], &[1, 2, 4, 8], |harts| {
+        [run(batches, work::compute(harts, events)).each(events), run(batches, work::contention(harts, events)).each(events)]
+    });
+    let lengths = [64, 256, 1024, 4096, 16_384, 65_536, 262_144, 1_048_576];
+    let columns = ["an event, of 200000", "a call of one event"];
+    growth("Growth with bytes of memory: nanoseconds", columns, &lengths, |length| {
+        [run(batches, work::memory(1, length, events)).each(events), run(batches, work::memory(1, length, 1))]
+    });
+    let numbers = [1, 10, 100, 1_000, 10_000, 100_000, 1_000_000];
+    growth("Growth with events in a call: nanoseconds an event", ["compute", "LR/SC on one line"], &numbers, |n| {
+        [run(batches, work::compute(8, n)).each(n), run(batches, work::contention(8, n)).each(n)]
+    });
+}
+
+/// Single calls: the library's on a state kept as bytes, this crate's on its own state.
+fn single_calls(batches: usize) {
+    heading("One call, 8 harts, 4096 bytes; the library on a state kept as bytes, bench on its own: nanoseconds");
+    println!("{:<28} {:>9} {:>9} {:>7}", "", "library", "bench", "ratio");
+    type Ours = fn(&mut State, &mut Memory);
+    let rows: [(&str, Call, Ours); 4] = [
+        ("step", Call::Step { hart: 1 }, |s, m| _ = black_box(s.step(m, 1))),
+        ("device_write", Call::DeviceWrite { addr: BASE + 512, size: 8, data: 1 }, |s, m| _ = black_box(s.device(m, BASE + 512, 8, 1))),
+        ("yield", Call::Yield { hart: 1 }, |s, m| _ = black_box(s.yield_hart(m, 1))),
+        ("run of no events", Call::Run { events: Vec::new(), budget: 0 }, |s, m| _ = black_box(bench::run(s, m, &[], 0))),
+    ];
+    for (name, call, perform) in rows {
+        let Work { mut state, mut memory, .. } = work::idle();
+        let mut machine = Machine { state: layout::bytes(&state), base: BASE, memory: memory.clone() };
+        let runs = 5_000;
+        let theirs = || (0..runs).for_each(|_| assert_eq!(floecavern::perform(&mut machine, &call, &mut [0; 16][..call.told()]), 0));
+        let ours = || (0..runs).for_each(|_| perform(&mut state, &mut Memory { base: BASE, bytes: &mut memory }));
+        let times = in_turns(batches, theirs, ours).each(runs);
+        assert!(machine.memory == memory && machine.state == layout::bytes(&state), "{name}: the states differ");
+        println!("{name:<28} {:>9.1} {:>9.1} {:>7.2}", times.theirs, times.ours, times.ratio());
+    }
+}
+
+fn main() -> std::io::Result<()> {
+    let arguments: Vec<String> = std::env::args().collect();
+    let Some(batches) = arguments.get(1).and_then(|n| n.parse().ok()) else {
+        eprintln!("usage: speed BATCHES FILE..");
+        std::process::exit(2);
+    };
+    long_runs(batches);
+    reports(batches, &arguments[2..])?;
+    growths(batches);
+    single_calls(batches);
+    Ok(())
+}

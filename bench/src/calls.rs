@@ -1,0 +1,120 @@
+//! The calls of include/floecavern.h on a machine, answered by this crate.
+
+use crate::case::{run, EVENT};
+use crate::layout;
+use crate::loops::{self, Verdict};
+use crate::machine::{Memory, Outcome, State};
+
+/// The answer to a size that is wrong.
+pub const BAD_SIZE: u64 = u64::MAX;
+const SC_STORED: u64 = 1;
+const SC_FAILED: u64 = 2;
+pub const TRAP: u64 = 256;
+pub const REFUSED: u64 = 512;
+
+/// A machine as it is lent to a call.
+#[derive(Clone, PartialEq, Eq, Debug)]
+pub struct Machine {
+    pub state: Vec<u8>,
+    pub base: u64,
+    pub memory: Vec<u8>,
+}
+
+#[derive(Clone, PartialEq, Eq, Debug)]
+pub enum Call {
+    Step { hart: usize },
+    DeviceWrite { addr: u64, size: usize, data: u64 },
+    Yield { hart: usize },
+    Run { events: Vec<u8>, budget: usize },
+}
+
+impl Call {
+    /// The call for an event of a body that isn't refused.
+    pub fn of_event(event: &[u8]) -> Call {
+        let hart = event[1] as usize;
+        match event[0] {
+            1 => Call::Step { hart },
+            2 => Call::DeviceWrite { addr: layout::get(event, 8), size: event[2] as usize, data: layout::get(event, 16) },
+            _ => Call::Yield { hart },
+        }
+    }
+
+    pub fn name(&self) -> &'static str {
+        match self {
+            Call::Step { .. } => "step",
+            Call::DeviceWrite { .. } => "device_write",
+            Call::Yield { .. } => "yield",
+            Call::Run { .. } => "run",
+        }
+    }
+
+    /// The bytes it tells beside its answer: a trap's value; how many events a run performed, and the place of its refusal.
+    pub fn told(&self) -> usize {
+        match self {
+            Call::Run { .. } => 16,
+            _ => 8,
+        }
+    }
+}
+
+/// Performs a call.
+pub fn perform(machine: &mut Machine, call: &Call, told: &mut [u8]) -> u64 {
+    let Some(mut state) = layout::read(&machine.state) else {
+        return BAD_SIZE;
+    };
+    if told.len() != call.told() {
+        return BAD_SIZE;
+    }
+    let mut memory = Memory { base: machine.base, bytes: &mut machine.memory };
+    let answer = match *call {
+        Call::Step { hart } => event(state.step(&mut memory, hart), told),
+        Call::DeviceWrite { addr, size, data } => event(state.device(&mut memory, addr, size, data).map(|()| Outcome::Retired), told),
+        Call::Yield { hart } => event(state.yield_hart(&memory, hart).map(|()| Outcome::Retired), told),
+        Call::Run { ref events, budget } => run_all(&mut state, &mut memory, events, budget, told),
+    };
+    if answer < TRAP {
+        layout::write(&state, &mut machine.state);
+    }
+    answer
+}
+
+/// The number of an event's outcome, and the value it tells.
+fn event(outcome: Result<Outcome, u8>, value: &mut [u8]) -> u64 {
+    let (answer, told) = match outcome {
+        Ok(Outcome::Retired) => (0, 0),
+        Ok(Outcome::Sc { success: true }) => (SC_STORED, 0),
+        Ok(Outcome::Sc { success: false }) => (SC_FAILED, 0),
+        Ok(Outcome::Trap(trap)) => (TRAP + trap.cause as u64, trap.value),
+        Err(number) => (REFUSED + number as u64, 0),
+    };
+    layout::put(value, 0, told);
+    answer
+}
+
+fn run_all(state: &mut State, memory: &mut Memory, events: &[u8], budget: usize, ran: &mut [u8]) -> u64 {
+    let (answer, performed, place) = match run(state, memory, events, budget) {
+        Ok(performed) => (0, performed, 0),
+        Err(refusal) => (REFUSED + refusal.number as u64, 0, refusal.place),
+    };
+    layout::put(ran, 0, performed as u64);
+    layout::put(ran, 8, place as u64);
+    answer
+}
+
+/// The calls, one for each event, for an events body that isn't refused.
+pub fn of_events(events: &[u8]) -> impl Iterator<Item = Call> + '_ {
+    events.chunks_exact(EVENT).map(Call::of_event)
+}
+
+/// The answer for a block of words, each 4 bytes, the lowest first.
+pub fn check_loop(words: &[u8]) -> u64 {
+    if words.len() % 4 != 0 {
+        return BAD_SIZE;
+    }
+    let words: Vec<u32> = words.chunks_exact(4).map(|w| u32::from_le_bytes(w.try_into().unwrap())).collect();
+    match loops::check_loop(&words) {
+        Ok(Verdict::Accepted) => 0,
+        Ok(Verdict::Rejected { place, reason }) => 256 * (place as u64 + 1) + reason as u64,
+        Err(number) => number as u64,
+    }
+}

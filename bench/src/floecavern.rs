@@ -1,0 +1,86 @@
+//! The proved library itself: include/floecavern.h, from libcapi.a.
+
+use crate::calls::{Call, Machine};
+
+/// The room that a report needs.
+pub const REPORT_ROOM: usize = 262_144;
+
+extern "C" {
+    fn floecavern_report(file: *const u8, file_len: usize, out: *mut u8, out_len: usize) -> u64;
+    fn floecavern_check_loop(words: *const u8, words_len: usize) -> u64;
+    fn floecavern_step(
+        state: *mut u8,
+        state_len: usize,
+        base: u64,
+        mem: *mut u8,
+        mem_len: usize,
+        hart: usize,
+        value: *mut u8,
+        value_len: usize,
+    ) -> u64;
+    fn floecavern_device_write(
+        state: *mut u8,
+        state_len: usize,
+        base: u64,
+        mem: *mut u8,
+        mem_len: usize,
+        addr: u64,
+        size: usize,
+        data: u64,
+        value: *mut u8,
+        value_len: usize,
+    ) -> u64;
+    fn floecavern_yield(
+        state: *mut u8,
+        state_len: usize,
+        base: u64,
+        mem: *mut u8,
+        mem_len: usize,
+        hart: usize,
+        value: *mut u8,
+        value_len: usize,
+    ) -> u64;
+    fn floecavern_run(
+        state: *mut u8,
+        state_len: usize,
+        base: u64,
+        mem: *mut u8,
+        mem_len: usize,
+        events: *const u8,
+        events_len: usize,
+        budget: usize,
+        ran: *mut u8,
+        ran_len: usize,
+    ) -> u64;
+}
+
+/// Performs a call, as `calls::perform` does.
+pub fn perform(machine: &mut Machine, call: &Call, told: &mut [u8]) -> u64 {
+    let (state, state_len) = (machine.state.as_mut_ptr(), machine.state.len());
+    let (mem, mem_len) = (machine.memory.as_mut_ptr(), machine.memory.len());
+    let (base, out, out_len) = (machine.base, told.as_mut_ptr(), told.len());
+    // SAFETY: every pointer comes from a slice of the length beside it, and no two of the slices overlap.
+    unsafe {
+        match call {
+            &Call::Step { hart } => floecavern_step(state, state_len, base, mem, mem_len, hart, out, out_len),
+            &Call::DeviceWrite { addr, size, data } => {
+                floecavern_device_write(state, state_len, base, mem, mem_len, addr, size, data, out, out_len)
+            }
+            &Call::Yield { hart } => floecavern_yield(state, state_len, base, mem, mem_len, hart, out, out_len),
+            Call::Run { events, budget } => {
+                floecavern_run(state, state_len, base, mem, mem_len, events.as_ptr(), events.len(), *budget, out, out_len)
+            }
+        }
+    }
+}
+
+/// The lines of a case file, written to the start of `out`; how many bytes they are.
+pub fn report(file: &[u8], out: &mut [u8]) -> u64 {
+    // SAFETY: as above.
+    unsafe { floecavern_report(file.as_ptr(), file.len(), out.as_mut_ptr(), out.len()) }
+}
+
+pub fn check_loop(words: &[u8]) -> u64 {
+    // SAFETY: as above.
+    unsafe { floecavern_check_loop(words.as_ptr(), words.len()) }
+}

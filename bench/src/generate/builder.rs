@@ -1,0 +1,355 @@
+//! A machine and events that it allows.
+//!
+//! The events are performed as they are made, so every pc is known and the next word can be put there by a device write.
+
+use super::words::{atomic, i_type, r_type, s_type, AMOS, CAS, D, LR, NOP, Q, SC, W};
+use super::Rng;
+use crate::case::{EVENT, MAX_FILE, TABLE};
+use crate::machine::{Memory, Outcome, Reservation, State};
+
+pub const STEP: u8 = 1;
+pub const DEVICE: u8 = 2;
+pub const YIELD: u8 = 3;
+
+/// An event as it stands in an events body.
+pub fn event_bytes(kind: u8, hart: u8, size: u8, addr: u64, data: u64) -> [u8; EVENT] {
+    let mut bytes = [0; EVENT];
+    bytes[..3].copy_from_slice(&[kind, hart, size]);
+    bytes[8..16].copy_from_slice(&addr.to_le_bytes());
+    bytes[16..].copy_from_slice(&data.to_le_bytes());
+    bytes
+}
+
+/// The low `size` bytes of a number.
+pub fn low_bytes(data: u64, size: usize) -> u64 {
+    if size < 8 {
+        data & ((1 << (8 * size)) - 1)
+    } else {
+        data
+    }
+}
+
+pub struct Builder {
+    pub base: u64,
+    /// State and memory before the first event.
+    pub first: State,
+    pub memory: Vec<u8>,
+    pub events: Vec<u8>,
+    /// State and memory after the events so far.
+    pub state: State,
+    bytes: Vec<u8>,
+    /// Whether it is for a case file: then it fits in one, and nobody holds a reservation at the start.
+    case_file: bool,
+}
+
+impl Builder {
+    pub fn for_case(rng: &mut Rng) -> Self {
+        let base = match rng.below(8) {
+            0 => 0,
+            1 => 1 << 40,
+            2 => 64 * rng.below(4),
+            _ => rng.below(1 << 34) * 64,
+        };
+        let count = if rng.percent(30) { 1 } else { 1 + rng.below(8) as usize };
+        let lines = if rng.percent(90) { 1 + rng.below(8) } else { 1 + rng.below(64) } as usize;
+        Builder {
+            base,
+            first: State::default(),
+            memory: vec![0; 64 * lines],
+            events: Vec::new(),
+            state: State { count, ..State::default() },
+            bytes: Vec::new(),
+            case_file: true,
+        }
+    }
+
+    /// For calls on a state: a memory up to the largest, reservations at the start.
+    pub fn for_state(rng: &mut Rng) -> Self {
+        let mut b = Builder::for_case(rng);
+        b.case_file = false;
+        if rng.below(400) == 0 {
+            let lines = if rng.percent(50) { 1 << 14 } else { 1 + rng.below(1 << 14) as usize };
+            b.memory.resize(64 * lines, 0);
+        }
+        b
+    }
+
+    fn address(&self, rng: &mut Rng) -> u64 {
+        let length = self.memory.len() as u64;
+        match rng.below(20) {
+            0 => self.base.wrapping_add(rng.below(length)),
+            1 => self.base.wrapping_add(length).wrapping_sub(rng.below(17)),
+            2 => self.base.wrapping_sub(rng.below(17)),
+            3 => u64::MAX - rng.below(17),
+            4..=7 => self.base + rng.below(length / 4) * 4,
+            8..=12 => self.base + rng.below(8) * 8,
+            _ => self.base + rng.below(length / 16) * 16,
+        }
+    }
+
+    pub fn fill_registers(&mut self, rng: &mut Rng) {
+        for h in 0..self.state.count {
+            for r in 1..32 {
+                self.state.harts[h].x[r] = if rng.percent(40) { self.address(rng) } else { rng.value() };
+            }
+            let place = rng.below(self.memory.len() as u64 / 4) * 4;
+            self.state.harts[h].pc = match rng.below(60) {
+                0 => rng.next() & !3,
+                1 => self.base.wrapping_sub(4),
+                2 => self.base + self.memory.len() as u64,
+                _ => self.base + place,
+            };
+        }
+    }
+
+    pub fn put_words(&mut self, words: &[u32]) {
+        for (place, w) in self.memory.chunks_exact_mut(4).zip(words) {
+            place.copy_from_slice(&w.to_le_bytes());
+        }
+    }
+
+    /// Fixes the start; events come after it.
+    pub fn start(&mut self, rng: &mut Rng) {
+        if !self.case_file {
+            self.reserve(rng);
+        }
+        self.first = self.state.clone();
+        self.bytes = self.memory.clone();
+    }
+
+    /// Reservations of some harts, most of them where a register points.
+    fn reserve(&mut self, rng: &mut Rng) {
+        for h in 0..self.state.count {
+            if rng.percent(40) {
+                continue;
+            }
+            let width = rng.pick(&[4, 8]);
+            let pointer = self.state.harts[h].x[self.pointer(rng, h, 4) as usize];
+            let any = self.base + rng.below(self.memory.len() as u64);
+            let addr = if self.inside(pointer, 1) && rng.percent(80) { pointer } else { any };
+            self.state.harts[h].reservation = Some(Reservation { addr: addr & !(width - 1), width });
+        }
+    }
+
+    /// How many more events there may be.
+    pub fn room(&self) -> usize {
+        if self.case_file {
+            (MAX_FILE - TABLE - 16 - 256 * self.state.count - self.memory.len() - self.events.len()) / EVENT
+        } else {
+            usize::MAX
+        }
+    }
+
+    /// How many steps to make: mostly few, at times many, seldom more than a case file holds.
+    pub fn steps(&self, rng: &mut Rng, few: u64, many: u64) -> u64 {
+        match rng.below(1000) {
+            0 if !self.case_file => rng.below(50_000),
+            n if n < 120 => rng.below(many),
+            _ => rng.below(few),
+        }
+    }
+
+    pub fn inside(&self, addr: u64, size: u64) -> bool {
+        addr.wrapping_sub(self.base) <= self.memory.len() as u64 - size
+    }
+
+    pub fn step(&mut self, hart: usize) -> Option<Outcome> {
+        if self.room() == 0 {
+            return None;
+        }
+        self.events.extend(event_bytes(STEP, hart as u8, 0, 0, 0));
+        let mut memory = Memory { base: self.base, bytes: &mut self.bytes };
+        Some(self.state.step(&mut memory, hart).expect("a step that isn't refused"))
+    }
+
+    pub fn device(&mut self, addr: u64, size: usize, data: u64) {
+        if self.room() == 0 || !self.inside(addr, size as u64) {
+            return;
+        }
+        let data = low_bytes(data, size);
+        self.events.extend(event_bytes(DEVICE, 0, size as u8, addr, data));
+        let mut memory = Memory { base: self.base, bytes: &mut self.bytes };
+        self.state.device(&mut memory, addr, size, data).expect("a device write that isn't refused");
+    }
+
+    pub fn yield_hart(&mut self, hart: usize) {
+        if self.room() == 0 {
+            return;
+        }
+        self.events.extend(event_bytes(YIELD, hart as u8, 0, 0, 0));
+        let memory = Memory { base: self.base, bytes: &mut self.bytes };
+        self.state.yield_hart(&memory, hart).expect("a yield that isn't refused");
+    }
+
+    /// Puts a word at the hart's pc and steps it.
+    pub fn perform(&mut self, hart: usize, word: u32) -> Option<Outcome> {
+        self.device(self.state.harts[hart].pc, 4, word as u64);
+        self.step(hart)
+    }
+
+    /// A device write around a reservation, or anywhere.
+    pub fn random_device(&mut self, rng: &mut Rng) {
+        let size = 1 + rng.below(8) as usize;
+        let hart = rng.below(self.state.count as u64) as usize;
+        let addr = match self.state.harts[hart].reservation {
+            Some(r) if rng.percent(70) => r.addr.wrapping_add(rng.below(24)).wrapping_sub(12),
+            _ => self.base + rng.below(self.memory.len() as u64),
+        };
+        let data = rng.value();
+        self.device(addr, size, data);
+    }
+
+    /// A hart, most of the time one whose pc is in memory.
+    pub fn some_hart(&self, rng: &mut Rng) -> usize {
+        let mut hart = 0;
+        for _ in 0..8 {
+            hart = rng.below(self.state.count as u64) as usize;
+            if self.inside(self.state.harts[hart].pc, 4) {
+                break;
+            }
+        }
+        hart
+    }
+
+    /// A register of the hart that points into memory, if one is found.
+    pub fn pointer(&self, rng: &mut Rng, hart: usize, align: u64) -> u32 {
+        let x = &self.state.harts[hart].x;
+        let mut last = 0;
+        for _ in 0..40 {
+            last = rng.reg();
+            let addr = x[last as usize];
+            if addr % align == 0 && self.inside(addr, 16) {
+                break;
+            }
+        }
+        last
+    }
+
+    /// A register of the hart that points, so aligned, into the set it has reserved.
+    fn reserved_pointer(&self, hart: usize, align: u64) -> Option<u32> {
+        let hart = &self.state.harts[hart];
+        let set = hart.reservation?.addr / 64;
+        (1..32).find(|&r| hart.x[r as usize] % align == 0 && hart.x[r as usize] / 64 == set)
+    }
+
+    /// AMOCAS, half of the time over equal bytes.
+    pub fn compare_and_swap(&mut self, rng: &mut Rng, hart: usize) {
+        let funct3 = rng.pick(&[W, D, Q]);
+        let even = if funct3 == Q { !1 } else { !0 };
+        let rd = if rng.percent(10) { 0 } else { rng.reg() & even };
+        let rs2 = if rng.percent(10) { rd } else { rng.reg() & even };
+        let rs1 = self.pointer(rng, hart, 16);
+        let x = &self.state.harts[hart].x;
+        let addr = x[rs1 as usize];
+        let (low, high) = match rd {
+            0 => (0, 0),
+            r => (x[r as usize], x[(r as usize + 1) & 31]),
+        };
+        if rng.percent(60) {
+            self.device(addr, if funct3 == W { 4 } else { 8 }, low);
+            if funct3 == Q && rng.percent(90) {
+                self.device(addr.wrapping_add(8), 8, high);
+            }
+        }
+        let order = rng.reg() & 3;
+        self.perform(hart, atomic(CAS, funct3, order, rd, rs1, rs2));
+    }
+
+    /// LR, SC, a store or an AMO.
+    pub fn reserve_or_store(&mut self, rng: &mut Rng, hart: usize) {
+        let order = rng.reg() & 3;
+        let funct3 = rng.pick(&[W, D]);
+        let address = self.pointer(rng, hart, 8);
+        let (rd, rs2) = (if rng.percent(30) { 0 } else { rng.reg() }, rng.reg());
+        let w = match rng.below(8) {
+            0..=2 => atomic(LR, funct3, order, rd, address, 0),
+            3 => s_type(rng.reg() & 3, address, rs2, rng.below(16) as i64 * 8 - 64),
+            4 => atomic(rng.pick(&AMOS), funct3, order, rd, address, rs2),
+            _ => {
+                let near = if rng.percent(80) { self.reserved_pointer(hart, 1) } else { None };
+                atomic(SC, funct3, order, rd, near.unwrap_or(address), rs2)
+            }
+        };
+        self.perform(hart, w);
+    }
+
+    /// Ends a case with events whose lines show reservations, then registers, then some of the memory. A trap carries the value of a
+    /// register, if the word at pc is `lb x0, 0(xN)` and xN lies outside memory. Nothing for calls on a state, where all can be seen.
+    pub fn show(&mut self, rng: &mut Rng, registers: bool, words: u64) {
+        if !self.case_file {
+            return;
+        }
+        for hart in 0..self.state.count {
+            let address = self.reserved_pointer(hart, 8).unwrap_or_else(|| self.pointer(rng, hart, 8));
+            self.perform(hart, atomic(SC, D, 0, 0, address, 1));
+        }
+        if registers {
+            self.show_registers();
+        }
+        self.show_memory(rng, words);
+    }
+
+    fn show_registers(&mut self) {
+        for hart in 0..self.state.count {
+            for r in 1..32 {
+                if self.inside(self.state.harts[hart].x[r], 1) || !self.inside(self.state.harts[hart].pc, 4) {
+                    continue;
+                }
+                self.perform(hart, i_type(0x03, 0, 0, r as u32, 0));
+            }
+        }
+    }
+
+    fn show_memory(&mut self, rng: &mut Rng, words: u64) {
+        let hart = self.some_hart(rng);
+        for _ in 0..words {
+            if !self.inside(self.state.harts[hart].pc, 4) {
+                break;
+            }
+            self.perform(hart, r_type(0x17, 0, 0, 1, 0, 0));
+            let pc = self.state.harts[hart].x[1];
+            let span = (self.memory.len() as u64).min(1024);
+            let offset = (rng.below(span / 8) * 8).wrapping_add(self.base).wrapping_sub(pc) as i64;
+            if (-2048..2048).contains(&offset) {
+                self.perform(hart, i_type(0x03, 3, 2, 1, offset));
+                self.perform(hart, i_type(0x03, 0, 0, 2, 0));
+                // Past it, if it trapped.
+                self.perform(hart, NOP);
+            }
+        }
+    }
+
+    /// Another memory in place of the first; before any event.
+    pub fn resize(&mut self, length: usize) {
+        self.memory.resize(length, 0);
+        self.bytes = self.memory.clone();
+    }
+
+    pub fn file(&self) -> Vec<u8> {
+        let count = self.first.count;
+        let mut harts = self.base.to_le_bytes().to_vec();
+        harts.extend_from_slice(&(count as u64).to_le_bytes());
+        for hart in &self.first.harts[..count] {
+            for value in hart.x[1..].iter().chain([&hart.pc]) {
+                harts.extend_from_slice(&value.to_le_bytes());
+            }
+        }
+        file(&harts, &self.memory, &self.events)
+    }
+}
+
+/// A case file of these bodies.
+pub fn file(harts: &[u8], memory: &[u8], events: &[u8]) -> Vec<u8> {
+    let mut file = 3u32.to_le_bytes().to_vec();
+    let mut offset = TABLE;
+    for (kind, body) in [(1u32, harts), (2, memory), (3, events)] {
+        file.extend_from_slice(&kind.to_le_bytes());
+        file.extend_from_slice(&(offset as u32).to_le_bytes());
+        file.extend_from_slice(&(body.len() as u32).to_le_bytes());
+        offset += body.len();
+    }
+    for body in [harts, memory, events] {
+        file.extend_from_slice(body);
+    }
+    file
+}

@@ -1,0 +1,159 @@
+//! Machines as bytes, valid and damaged, with events; and calls that are refused.
+
+use super::builder::Builder;
+use super::damage::damaged_body;
+use super::makers::{contention, crowded, guided, program};
+use super::Rng;
+use crate::calls::{Call, Machine};
+use crate::layout;
+use crate::machine::{State, MAX_HARTS};
+
+/// A machine with an events body. The body isn't refused unless the machine is.
+pub struct Scenario {
+    pub machine: Machine,
+    pub events: Vec<u8>,
+}
+
+pub fn scenario(rng: &mut Rng) -> Scenario {
+    let maker = match rng.below(20) {
+        0..=5 => guided,
+        6..=8 => program,
+        9..=11 => contention,
+        _ => crowded,
+    };
+    let b = Builder::for_state(rng);
+    let b = maker(rng, b);
+    let mut machine = Machine { state: state_bytes(rng, &b.first), base: b.base, memory: b.memory };
+    let mut events = b.events;
+    if rng.percent(15) {
+        for _ in 0..1 + rng.below(2) {
+            damage(rng, &mut machine);
+        }
+        // All of them are refused by one number, so a few are enough.
+        events.truncate(crate::case::EVENT * 6);
+    }
+    Scenario { machine, events }
+}
+
+/// The state as bytes, with rubbish where nothing is looked at.
+fn state_bytes(rng: &mut Rng, state: &State) -> Vec<u8> {
+    let mut bytes = layout::bytes(state);
+    for h in 0..MAX_HARTS {
+        if h >= state.count {
+            if rng.percent(70) {
+                put_rubbish(rng, &mut bytes, h);
+            }
+        } else if state.harts[h].reservation.is_none() {
+            if rng.percent(30) {
+                layout::put(&mut bytes, layout::addr(h), rng.value());
+                layout::put(&mut bytes, layout::width(h), rng.value());
+            }
+        } else if rng.percent(20) {
+            layout::put(&mut bytes, layout::held(h), rng.pick(&[2, 255, 256, 1 << 32, 1 << 63, u64::MAX]));
+        }
+    }
+    bytes
+}
+
+fn put_rubbish(rng: &mut Rng, bytes: &mut [u8], hart: usize) {
+    for r in 0..32 {
+        layout::put(bytes, layout::x(hart, r), rng.value());
+    }
+    for place in [layout::pc(hart), layout::held(hart), layout::addr(hart), layout::width(hart)] {
+        layout::put(bytes, place, rng.value());
+    }
+}
+
+/// Makes something wrong that refusals 1 and 2 or the sizes are about, or right by luck.
+fn damage(rng: &mut Rng, m: &mut Machine) {
+    match rng.below(12) {
+        0 => {
+            m.base = rng.pick(&[
+                m.base.wrapping_add(1),
+                m.base.wrapping_add(32),
+                (1 << 40) + 64,
+                (1 << 40) + 1,
+                1 << 41,
+                1 << 63,
+                u64::MAX - 63,
+                u64::MAX,
+            ])
+        }
+        1 => {
+            let length = rng.pick(&[0, 1, 32, 63, 65, 100, m.memory.len().saturating_sub(1), m.memory.len() + 8]);
+            m.memory.resize(length, 0);
+        }
+        2 if rng.percent(20) => m.memory.resize(rng.pick(&[(1 << 20) + 1, (1 << 20) + 64, 1 << 21]), 0),
+        3 if rng.percent(50) => m.state.resize(rng.pick(&[0, 8, 2304, 2311, 2313, 2320, 4624]), 0),
+        _ if m.state.len() == layout::SIZE => damage_state(rng, m),
+        _ => {}
+    }
+}
+
+fn damage_state(rng: &mut Rng, m: &mut Machine) {
+    let count = layout::get(&m.state, layout::COUNT);
+    // Seldom an unused hart: then nothing is wrong.
+    let hart = if rng.percent(80) { rng.below(count.clamp(1, 8)) } else { rng.below(8) } as usize;
+    let state = &mut m.state;
+    match rng.below(8) {
+        0 => layout::put(state, layout::COUNT, rng.pick(&[0, 0, 9, 10, 256, (1 << 32) + 1, 1 << 32, 1 << 63, u64::MAX])),
+        1 => layout::put(state, layout::COUNT, 1 + rng.below(8)),
+        2 => layout::put(state, layout::x(hart, 0), 1 << rng.below(64)),
+        3 => state[layout::pc(hart)] ^= rng.pick(&[1, 2, 3]),
+        4..=6 => damage_reservation(rng, m, hart),
+        _ => {
+            let place = rng.below(layout::SIZE as u64) as usize;
+            state[place] ^= 1 << rng.below(8);
+        }
+    }
+}
+
+/// A reservation of a wrong width, misaligned or outside memory, or one at an edge that is right.
+fn damage_reservation(rng: &mut Rng, m: &mut Machine, hart: usize) {
+    let width = match rng.below(3) {
+        0 => rng.pick(&[0, 1, 2, 3, 5, 6, 12, 16, 64, 256, 260, 264, (1 << 32) + 4, (1 << 63) + 8, u64::MAX]),
+        _ => rng.pick(&[4, 8]),
+    };
+    let end = m.base.wrapping_add(m.memory.len() as u64);
+    let addr = match rng.below(4) {
+        0 => m.base.wrapping_add(rng.below(m.memory.len().max(1) as u64)),
+        1 => rng.pick(&[m.base, end]).wrapping_add(4 * rng.below(8)).wrapping_sub(16),
+        2 => rng.pick(&[0, 4, 1 << 40, 1 << 63, u64::MAX - 3, u64::MAX - 7]),
+        _ => rng.next() & !7,
+    };
+    for (place, value) in [(layout::held(hart), 1), (layout::addr(hart), addr), (layout::width(hart), width)] {
+        layout::put(&mut m.state, place, value);
+    }
+}
+
+/// A call that 3, 4 or 5 refuses where 1 and 2 don't.
+pub fn refused_call(rng: &mut Rng, m: &Machine, count: usize) -> Call {
+    let hart = rng.pick(&[count, count + 1, 8, 9, 255, 256, 1 << 32, (1 << 32) + 1, usize::MAX]).max(count);
+    match rng.below(4) {
+        0 => Call::Step { hart },
+        1 => Call::Yield { hart },
+        2 => {
+            let addr = m.base.wrapping_add(rng.below(64)).wrapping_sub(rng.pick(&[0, 32]));
+            let size = rng.pick(&[0, 9, 10, 16, 255, 256, 257, 1 << 32, (1 << 32) + 1, 1 << 63, usize::MAX]);
+            Call::DeviceWrite { addr, size, data: rng.next() }
+        }
+        _ => {
+            let size = 1 + rng.below(8);
+            let end = m.base.wrapping_add(m.memory.len() as u64);
+            let before = m.base.wrapping_sub(1 + rng.below(10));
+            let after = end.wrapping_sub(rng.below(size));
+            let top = u64::MAX - rng.below(9);
+            let addr = rng.pick(&[before, after, end, top, 1 << 63, end.wrapping_add(1 << 32)]);
+            Call::DeviceWrite { addr, size: size as usize, data: rng.next() }
+        }
+    }
+}
+
+/// A run of the events, or of events with something changed.
+pub fn run_call(rng: &mut Rng, m: &Machine, count: usize, events: &[u8]) -> Call {
+    let events = if rng.percent(50) { events.to_vec() } else { damaged_body(rng, events, count as u8, m.base, m.memory.len() as u64) };
+    let number = events.len() / crate::case::EVENT;
+    let below = rng.below(number as u64 + 1) as usize;
+    let budget = rng.pick(&[0, 1, below, below, number.saturating_sub(1), number, number + 1, 1 << 32, usize::MAX]);
+    Call::Run { events, budget }
+}

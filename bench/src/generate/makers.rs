@@ -1,0 +1,189 @@
+//! Machines and events of several kinds.
+
+use super::builder::Builder;
+use super::words::{atomic, b_type, i_type, j_type, s_type, word, AMOS, ATOMICS, CAS, D, LR, NOP, Q, SC, W};
+use super::Rng;
+use crate::machine::Outcome;
+
+/// Random words, one after another, at the pc of random harts.
+pub fn guided(rng: &mut Rng, mut b: Builder) -> Builder {
+    for byte in &mut b.memory {
+        *byte = rng.next() as u8;
+    }
+    b.fill_registers(rng);
+    b.start(rng);
+    let steps = b.steps(rng, 80, 800);
+    for _ in 0..steps {
+        let hart = b.some_hart(rng);
+        if stuck(rng, &b, hart) {
+            continue;
+        }
+        match rng.below(30) {
+            0 | 1 => b.random_device(rng),
+            2 if rng.percent(50) => b.yield_hart(hart),
+            3..=7 => b.compare_and_swap(rng, hart),
+            8..=13 => b.reserve_or_store(rng, hart),
+            14 => {
+                b.step(hart);
+            }
+            _ => {
+                let align = rng.pick(&[1, 4, 8, 16, 16]);
+                let address = b.pointer(rng, hart, align);
+                let w = word(rng, address);
+                b.perform(hart, w);
+            }
+        }
+    }
+    let (registers, words) = (rng.percent(70), rng.below(20));
+    b.show(rng, registers, words);
+    b
+}
+
+/// A memory full of random words; now and then the word of a hart that trapped is mended.
+pub fn program(rng: &mut Rng, mut b: Builder) -> Builder {
+    b.fill_registers(rng);
+    let address = rng.reg();
+    for h in 0..b.state.count {
+        if address != 0 {
+            b.state.harts[h].x[address as usize] = b.base + rng.below(b.memory.len() as u64 / 16) * 16;
+        }
+    }
+    for place in b.memory.chunks_exact_mut(4) {
+        let a = if rng.percent(80) { address } else { rng.reg() };
+        place.copy_from_slice(&word(rng, a).to_le_bytes());
+    }
+    b.start(rng);
+    let steps = b.steps(rng, 150, 2600);
+    for _ in 0..steps {
+        let hart = b.some_hart(rng);
+        match rng.below(40) {
+            0 => b.random_device(rng),
+            1 => b.yield_hart(hart),
+            _ => {
+                let address = b.pointer(rng, hart, 16);
+                step_and_mend(rng, &mut b, hart, 60, |rng| word(rng, address));
+            }
+        }
+    }
+    let (registers, words) = (rng.percent(30), rng.below(8));
+    b.show(rng, registers, words);
+    b
+}
+
+/// Whether to leave out a hart outside memory, which will trap for ever: mostly.
+fn stuck(rng: &mut Rng, b: &Builder, hart: usize) -> bool {
+    !b.inside(b.state.harts[hart].pc, 4) && rng.percent(90)
+}
+
+/// Steps a hart; if it traps, mostly puts another word where it is, so that it can go on.
+fn step_and_mend(rng: &mut Rng, b: &mut Builder, hart: usize, percent: u64, another: impl Fn(&mut Rng) -> u32) {
+    if stuck(rng, b, hart) {
+        return;
+    }
+    if matches!(b.step(hart), Some(Outcome::Trap(_))) && rng.percent(percent) {
+        b.device(b.state.harts[hart].pc, 4, another(rng) as u64);
+    }
+}
+
+/// Harts in retry loops on one set or two, with plain stores, AMOs, device writes and yields between.
+pub fn contention(rng: &mut Rng, mut b: Builder) -> Builder {
+    b.memory.resize(b.memory.len().max(256), 0);
+    b.fill_registers(rng);
+    let code = retry_loop(rng);
+    b.put_words(&code);
+    let set = b.base + 64 * (1 + rng.below(2));
+    for h in 0..b.state.count {
+        let hart = &mut b.state.harts[h];
+        hart.pc = b.base + if rng.percent(70) { 0 } else { 4 * rng.below(8) };
+        let mut near = |p| if rng.percent(p) { set } else { set + rng.below(18) * 8 - 8 };
+        hart.x[5] = near(60);
+        hart.x[10] = near(30);
+    }
+    b.start(rng);
+    let steps = b.steps(rng, 200, 2600);
+    let burst = rng.pick(&[0, 50, 80]);
+    steps_in_bursts(rng, &mut b, steps, burst, 2);
+    let (registers, words) = (rng.percent(50), rng.below(8));
+    b.show(rng, registers, words);
+    b
+}
+
+fn retry_loop(rng: &mut Rng) -> [u32; 8] {
+    let funct3 = rng.pick(&[W, D]);
+    let other = if rng.percent(85) { funct3 } else { W + D - funct3 };
+    let order = rng.reg() & 3;
+    [
+        atomic(LR, funct3, order, 6, 5, 0),
+        i_type(0x13, 0, 8, 6, 1),
+        if rng.percent(20) { b_type(1, 6, 9, 12) } else { NOP },
+        atomic(SC, other, order, 7, 5, 8),
+        b_type(1, 7, 0, -16),
+        if rng.percent(40) { s_type(rng.reg() & 3, 10, 8, 0) } else { NOP },
+        if rng.percent(40) { atomic(rng.pick(&ATOMICS), funct3, 0, 12, 10, 0) } else { NOP },
+        j_type(0, -28),
+    ]
+}
+
+/// Steps, some of the same hart in a row so that a loop can finish, with device writes and yields between.
+fn steps_in_bursts(rng: &mut Rng, b: &mut Builder, steps: u64, burst: u64, mended: u64) {
+    let mut hart = 0;
+    for _ in 0..steps {
+        if !rng.percent(burst) {
+            hart = rng.below(b.state.count as u64) as usize;
+        }
+        match rng.below(60) {
+            0 => b.random_device(rng),
+            1 => b.yield_hart(hart),
+            _ => step_and_mend(rng, b, hart, mended, crowded_word),
+        }
+    }
+}
+
+/// Atomics and stores alone, by all harts on few addresses about the boundary of two sets.
+pub fn crowded(rng: &mut Rng, mut b: Builder) -> Builder {
+    b.memory.resize(b.memory.len().max(256), 0);
+    b.fill_registers(rng);
+    let mut code: Vec<u32> = (0..31).map(|_| crowded_word(rng)).collect();
+    code.push(j_type(0, -124));
+    b.put_words(&code);
+    let boundary = b.base + b.memory.len() as u64 - 64;
+    let few: [u64; 4] = std::array::from_fn(|_| {
+        let place = boundary - 32 + 4 * rng.below(16);
+        place & if rng.percent(60) { !15 } else { !0 }
+    });
+    for h in 0..b.state.count {
+        let hart = &mut b.state.harts[h];
+        hart.pc = b.base + 4 * rng.below(32);
+        for r in 1..8 {
+            hart.x[r] = if rng.percent(60) { rng.below(3).wrapping_sub(1) } else { rng.value() };
+        }
+        for r in 8..32 {
+            if rng.percent(90) {
+                hart.x[r] = rng.pick(&few);
+            }
+        }
+    }
+    b.start(rng);
+    let steps = b.steps(rng, 150, 1200);
+    let burst = rng.pick(&[0, 30, 60]);
+    steps_in_bursts(rng, &mut b, steps, burst, 70);
+    b
+}
+
+/// An atomic or a store that leaves x8 to x31, the addresses, as they are.
+fn crowded_word(rng: &mut Rng) -> u32 {
+    let order = rng.reg() & 3;
+    let funct3 = rng.pick(&[W, D]);
+    let (rd, address, rs2) = (rng.reg() & 7, 8 + rng.below(24) as u32, rng.reg());
+    match rng.below(20) {
+        0..=5 => atomic(LR, funct3, order, rd, address, 0),
+        6..=10 => atomic(SC, funct3, order, rd, address, rs2),
+        11..=14 => atomic(rng.pick(&AMOS), funct3, order, rd, address, rs2),
+        15..=17 => {
+            let funct3 = rng.pick(&[W, D, Q]);
+            let even = if funct3 == Q { !1 } else { !0 };
+            atomic(CAS, funct3, order, rd & even, address, rs2 & even)
+        }
+        _ => s_type(rng.reg() & 3, address, rs2, rng.below(5) as i64 * 8 - 16),
+    }
+}

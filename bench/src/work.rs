@@ -1,0 +1,171 @@
+//! Work for long runs: a machine and events that can go on for ever, so that a run can be taken up where the last one ended.
+
+use crate::generate::builder::{event_bytes, low_bytes, DEVICE, STEP, YIELD};
+use crate::generate::words::{atomic, b_type, i_type, j_type, r_type, s_type, u_type, AMOS, CAS, D, LR, NOP, Q, SC, W};
+use crate::generate::Rng;
+use crate::machine::State;
+
+pub const BASE: u64 = 0x8000_0000;
+
+pub struct Work {
+    pub state: State,
+    pub memory: Vec<u8>,
+    pub events: Vec<u8>,
+}
+
+impl Work {
+    /// All harts start at the first of the words, which stand at the start of memory.
+    fn new(harts: usize, memory: usize, words: &[u32]) -> Self {
+        let mut work = Work { state: State { count: harts, ..State::default() }, memory: vec![0; memory], events: Vec::new() };
+        for (place, w) in work.memory.chunks_exact_mut(4).zip(words) {
+            place.copy_from_slice(&w.to_le_bytes());
+        }
+        for hart in &mut work.state.harts[..harts] {
+            hart.pc = BASE;
+        }
+        work
+    }
+
+    fn set(&mut self, register: usize, value: impl Fn(usize) -> u64) {
+        for (h, hart) in self.state.harts[..self.state.count].iter_mut().enumerate() {
+            hart.x[register] = value(h);
+        }
+    }
+
+    fn step(&mut self, hart: usize) {
+        self.events.extend(event_bytes(STEP, hart as u8, 0, 0, 0));
+    }
+
+    /// Harts in turn, one step each.
+    fn in_turn(mut self, events: usize) -> Self {
+        for n in 0..events {
+            self.step(n % self.state.count);
+        }
+        self
+    }
+
+    /// Some steps of one hart, then of another, so that retry loops now finish, now fail.
+    fn in_bursts(mut self, events: usize) -> Self {
+        let rng = &mut Rng::new(1);
+        let mut hart = 0;
+        for _ in 0..events {
+            if rng.percent(20) {
+                hart = rng.below(self.state.count as u64) as usize;
+            }
+            self.step(hart);
+        }
+        self
+    }
+}
+
+/// Register operations and branches.
+pub fn compute(harts: usize, events: usize) -> Work {
+    let words = [
+        i_type(0x13, 0, 5, 5, 1),
+        r_type(0x33, 0, 0, 6, 6, 5),
+        r_type(0x33, 4, 0, 7, 6, 7),
+        i_type(0x13, 1, 8, 7, 13),
+        i_type(0x13, 5, 9, 8, 0x400 | 7),
+        r_type(0x33, 3, 0, 10, 9, 6),
+        r_type(0x3B, 0, 0x20, 11, 9, 10),
+        u_type(0x37, 12, 0x12345),
+        b_type(4, 11, 12, 8),
+        r_type(0x33, 6, 0, 13, 11, 7),
+        i_type(0x1B, 0, 14, 13, -5),
+        j_type(1, -44),
+    ];
+    Work::new(harts, 4096, &words).in_turn(events)
+}
+
+/// A load, a store and a load for every 8 bytes of what memory has behind the words, over and over.
+pub fn memory(harts: usize, length: usize, events: usize) -> Work {
+    let words = [
+        i_type(0x03, 3, 6, 5, 0),
+        i_type(0x13, 0, 6, 6, 1),
+        s_type(3, 5, 6, 0),
+        i_type(0x03, 6, 7, 5, 4),
+        i_type(0x13, 0, 5, 5, 8),
+        b_type(6, 5, 9, -20),
+        i_type(0x13, 0, 5, 8, 0),
+        j_type(0, -28),
+    ];
+    let mut work = Work::new(harts, length, &words);
+    let first = BASE + 4 * words.len() as u64;
+    let lines = (length as u64 - 4 * words.len() as u64) / 8;
+    // The harts start at different places.
+    work.set(5, |h| first + 8 * (h as u64 * lines / harts as u64));
+    work.set(8, |_| first);
+    work.set(9, |_| BASE + length as u64);
+    work.in_turn(events)
+}
+
+/// Harts in one retry loop on one line.
+fn retry(harts: usize) -> Work {
+    let words = [atomic(LR, D, 2, 6, 5, 0), i_type(0x13, 0, 6, 6, 1), atomic(SC, D, 1, 7, 5, 6), b_type(1, 7, 0, -12), j_type(0, -16)];
+    let mut work = Work::new(harts, 4096, &words);
+    work.set(5, |h| BASE + 1024 + 8 * (h as u64 % 2));
+    work
+}
+
+pub fn contention(harts: usize, events: usize) -> Work {
+    retry(harts).in_bursts(events)
+}
+
+/// Every AMO and AMOCAS, in all widths, on two lines.
+pub fn amos(harts: usize, events: usize) -> Work {
+    let mut words: Vec<u32> = AMOS.iter().flat_map(|&op| [atomic(op, W, 0, 6, 5, 7), atomic(op, D, 3, 8, 9, 7)]).collect();
+    words.extend([W, D, Q].map(|width| atomic(CAS, width, 0, 10, 5, 12)));
+    words.extend([i_type(0x13, 0, 12, 12, 3), r_type(0x33, 4, 0, 7, 7, 12)]);
+    words.push(j_type(0, -4 * words.len() as i64));
+    let mut work = Work::new(harts, 4096, &words);
+    work.set(5, |_| BASE + 1024);
+    work.set(9, |h| BASE + 1024 + 64 * (h as u64 % 2));
+    work.set(7, |h| 0x0123_4567_89AB_CDEF * (h as u64 + 1));
+    work.in_turn(events)
+}
+
+/// Harts that trap at every step, each by another cause.
+pub fn traps(events: usize) -> Work {
+    let words = [
+        0x0000_0073,
+        0x0010_0073,
+        0xFFFF_FFFF,
+        j_type(0, 2),
+        i_type(0x03, 3, 6, 5, 1),
+        i_type(0x03, 3, 6, 5, -8),
+        atomic(SC, W, 0, 6, 7, 6),
+        atomic(AMOS[0], D, 0, 6, 8, 6),
+    ];
+    let mut work = Work::new(words.len(), 4096, &words);
+    work.set(5, |_| BASE);
+    work.set(7, |_| BASE + 2);
+    work.set(8, |_| BASE + 4096);
+    for (h, hart) in work.state.harts.iter_mut().enumerate() {
+        hart.pc = BASE + 4 * h as u64;
+    }
+    work.in_turn(events)
+}
+
+/// A third steps of retry loops, a third device writes, a third yields.
+pub fn devices(harts: usize, events: usize) -> Work {
+    let mut work = retry(harts);
+    let rng = &mut Rng::new(1);
+    for _ in 0..events {
+        let hart = rng.below(harts as u64);
+        let event = match rng.below(3) {
+            0 => event_bytes(STEP, hart as u8, 0, 0, 0),
+            1 => {
+                let size = 1 + rng.below(8) as usize;
+                event_bytes(DEVICE, 0, size as u8, BASE + 1016 + rng.below(40), low_bytes(rng.next(), size))
+            }
+            _ => event_bytes(YIELD, hart as u8, 0, 0, 0),
+        };
+        work.events.extend(event);
+    }
+    work
+}
+
+/// One step after another that does nothing.
+pub fn idle() -> Work {
+    Work::new(8, 4096, &[NOP, j_type(0, -4)])
+}
