@@ -11,10 +11,12 @@
 
 int main(void)
 {
-    /* More than a block may have, so that a longer one shows its length. */
-    static uint8_t words[4 * 17];
-    size_t n = fread(words, 1, sizeof words, stdin);
-    uint64_t r = floecavern_check_loop(words, n);
+    /* A word more than a block may have: a longer one is refused whatever its words, so that the rest is only counted. */
+    static uint8_t words[4 * 17], rest[4096];
+    size_t n = fread(words, 1, sizeof words, stdin), total = n, more;
+    while ((more = fread(rest, 1, sizeof rest, stdin)) > 0)
+        total += more;
+    uint64_t r = total % 4 == 0 ? floecavern_check_loop(words, n) : FLOECAVERN_BAD_SIZE;
     if (r == FLOECAVERN_BAD_SIZE)
         printf("bad input: length is not a multiple of 4\n");
     else if (r == FLOECAVERN_LOOP_ACCEPTED)

@@ -8,7 +8,7 @@
 
 #include "floecavern.h"
 
-/* A byte more than a case file may have, so that a longer file shows its length. */
+/* A byte more than a case file may have, so that a longer file is seen to be longer. */
 static uint8_t file[65537];
 static uint8_t out[FLOECAVERN_REPORT_ROOM];
 

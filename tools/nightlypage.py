@@ -37,7 +37,7 @@ def number(n):
 
 
 def seconds(s):
-    s = round(s, 1) if s < 60 else round(s)
+    s = round(s, 3 if s < 0.1 else 1) if s < 60 else round(s)
     return '%g s' % s if s < 60 else '%d min %d s' % divmod(s, 60) if s < 3600 else '%d h %d min' % (s // 3600, s % 3600 // 60)
 
 
