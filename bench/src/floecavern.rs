@@ -1,58 +1,9 @@
-//! The proved library itself: include/floecavern.h, from libcapi.a.
+//! The proved library itself: include/floecavern.h, from libcapi.a, which `rust/` links.
 
 use crate::calls::{Call, Machine};
+use ::floecavern::raw::*;
 
-/// The room that a report needs.
-pub const REPORT_ROOM: usize = 262_144;
-
-extern "C" {
-    fn floecavern_report(file: *const u8, file_len: usize, out: *mut u8, out_len: usize) -> u64;
-    fn floecavern_check_loop(words: *const u8, words_len: usize) -> u64;
-    fn floecavern_step(
-        state: *mut u8,
-        state_len: usize,
-        base: u64,
-        mem: *mut u8,
-        mem_len: usize,
-        hart: usize,
-        value: *mut u8,
-        value_len: usize,
-    ) -> u64;
-    fn floecavern_device_write(
-        state: *mut u8,
-        state_len: usize,
-        base: u64,
-        mem: *mut u8,
-        mem_len: usize,
-        addr: u64,
-        size: usize,
-        data: u64,
-        value: *mut u8,
-        value_len: usize,
-    ) -> u64;
-    fn floecavern_yield(
-        state: *mut u8,
-        state_len: usize,
-        base: u64,
-        mem: *mut u8,
-        mem_len: usize,
-        hart: usize,
-        value: *mut u8,
-        value_len: usize,
-    ) -> u64;
-    fn floecavern_run(
-        state: *mut u8,
-        state_len: usize,
-        base: u64,
-        mem: *mut u8,
-        mem_len: usize,
-        events: *const u8,
-        events_len: usize,
-        budget: usize,
-        ran: *mut u8,
-        ran_len: usize,
-    ) -> u64;
-}
+pub use ::floecavern::REPORT_ROOM;
 
 /// Performs a call, as `calls::perform` does.
 pub fn perform(machine: &mut Machine, call: &Call, told: &mut [u8]) -> u64 {

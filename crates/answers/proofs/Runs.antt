@@ -5,8 +5,7 @@ use mathlib.Core.Logic.{_↔_}
 use mathlib.Core.List.{List}
 use native.Mathlib.Omega.{arith}
 use lib.ListN.{length, take}
-use lib.Dec.{ltb}
-use borrow.Author.Tests.{ltb-true, ltb-false, ne-eqb}
+use borrow.Author.Tests.{ne-eqb}
 use Rattle.word.proofs.TestLaws.{bool-cases, contrary}
 use Rattle.machine.specs.State.{memoryOk, stateOk, refusalOf}
 use Rattle.machine.specs.Rules.{MemoryRules, StateRules}
@@ -40,9 +39,6 @@ placeIn (Refused number place) = place
 abbrev verdictIn : Result → Verdict
 verdictIn r = r .ran .verdict
 
-not-lower : (m n : ℕ) → (m < n → ⊥) → n ≤ m
-not-lower m n f = bool-cases (ltb m n) (λ t. absurd (f (ltb-true m n t))) (λ t. ltb-false m n t)
-
 -- ---- the rows decide
 
 module _ (base : ℕ) (mem : List ℕ) (s : State) (body : List ℕ) where
@@ -66,12 +62,7 @@ module _ (base : ℕ) (mem : List ℕ) (s : State) (body : List ℕ) where
   -- one number and one place
   pub run-refused-one : (m p n q : ℕ) → RunRefused base mem s body m p → RunRefused base mem s body n q → (m ≡ n) × (p ≡ q)
   run-refused-one m p n q a b =
-      let up : n ≤ m = not-lower m n (λ l. b .first m p l (a .applies)) in
-      let down : m ≤ n = not-lower n m (λ l. a .first n q l (b .applies)) in
-      let e : m ≡ n = omega (arith, up, down) in
-      let right : q ≤ p = not-lower p q (λ l. b .lowest p l (rw (← e) (a .applies))) in
-      let left : p ≤ q = not-lower q p (λ l. a .lowest q l (rw e (b .applies))) in
-      (e, omega (arith, left, right))
+      E.one-row (RunRow base mem s body) m p n q (a .applies) (a .first) (a .lowest) (b .applies) (b .first) (b .lowest)
 
   module _ (budget : ℕ) where
     -- what a run gives that is performed

@@ -30,9 +30,6 @@ use Rattle.casefile.proofs.HartsLaws.{harts-exact}
 eq-cases : {P : Type 0} (a b : ℕ) → (a ≡ b → eqb a b ≡ true → P) → ((a ≡ b → ⊥) → eqb a b ≡ false → P) → P
 eq-cases a b f g = bool-cases (eqb a b) (λ t. f (eqb-true a b t) t) (λ t. g (eqb-false a b t) t)
 
-not-lower : (m n : ℕ) → (m < n → ⊥) → n ≤ m
-not-lower m n f = bool-cases (ltb m n) (λ t. absurd (f (ltb-true m n t))) (λ t. ltb-false m n t)
-
 -- a row that is wrong at a place stands at p or later, if it is right where its place is below p
 from-place : {A : Type 0} (p q k : ℕ) → q ≡ k → (A → ⊥) → (k < p → A) → p ≤ q
 from-place p q k e w a = bool-cases (ltb k p) (λ t. absurd (w (a (ltb-true k p t)))) (λ t. omega (arith, ltb-false k p t))
@@ -223,7 +220,7 @@ module _ (file : List ℕ) where
   events-from p f q (badTable z w) = absurd (omega arith)
   events-from p f q (badHarts z w r) = absurd (omega arith)
   events-from p f q (badMemoryLength z w r) = absurd (omega arith)
-  events-from p f q (badEvents z i w r) = let l : p ≤ i = not-lower i p (λ k. f i k r) in omega (arith, l, w)
+  events-from p f q (badEvents z i w r) = let l : p ≤ i = E.not-lower i p (λ k. f i k r) in omega (arith, l, w)
 
   not-below : (n p : ℕ) → From n p → (q : ℕ) → q < p → FileRow file n q → ⊥
   not-below n p f q l r = omega (arith, f q r, l)
@@ -352,12 +349,7 @@ lastIn (Bodies m e) = e
 module _ (file : List ℕ) where
   pub refused-one : (m p n q : ℕ) → RefusedBy file m p → RefusedBy file n q → (m ≡ n) × (p ≡ q)
   refused-one m p n q a b =
-      let up : n ≤ m = not-lower m n (λ l. b .first m p l (a .applies)) in
-      let down : m ≤ n = not-lower n m (λ l. a .first n q l (b .applies)) in
-      let e : m ≡ n = omega (arith, up, down) in
-      let right : q ≤ p = not-lower p q (λ l. b .lowest p l (rw (← e) (a .applies))) in
-      let left : p ≤ q = not-lower q p (λ l. a .lowest q l (rw e (b .applies))) in
-      (e, omega (arith, left, right))
+      E.one-row (FileRow file) m p n q (a .applies) (a .first) (a .lowest) (b .applies) (b .first) (b .lowest)
 
   given : Decided file → (n p : ℕ) → caseOf file .found ≡ Refused n p → RefusedBy file n p
   given (refuses m q c r) n p o =

@@ -3,7 +3,10 @@ use machine::State;
 use reserve::Reservation;
 use reserve::Slot;
 use word::bytes::load_at;
+ghost use mathlib.Core.Path.{_≡_};
 ghost use Prim.Native.Nat.{_≤_};
+ghost use Rattle.word.specs.Bytes.{le};
+ghost use Rattle.word.specs.Memory.{part};
 
 // number counts the cases before this one.
 pub struct Case {
@@ -14,15 +17,21 @@ pub struct Case {
 }
 
 // The three numbers of an item.
-pub fn n(item: &[u8; 24]) -> u64 {
+pub fn n(item: &[u8; 24]) -> u64
+    ensures { λ r. ⌜ r ≡ le (part (now (item .entry)) 1 7) ⌝ }
+{
     load_at(item, 1, 7)
 }
 
-pub fn a(item: &[u8; 24]) -> u64 {
+pub fn a(item: &[u8; 24]) -> u64
+    ensures { λ r. ⌜ r ≡ le (part (now (item .entry)) 8 8) ⌝ }
+{
     load_at(item, 8, 8)
 }
 
-pub fn b(item: &[u8; 24]) -> u64 {
+pub fn b(item: &[u8; 24]) -> u64
+    ensures { λ r. ⌜ r ≡ le (part (now (item .entry)) 16 8) ⌝ }
+{
     load_at(item, 16, 8)
 }
 

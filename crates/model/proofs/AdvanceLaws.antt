@@ -114,6 +114,10 @@ take-events zero n body h = refl
 take-events (suc k) zero body h = absurd (omega arith)
 take-events (suc k) (suc n) body h = ap (λ (l : List Event). eventOf (take 24 body) ∷ l) (take-events k n (drop 24 body) (omega arith))
 
+-- the bytes of an event that is cut out of a body
+pub event-width : (i : ℕ) → i * 24 + 24 - i * 24 ≡ 24
+event-width i = omega arith
+
 -- one event more of a body
 pub events-more : (n i : ℕ) (body : List ℕ) → i < n
     → firstEvents (n - i) (drop (i * 24) body) ≡ eventOf (take 24 (drop (i * 24) body)) ∷ firstEvents (n - (i + 1)) (drop ((i + 1) * 24) body)

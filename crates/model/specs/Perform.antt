@@ -66,6 +66,10 @@ answerOf base mem s e = record { outcome = told (actOf base mem s e); state = ap
 unfoldable pub memoryOf : ℕ → List ℕ → State → Event → List ℕ
 memoryOf base mem s e = leaves base mem (actOf base mem s e)
 
+-- the answer alone
+abbrev pub answered : ℕ → Machine → Event → Outcome
+answered base m e = answerOf base (m .mem) (m .state) e .outcome
+
 -- the machine after an event, and after events one after another: each gets what the one before left
 unfoldable pub nextOf : ℕ → Machine → Event → Machine
 nextOf base m e = record { state = answerOf base (m .mem) (m .state) e .state; mem = memoryOf base (m .mem) (m .state) e }

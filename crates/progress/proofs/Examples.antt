@@ -30,14 +30,14 @@ use Rattle.effect.specs.Execute.{regAt, execAtomic, execute, executeWord}
 use Rattle.events.specs.declared.Event.{Event}
 use Rattle.events.specs.declared.Event.the-variants.{Step, Device, Yield}
 use Rattle.model.specs.Act.{setReg, apply, leaves}
-use Rattle.model.specs.Perform.{Machine, fetchOf, deviceOf, actOn, actOf, answerOf, memoryOf, nextOf, runOf}
+use Rattle.model.specs.Perform.{Machine, fetchOf, deviceOf, actOn, actOf, answerOf, memoryOf, nextOf, runOf, answered}
 use Rattle.model.specs.Trace.{noticeAt, WritesInto}
 use Rattle.model.specs.declared.Outcome.{Outcome}
 use Rattle.model.specs.declared.Outcome.the-variants as O
 use Rattle.retry.specs.Reasons.{LrAt}
 use Rattle.retry.specs.declared.LoopAnswer.the-variants.{Accepted}
 use Rattle.retry.specs.Loop.{viewOf, pastSc, wrongOffset, clobbers, lowestOf, scanOf, startOf, checkOf}
-use Rattle.progress.specs.Claim.{answered, Start, Harmless, Finish, succeeded, left, back, Safe, Finishes, Calm, Unfinished}
+use Rattle.progress.specs.Claim.{Start, Harmless, Finish, succeeded, left, back, Safe, Finishes, Calm, Unfinished}
 use Rattle.progress.proofs.Retry.{retry}
 
 -- Edge 12's loop: lr.w x6,(x5); bne x6,x0,+12; sc.w x7,x8,(x5); bne x7,x0,-12.

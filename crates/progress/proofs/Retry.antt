@@ -36,7 +36,7 @@ use Rattle.effect.proofs.Sound.{width-is}
 use Rattle.events.specs.declared.Event.{Event}
 use Rattle.events.specs.declared.Event.the-variants.{Step, Device, Yield}
 use Rattle.model.specs.Act.{Act, change, told, retiredAs, actNotice, written, countersAfter, registersAfter, apply, leaves}
-use Rattle.model.specs.Perform.{Machine, reservationOf, ofExec, actOf, answerOf, memoryOf, nextOf, runOf}
+use Rattle.model.specs.Perform.{Machine, reservationOf, ofExec, actOf, answerOf, memoryOf, nextOf, runOf, answered}
 use Rattle.model.specs.Valid.{Valid}
 use Rattle.model.specs.Trace.{noticeAt, WritesInto, NotBy}
 use Rattle.model.specs.Fetch.{Fetches}
@@ -52,7 +52,7 @@ use Rattle.retry.specs.declared.View.{View}
 use Rattle.retry.specs.declared.View.the-variants.{Lr, Sc, Plain, Jump, Branch, Other}
 use Rattle.retry.proofs.ViewLaws.{Seen, SeenLr, SeenSc, seen, lr-view}
 use Rattle.retry.proofs.Accepted.{Ahead, Home, Keeps, Before, After, Block, block}
-use Rattle.progress.specs.Claim.{answered, hartPc, isStep, Stored, FineAs, Fine, Start, Harmless, Finish, succeeded, left, back, Safe, Finishes, Calm, Unfinished, steps, NextStep}
+use Rattle.progress.specs.Claim.{hartPc, isStep, Stored, FineAs, Fine, Start, Harmless, Finish, succeeded, left, back, Safe, Finishes, Calm, Unfinished, steps, NextStep}
 use Rattle.progress.proofs.Does.{Moves, Does, does, does-lr, does-sc}
 
 -- ---- notices

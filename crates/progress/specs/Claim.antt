@@ -20,7 +20,7 @@ use Rattle.effect.specs.Execute.{regAt}
 use Rattle.effect.specs.Memory.{valueAt}
 use Rattle.events.specs.declared.Event.{Event}
 use Rattle.events.specs.declared.Event.the-variants.{Step, Device, Yield}
-use Rattle.model.specs.Perform.{Machine, answerOf, nextOf, runOf}
+use Rattle.model.specs.Perform.{Machine, nextOf, runOf, answered}
 use Rattle.model.specs.Valid.{Valid}
 use Rattle.model.specs.Trace.{noticeAt, WritesInto}
 use Rattle.model.specs.Fetch.{Fetches}
@@ -29,10 +29,6 @@ use Rattle.model.specs.declared.Outcome.the-variants as O
 use Rattle.retry.specs.Loop.{checkOf}
 use Rattle.retry.specs.Reasons.{LrAt}
 use Rattle.retry.specs.declared.LoopAnswer.the-variants.{Accepted}
-
--- the answer to an event
-abbrev pub answered : ℕ → Machine → Event → Outcome
-answered base m e = answerOf base (m .mem) (m .state) e .outcome
 
 -- a hart's pc
 abbrev pub hartPc : Machine → ℕ → ℕ

@@ -23,7 +23,7 @@ use Rattle.effect.proofs.TrapLaws as T
 use Rattle.events.specs.declared.Event.{Event}
 use Rattle.events.specs.declared.Event.the-variants.{Step}
 use Rattle.model.specs.Act.{Act, told, setReg, apply, leaves}
-use Rattle.model.specs.Perform.{Machine, reservationOf, ofExec, actOf, answerOf, memoryOf, nextOf, runOf}
+use Rattle.model.specs.Perform.{Machine, reservationOf, ofExec, actOf, answerOf, memoryOf, nextOf, runOf, answered}
 use Rattle.model.specs.Valid.{Valid}
 use Rattle.model.specs.Trace.{traceOf}
 use Rattle.model.specs.declared.Outcome.the-variants.{ScStored, ScFailed, Trap}
@@ -31,7 +31,7 @@ use Rattle.model.proofs.Valid.{valid-next, valid-run}
 use Rattle.model.proofs.Frame.{count-next, count-run, shaped-next, res-next, step-act}
 use Rattle.history.specs.History.{observes, Reserved, Since}
 use Rattle.history.proofs.History.{history, sc-exact}
-use Rattle.sc_history.specs.Sc.{Reservationless, FetchesSc, atomicAddress, atomicSize, answered, Traps, Stores, Loses}
+use Rattle.sc_history.specs.Sc.{Reservationless, FetchesSc, atomicAddress, atomicSize, Traps, Stores, Loses}
 
 -- a register that was set
 set-own : (h r v : ℕ) (x : List ℕ) → h < 8 → length x ≡ 256 → r % 32 ≢ 0 → regAt (setReg h r v x) h r ≡ v

@@ -31,7 +31,7 @@ use Rattle.effect.specs.Execute.{regAt, pairAt, atomicBy, execAtomic, execute, 
 use Rattle.events.specs.declared.Event.{Event}
 use Rattle.events.specs.declared.Event.the-variants.{Step, Device, Yield as YieldOf}
 use Rattle.model.specs.Act.{Act, refuse, fault, change, put, release, actNotice, told}
-use Rattle.model.specs.Perform.{Machine, reservationOf, fetchOf, stepOf, ofExec, deviceOf, actOn, actOf, answerOf}
+use Rattle.model.specs.Perform.{Machine, reservationOf, fetchOf, stepOf, ofExec, deviceOf, actOn, actOf, answerOf, answered}
 use Rattle.model.specs.Valid.{Valid}
 use Rattle.model.specs.Trace.{noticeAt}
 use Rattle.model.specs.Fetch.{Fetches}
@@ -39,7 +39,7 @@ use Rattle.model.specs.declared.Outcome.{Outcome}
 use Rattle.model.specs.declared.Outcome.the-variants as O
 use Rattle.model.proofs.Valid.{act-valid}
 use Rattle.model.proofs.Frame.{step-act}
-use Rattle.sc_history.specs.Sc.{answered, Traps, Refuses}
+use Rattle.sc_history.specs.Sc.{Traps, Refuses}
 use Rattle.sc_history.specs.Told.{toldSc, toldAtomic, noticeBy, RetiredLr}
 
 -- ---- the notice of each instruction

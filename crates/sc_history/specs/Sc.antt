@@ -12,9 +12,8 @@ use Rattle.isa.specs.declared.Atomic.{Atomic}
 use Rattle.isa.specs.declared.Instr.the-variants.{Amo}
 use Rattle.machine.specs.declared.State.{State}
 use Rattle.effect.specs.Execute.{regAt}
-use Rattle.events.specs.declared.Event.{Event}
 use Rattle.events.specs.declared.Event.the-variants.{Step}
-use Rattle.model.specs.Perform.{Machine, reservationOf, answerOf, nextOf}
+use Rattle.model.specs.Perform.{Machine, reservationOf, nextOf}
 use Rattle.model.specs.Fetch.{Fetches}
 use Rattle.model.specs.declared.Outcome.{Outcome}
 use Rattle.model.specs.declared.Outcome.the-variants.{Trap, Refused}
@@ -34,10 +33,6 @@ atomicAddress m h i = regAt (m .state .x) h (i .rs1)
 
 abbrev pub atomicSize : Atomic → ℕ
 atomicSize i = bytesOf (i .width)
-
--- the answer to an event
-abbrev pub answered : ℕ → Machine → Event → Outcome
-answered base m e = answerOf base (m .mem) (m .state) e .outcome
 
 -- the answer is a trap, or a refusal
 abbrev pub Traps : Outcome → Type 0

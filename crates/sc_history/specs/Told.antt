@@ -19,11 +19,11 @@ use Rattle.effect.specs.Memory.{storeBytes, valueAt}
 use Rattle.effect.specs.Execute.{pairAt}
 use Rattle.events.specs.declared.Event.{Event}
 use Rattle.events.specs.declared.Event.the-variants.{Step}
-use Rattle.model.specs.Perform.{Machine}
+use Rattle.model.specs.Perform.{Machine, answered}
 use Rattle.model.specs.Fetch.{Fetches}
 use Rattle.model.specs.declared.Outcome.{Outcome}
 use Rattle.model.specs.declared.Outcome.the-variants as O
-use Rattle.sc_history.specs.Sc.{atomicAddress, atomicSize, answered}
+use Rattle.sc_history.specs.Sc.{atomicAddress, atomicSize}
 
 -- hart h, its registers x and the memory before the step
 module _ (h : ℕ) (x : ℕ → ℕ) (base : ℕ) (mem : List ℕ) where

@@ -15,16 +15,13 @@ use Rattle.events.specs.declared.Event.{Event}
 use Rattle.model.specs.Act.{told}
 use Rattle.model.specs.Perform.{Machine, actOf, answerOf, nextOf, runOf}
 use Rattle.model.specs.Advance.{stateFrom}
-use Rattle.model.proofs.AdvanceLaws.{refused-same, advanced-next, advanced-valid, advanced-answer, events-more}
+use Rattle.model.proofs.AdvanceLaws.{refused-same, advanced-next, advanced-valid, advanced-answer, events-more, event-width}
 use Rattle.lines.specs.Lines.{linesOf}
 use Rattle.lines.proofs.LineLaws.{lines-none, lines-more}
 use Rattle.lines.proofs.BehindLaws.{front-length, front-behind, front-put, lent-behind, back, back-length, back-within, back-behind, back-put, advances-as}
 use borrow.Author.Needs.{needs}
 use Rattle.lines.proofs.put_lines.Statement.{statement}
 use Rattle.lines.proofs.put_lines.Tie as tie
-
-width : (i : ℕ) → i * 24 + 24 - i * 24 ≡ 24
-width i = omega arith
 
 abbrev Inv-loop : tie.InvT-loop
 Inv-loop out₀ at from base body count x₀ pc₀ t₀ n p₀ i₀ out x pc t p i =
@@ -138,7 +135,7 @@ loop-again c =
     let q = advanced-next (a .base) (s .count) (l .x) (l .pc) (here .mem) (slotsIn (l .t)) (l .inv .3) ev _ _ _ _ _ more in
     let t = advanced-answer (a .base) (s .count) (l .x) (l .pc) (here .mem) (slotsIn (l .t)) (l .inv .3) ev _ _ _ _ _ more in
     let rest = firstEvents (n - (l .i + 1)) (drop ((l .i + 1) * 24) body) in
-    let e = c .before .before .before .before .before .before .before .before .before .before .before .read-event .ensures ∙ ap (λ (k : ℕ). eventOf (take k (drop (l .i * 24) body))) (width (l .i)) in
+    let e = c .before .before .before .before .before .before .before .before .before .before .before .read-event .ensures ∙ ap (λ (k : ℕ). eventOf (take k (drop (l .i * 24) body))) (event-width (l .i)) in
     let start : l .p ≤ a .from = omega (arith, c .before .before .before .before .before .before .before .before .before .before .before .before .before .before .before .before .before .before .before .before .before .pre, l .inv) in
     let end : line .result ≤ a .from = omega (arith, c .before .before .before .before .before .before .before .before .before .before .before .before .before .before .before .before .before .before .before .before .before .pre, l .inv, line .ensures .1) in
     let put = back-put (l .out) mem (a .from) within kept start (front-put out (line .last .0) (a .from) w (line .kept .0) start end (line .ensures .0)) in (

@@ -9,13 +9,10 @@ use Rattle.events.specs.Events.{eventOf, firstEvents}
 use Rattle.events.specs.declared.Event.{Event}
 use Rattle.model.specs.Perform.{Machine, runOf, nextOf}
 use Rattle.model.specs.Advance.{stateFrom}
-use Rattle.model.proofs.AdvanceLaws.{advanced-next, advanced-valid, events-more}
+use Rattle.model.proofs.AdvanceLaws.{advanced-next, advanced-valid, events-more, event-width}
 use borrow.Author.Needs.{needs}
 use Rattle.model.proofs.run.perform_first.Statement.{statement}
 use Rattle.model.proofs.run.perform_first.Tie as tie
-
-width : (i : ℕ) → i * 24 + 24 - i * 24 ≡ 24
-width i = omega arith
 
 abbrev Inv-loop : tie.InvT-loop
 Inv-loop x₀ pc₀ t₀ count base mem₀ body n i₀ x pc t mem i =
@@ -68,7 +65,7 @@ loop-again c =
     let more = c .before .before .advance .ensures in
     let ev = c .before .before .before .before .before .before .before .read-event .result in
     let q = advanced-next (a .base) (a .count) (l .x) (l .pc) (l .mem) (slotsIn (l .t)) (l .inv .2) ev _ _ _ _ _ more in
-    let e = c .before .before .before .before .before .before .before .read-event .ensures ∙ ap (λ (k : ℕ). eventOf (take k (drop (l .i * 24) body))) (width (l .i)) in
+    let e = c .before .before .before .before .before .before .before .read-event .ensures ∙ ap (λ (k : ℕ). eventOf (take k (drop (l .i * 24) body))) (event-width (l .i)) in
     let rest = firstEvents (a .n - (l .i + 1)) (drop ((l .i + 1) * 24) body) in (
       omega arith,
       c .before .before .advance .kept .1 .1 .1 .1 .1 .0 ∙ l .inv .1,
