@@ -11,16 +11,17 @@ use Rattle.isa.specs.Decode.{decodeOf}
 use Rattle.machine.specs.declared.State.{State}
 use Rattle.events.specs.declared.Event.{Event}
 use Rattle.events.specs.declared.Event.the-variants.{Step, Device, Yield}
-use Rattle.effect.specs.Effect.{nothing, reserve, store, scStore, scLose, Exec, trap, effect}
+use Rattle.effect.specs.Effect.{nothing, reserve, store, scStored, scFailed, Exec, trap, effect}
 use Rattle.effect.specs.Memory.{valueAt}
 use Rattle.effect.specs.Execute.{regAt}
-use Rattle.model.specs.Act.{told}
+use Rattle.model.specs.Act.{outcomeOf}
 use Rattle.model.specs.Perform.{reservationOf, stepOf, ofExec, answerOf, memoryOf}
+use Rattle.model.specs.Retired.{IsRetired}
 use Rattle.model.specs.declared.Outcome.{Outcome}
 use Rattle.model.specs.declared.Outcome.the-variants as O
 use Rattle.answers.specs.Refusals.{FirstRefusal, Unrefused}
 use Rattle.answers.specs.Causes.{EventRow, FirstTrap, Untrapped}
-use Rattle.answers.specs.Retired.{IsRetired, Answered, refused, trapped, retired}
+use Rattle.answers.specs.Answered.{Answered, refused, trapped, retired}
 use Rattle.answers.proofs.Refused as R
 use Rattle.answers.proofs.Trapped as T
 
@@ -40,13 +41,13 @@ valueIn O.ScFailed = 0
 valueIn (O.Trap cause value) = value
 valueIn (O.Refused number) = 0
 
-effect-retired : (h : ℕ) (e : Exec) → T.isTrap e ≡ 0 → IsRetired (told (ofExec h e))
+effect-retired : (h : ℕ) (e : Exec) → T.isTrap e ≡ 0 → IsRetired (outcomeOf (ofExec h e))
 effect-retired h (trap cause value) z = absurd (omega (arith, z))
 effect-retired h (effect ws to nothing) z = tt
 effect-retired h (effect ws to (reserve a w)) z = tt
 effect-retired h (effect ws to (store a bs)) z = tt
-effect-retired h (effect ws to (scStore a bs)) z = tt
-effect-retired h (effect ws to scLose) z = tt
+effect-retired h (effect ws to (scStored a bs)) z = tt
+effect-retired h (effect ws to scFailed) z = tt
 
 module _ (base : ℕ) (mem : List ℕ) (s : State) where
   -- ---- the rows of an event
@@ -77,7 +78,7 @@ module _ (base : ℕ) (mem : List ℕ) (s : State) where
     traps : (c v : ℕ) → o ≡ O.Trap c v → Unrefused base mem s e → FirstTrap (EventRow base mem s e) c v → Decided e o
     retires : IsRetired o → Unrefused base mem s e → Untrapped (EventRow base mem s e) → Decided e o
 
-  step-decided : (h : ℕ) → Unrefused base mem s (Step h) → Decided (Step h) (told (ofExec h (stepOf base mem s h)))
+  step-decided : (h : ℕ) → Unrefused base mem s (Step h) → Decided (Step h) (outcomeOf (ofExec h (stepOf base mem s h)))
   step-decided h free = go (T.decided x pc base mem covered)
     where
       x : ℕ → ℕ
@@ -90,18 +91,18 @@ module _ (base : ℕ) (mem : List ℕ) (s : State) where
       covered = coversOf 64 (reservationOf s h)
 
       go : T.Decided (valueAt base mem pc 4) x pc base mem (decodeOf (valueAt base mem pc 4)) (stepOf base mem s h)
-          → Decided (Step h) (told (ofExec h (stepOf base mem s h)))
-      go (T.traps c v q f) = traps c v (ap (λ (e : Exec). told (ofExec h e)) q) free f
+          → Decided (Step h) (outcomeOf (ofExec h (stepOf base mem s h)))
+      go (T.traps c v q f) = traps c v (ap (λ (e : Exec). outcomeOf (ofExec h e)) q) free f
       go (T.retires ws to t q f) = retires (effect-retired h (stepOf base mem s h) (ap T.isTrap q)) free f
 
-  passed-decided : (e : Event) → Unrefused base mem s e → Decided e (told (R.passed base mem s e))
+  passed-decided : (e : Event) → Unrefused base mem s e → Decided e (outcomeOf (R.passed base mem s e))
   passed-decided (Step h) free = step-decided h free
   passed-decided (Device a n v) free = retires tt free (λ k c w r. r)
   passed-decided (Yield h) free = retires tt free (λ k c v r. r)
 
   event-decided : (e : Event) → R.Decided base mem s e → Decided e (answerOf base mem s e .outcome)
   unfolding answerOf
-  event-decided e (R.refuses n q f) = refuses n (ap told q) f
+  event-decided e (R.refuses n q f) = refuses n (ap outcomeOf q) f
   event-decided e (R.passes q free) = rw q (passed-decided e free)
 
   decided : (e : Event) → Decided e (answerOf base mem s e .outcome)

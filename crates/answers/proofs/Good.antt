@@ -19,12 +19,13 @@ use Rattle.events.specs.declared.Event.{Event}
 use Rattle.events.specs.declared.Event.the-variants.{Step, Device, Yield}
 use Rattle.events.specs.declared.Checked.the-variants.{Good}
 use Rattle.events.proofs.RuleLaws.{good-exact, none-wrong-exact}
-use Rattle.model.specs.Perform.{Machine, answerOf, nextOf}
+use Rattle.model.specs.Perform.{Machine, nextOf, outcomeAt}
+use Rattle.model.specs.Retired.{Refuses}
 use Rattle.model.specs.Valid.{Valid}
 use Rattle.model.proofs.Valid.{length-next, valid-next}
 use Rattle.model.proofs.Frame.{count-next}
 use Rattle.answers.specs.Refusals.{RefusalRow, badMemory, badState, noHart, badSize, beyond, Unrefused}
-use Rattle.answers.specs.Good.{EventFits, AllFit, NotRefused, NoneRefused}
+use Rattle.answers.specs.Good.{EventFits, AllFit, NoneRefused}
 use Rattle.answers.proofs.Refused.{Decided, refuses, passes, decided, refused-exact}
 
 -- ---- one event
@@ -58,16 +59,16 @@ module _ (base : ℕ) (m : Machine) (v : Valid base m) where
   )
   unrefused-fits (Yield h) u = below h (λ z. u 3 (noHart refl z))
 
-  by-decided : (e : Event) → Decided base (m .mem) (m .state) e → NotRefused (answerOf base (m .mem) (m .state) e .outcome)
+  by-decided : (e : Event) → Decided base (m .mem) (m .state) e → (Refuses (outcomeAt base m e) → ⊥)
       → EventFits (m .state .count) base (length (m .mem)) e
-  by-decided e (refuses n q f) r = absurd (r n (refused-exact base (m .mem) (m .state) e n .1 f))
+  by-decided e (refuses n q f) r = absurd (r (n, refused-exact base (m .mem) (m .state) e n .1 f))
   by-decided e (passes q u) r = unrefused-fits e u
 
   -- of a machine that neither 1 nor 2 refuses: an event isn't refused exactly if none of 3, 4 and 5 meets it
-  pub fits-exact : (e : Event) → NotRefused (answerOf base (m .mem) (m .state) e .outcome) ↔ EventFits (m .state .count) base (length (m .mem)) e
+  pub fits-exact : (e : Event) → (Refuses (outcomeAt base m e) → ⊥) ↔ EventFits (m .state .count) base (length (m .mem)) e
   fits-exact e = (
     by-decided e (decided base (m .mem) (m .state) e),
-    λ f n o. fits-row e f n (refused-exact base (m .mem) (m .state) e n .0 o .applies),
+    λ f o. fits-row e f (o .0) (refused-exact base (m .mem) (m .state) e (o .0) .0 (o .1) .applies),
   )
 
 -- ---- events one after another: the count and the memory's length stay

@@ -18,8 +18,8 @@ use Rattle.machine.specs.declared.State.{State}
 use Rattle.machine.proofs.StateLaws.{memory-exact, state-exact, refusal-0, refusal-1, refusal-2}
 use Rattle.events.specs.declared.Event.{Event}
 use Rattle.events.specs.declared.Event.the-variants.{Step, Device, Yield}
-use Rattle.effect.specs.Effect.{nothing, reserve, store, scStore, scLose, Exec, trap, effect}
-use Rattle.model.specs.Act.{Act, refuse, fault, change, put, release, told, apply, leaves}
+use Rattle.effect.specs.Effect.{nothing, reserve, store, scStored, scFailed, Exec, trap, effect}
+use Rattle.model.specs.Act.{Act, refuse, fault, change, put, release, outcomeOf, apply, leaves}
 use Rattle.model.specs.Perform.{stepOf, ofExec, deviceOf, actOn, actOf, answerOf, memoryOf}
 use Rattle.model.specs.declared.Outcome.{Outcome}
 use Rattle.model.specs.declared.Outcome.the-variants as O
@@ -48,29 +48,29 @@ passed base mem s (Step h) = ofExec h (stepOf base mem s h)
 passed base mem s (Device a n v) = put a (toLe n v)
 passed base mem s (Yield h) = release h
 
-pub done-kind : (h : ℕ) (x : Exec) → kind (told (ofExec h x)) ≤ 1
+pub done-kind : (h : ℕ) (x : Exec) → kind (outcomeOf (ofExec h x)) ≤ 1
 done-kind h (trap cause value) = omega arith
 done-kind h (effect ws to nothing) = omega arith
 done-kind h (effect ws to (reserve a w)) = omega arith
 done-kind h (effect ws to (store a bs)) = omega arith
-done-kind h (effect ws to (scStore a bs)) = omega arith
-done-kind h (effect ws to scLose) = omega arith
+done-kind h (effect ws to (scStored a bs)) = omega arith
+done-kind h (effect ws to scFailed) = omega arith
 
-passed-kind : (base : ℕ) (mem : List ℕ) (s : State) (e : Event) → kind (told (passed base mem s e)) ≤ 1
+passed-kind : (base : ℕ) (mem : List ℕ) (s : State) (e : Event) → kind (outcomeOf (passed base mem s e)) ≤ 1
 passed-kind base mem s (Step h) = done-kind h (stepOf base mem s h)
 passed-kind base mem s (Device a n v) = omega arith
 passed-kind base mem s (Yield h) = omega arith
 
 -- what is not retired changes nothing
-keeps : (base : ℕ) (mem : List ℕ) (s : State) (a : Act) → 0 < kind (told a) → (apply 64 s a ≡ s) × (leaves base mem a ≡ mem)
+keeps : (base : ℕ) (mem : List ℕ) (s : State) (a : Act) → 0 < kind (outcomeOf a) → (apply 64 s a ≡ s) × (leaves base mem a ≡ mem)
 unfolding apply leaves
 keeps base mem s (refuse number) h = (refl, refl)
 keeps base mem s (fault cause value) h = (refl, refl)
 keeps base mem s (change g ws to nothing) h = absurd (omega arith)
 keeps base mem s (change g ws to (reserve a w)) h = absurd (omega arith)
 keeps base mem s (change g ws to (store a bs)) h = absurd (omega arith)
-keeps base mem s (change g ws to (scStore a bs)) h = absurd (omega arith)
-keeps base mem s (change g ws to scLose) h = absurd (omega arith)
+keeps base mem s (change g ws to (scStored a bs)) h = absurd (omega arith)
+keeps base mem s (change g ws to scFailed) h = absurd (omega arith)
 keeps base mem s (put a bs) h = absurd (omega arith)
 keeps base mem s (release g) h = absurd (omega arith)
 
@@ -190,15 +190,15 @@ module _ (base : ℕ) (mem : List ℕ) (s : State) where
     given : Decided e → (n : ℕ) → answerOf base mem s e .outcome ≡ O.Refused n → FirstRefusal base mem s e n
     unfolding answerOf
     given (refuses m q f) n o =
-        subst (λ (k : ℕ). FirstRefusal base mem s e k) (ap numberIn (ap told (sym q) ∙ o)) f
+        subst (λ (k : ℕ). FirstRefusal base mem s e k) (ap numberIn (ap outcomeOf (sym q) ∙ o)) f
     given (passes q f) n o =
-        let z : kind (told (passed base mem s e)) ≡ 2 = ap kind (ap told (sym q) ∙ o) in
+        let z : kind (outcomeOf (passed base mem s e)) ≡ 2 = ap kind (ap outcomeOf (sym q) ∙ o) in
         absurd (omega (arith, passed-kind base mem s e, z))
 
     taken : Decided e → (n : ℕ) → FirstRefusal base mem s e n → answerOf base mem s e .outcome ≡ O.Refused n
     unfolding answerOf
     taken (refuses m q f) n g =
-        ap told q ∙ ap O.Refused (first-same (RefusalRow base mem s e) m n (f .applies) (f .first) (g .applies) (g .first))
+        ap outcomeOf q ∙ ap O.Refused (first-same (RefusalRow base mem s e) m n (f .applies) (f .first) (g .applies) (g .first))
     taken (passes q f) n g = absurd (f n (g .applies))
 
     -- 01: each number is "given exactly when" its row applies, "in the order they are tried"; no other number is given

@@ -21,11 +21,11 @@ use Rattle.isa.specs.declared.BranchOp.{BranchOp}
 use Rattle.isa.specs.declared.Instr.{Instr}
 use Rattle.isa.specs.declared.Instr.the-variants.{Illegal, Lui, Auipc, Jal, Jalr, Branch, Load, Store, OpImm, OpImm32, Op, Op32, Fence, Ecall, Ebreak, Amo}
 use Rattle.effect.specs.Effect.{Writes, none, one, Access, nothing, Exec, trap, effect, offset, nextPc}
-use Rattle.effect.specs.Integer.{even, holdsOf, execBranch}
+use Rattle.effect.specs.Integer.{clearBit0, holdsOf, execBranch}
 use Rattle.effect.specs.Memory.{checked, valueAt, execLoad, execStore}
 use Rattle.effect.specs.Atomic.{execLr, execSc, execAmo, execCas, execCasPair}
 use Rattle.effect.specs.Execute.{atomicBy, execAtomic, execute, executeWord}
-use Rattle.effect.proofs.TrapLaws.{misaligned-traps, outside-traps, access-retires, jump-traps, jump-retires, branch-traps, branch-taken, branch-passed, sc-traps, sc-succeeds, sc-fails}
+use Rattle.effect.proofs.TrapLaws.{misaligned-traps, outside-traps, access-retires, jump-traps, jump-retires, branch-traps, branch-taken, branch-passed, exec-sc-traps, exec-sc-stored, exec-sc-failed}
 use Rattle.model.specs.Perform.{fetchOf}
 use Rattle.answers.specs.Causes.{Reach, nowhere, jumps, reads, writes, writesIf, reachOf, TrapRow, unfetched, unknown, called, halted, misalignedTarget, misalignedRead, misalignedWrite, outsideRead, outsideWrite, StepRow, FirstTrap, Untrapped}
 use Rattle.answers.proofs.Refused.{first-same}
@@ -251,11 +251,11 @@ module _ (word : ℕ) (x : ℕ → ℕ) (pc base : ℕ) (mem : List ℕ) where
           (λ u.
           let al = eqb-true (a % bytesOf w) 0 u in
           bool-cases (covered a (bytesOf w))
-          (λ z. fine (rw q tt) (rw q al) (rw q tt) _ _ _ _ (sc-succeeds 64 pc w rd a v covered al z))
-          (λ z. fine (rw q tt) (rw q al) (rw q tt) _ _ _ _ (sc-fails 64 pc w rd a v covered al z)))
+          (λ z. fine (rw q tt) (rw q al) (rw q tt) _ _ _ _ (exec-sc-stored 64 pc w rd a v covered al z))
+          (λ z. fine (rw q tt) (rw q al) (rw q tt) _ _ _ _ (exec-sc-failed 64 pc w rd a v covered al z)))
           (λ u.
           let skew = eqb-false (a % bytesOf w) 0 u in
-          traps 6 a (sc-traps 64 pc w rd a v covered skew)
+          traps 6 a (exec-sc-traps 64 pc w rd a v covered skew)
           (record { place = 5; applies = misalignedWrite refl refl (bytesOf w) (inr q) skew; first = clear 5 (λ l. rw q tt) (λ l. absurd (omega arith)) (λ l. absurd (omega arith)) }))
 
     branch-decided : (op : BranchOp) (rs1 rs2 imm : ℕ) (b : Bool) → holdsOf 64 op (x rs1) (x rs2) ≡ b
@@ -295,7 +295,7 @@ module _ (word : ℕ) (x : ℕ → ℕ) (pc base : ℕ) (mem : List ℕ) where
         let to = offset 64 pc imm in
         jump-decided (Jal rd imm) refl to (one rd (nextPc 64 pc)) _ refl (jump-traps 64 pc rd to) (jump-retires 64 pc rd to)
     execute-decided covered (Jalr rd rs1 imm) =
-        let to = even (offset 64 (x rs1) imm) in
+        let to = clearBit0 (offset 64 (x rs1) imm) in
         jump-decided (Jalr rd rs1 imm) refl to (one rd (nextPc 64 pc)) _ refl (jump-traps 64 pc rd to) (jump-retires 64 pc rd to)
     execute-decided covered (Branch op rs1 rs2 imm) = branch-decided op rs1 rs2 imm (holdsOf 64 op (x rs1) (x rs2)) refl
     execute-decided covered (Load op rd rs1 imm) = read-decided (Load op rd rs1 imm) refl _ _ _ _ _ refl

@@ -17,7 +17,7 @@ use Rattle.machine.specs.declared.State.{State}
 use Rattle.events.specs.declared.Event.{Event}
 use Rattle.events.specs.declared.Event.the-variants.{Step, Device, Yield}
 use Rattle.effect.specs.Effect.{offset}
-use Rattle.effect.specs.Integer.{even, holdsOf}
+use Rattle.effect.specs.Integer.{clearBit0, holdsOf}
 use Rattle.effect.specs.Memory.{valueAt, loadBytes, storeBytes}
 use Rattle.effect.specs.Execute.{regAt}
 
@@ -39,7 +39,7 @@ atomicReach (Rmw op) w a = writes a (bytesOf w)
 -- x gives the hart's registers; holdsOf says whether a branch is taken, and even clears the lowest bit of JALR's target
 abbrev pub reachOf : Instr → (ℕ → ℕ) → ℕ → Reach
 reachOf (Jal rd imm) x pc = jumps (offset 64 pc imm)
-reachOf (Jalr rd rs1 imm) x pc = jumps (even (offset 64 (x rs1) imm))
+reachOf (Jalr rd rs1 imm) x pc = jumps (clearBit0 (offset 64 (x rs1) imm))
 reachOf (Branch op rs1 rs2 imm) x pc = cond (holdsOf 64 op (x rs1) (x rs2)) (jumps (offset 64 pc imm)) nowhere
 reachOf (Load op rd rs1 imm) x pc = reads (offset 64 (x rs1) imm) (loadBytes op)
 reachOf (Store op rs1 rs2 imm) x pc = writes (offset 64 (x rs1) imm) (storeBytes op)

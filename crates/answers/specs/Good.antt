@@ -1,14 +1,12 @@
 -- Events that none of 3, 4 and 5 refuses, alone and in a run, without tests: what 11 ("the first bad event, by 3, 4 or 5 or its zeros or kind") shares
 -- with the table of refusals. Zeros and kind are in events/specs/Rules.antt.
 use Prim.Native.Nat.{ℕ, _<_, _≤_}
-use mathlib.Core.Path.{_≡_}
 use mathlib.Core.List.{List, [], _∷_}
 use Rattle.reserve.specs.Range.{Inside}
 use Rattle.events.specs.declared.Event.{Event}
 use Rattle.events.specs.declared.Event.the-variants.{Step, Device, Yield}
-use Rattle.model.specs.Perform.{Machine, answerOf, nextOf}
-use Rattle.model.specs.declared.Outcome.{Outcome}
-use Rattle.model.specs.declared.Outcome.the-variants as O
+use Rattle.model.specs.Perform.{Machine, nextOf, outcomeAt}
+use Rattle.model.specs.Retired.{Refuses}
 
 -- None of 3, 4 and 5: a step or a yield is of a hart below the count; a device write is of 1 to 8 bytes, wholly inside the len bytes at base.
 abbrev pub EventFits : ℕ → ℕ → ℕ → Event → Type 0
@@ -20,11 +18,7 @@ unfoldable pub AllFit : ℕ → ℕ → ℕ → List Event → Type 0
 AllFit count base len [] = Unit {0}
 AllFit count base len (e ∷ es) = EventFits count base len e × AllFit count base len es
 
--- the answer is no refusal, of whatever number
-abbrev pub NotRefused : Outcome → Type 0
-NotRefused o = (number : ℕ) → o ≡ O.Refused number → ⊥
-
 -- in a run none of the events is refused: each is put to the machine that the ones before left
 unfoldable pub NoneRefused : ℕ → Machine → List Event → Type 0
 NoneRefused base m [] = Unit {0}
-NoneRefused base m (e ∷ es) = NotRefused (answerOf base (m .mem) (m .state) e .outcome) × NoneRefused base (nextOf base m e) es
+NoneRefused base m (e ∷ es) = (Refuses (outcomeAt base m e) → ⊥) × NoneRefused base (nextOf base m e) es

@@ -7,6 +7,7 @@ use native.Mathlib.Omega.{arith}
 use lib.Dec.{ltb}
 use lib.ListN.{length}
 use borrow.Author.Tests.{ltb-false}
+use Rattle.word.proofs.ChooseLaws.{cond-all}
 use Rattle.retry.specs.Loop.{viewAt, pastSc, reason2, reason3, reason4, reason5, lowestOf, orElse, scanOf, startOf, checkOf}
 use Rattle.retry.specs.declared.View.{View}
 use Rattle.retry.specs.declared.View.the-variants.{Lr, Sc, Plain, Jump, Branch, Other}
@@ -19,8 +20,7 @@ Small (Rejected place reason) = (place ≤ 16) × (reason ≤ 6)
 Small Refused = Unit {0}
 
 either : (t : Bool) (a b : ℕ) → a ≤ 6 → b ≤ 6 → cond t a b ≤ 6
-either true a b h k = h
-either false a b h k = k
+either t a b = cond-all (λ (k : ℕ). k ≤ 6) t a b
 
 small-lowest : (rs1 width : ℕ) (past : Bool) (place : ℕ) (v : View) → lowestOf rs1 width past place v ≤ 6
 unfolding lowestOf
@@ -30,8 +30,7 @@ small-lowest rs1 width past place v =
     (either (reason4 rs1 past v) 4 _ (omega arith) (either (reason5 rs1 width past v) 5 0 (omega arith) (omega arith))))
 
 small-end : (t : Bool) (place : ℕ) → place ≤ 16 → Small (cond t Accepted (Rejected place 6))
-small-end true place h = tt
-small-end false place h = (h, omega arith)
+small-end t place h = cond-all Small t Accepted (Rejected place 6) tt (h, omega arith)
 
 small-else : (place r : ℕ) (rest : LoopAnswer) → place ≤ 16 → r ≤ 6 → Small rest → Small (orElse place r rest)
 small-else place zero rest h k s = s
@@ -56,10 +55,6 @@ small-long : (ws : List ℕ) (t : Bool) → ltb 16 (length ws) ≡ t → Small (
 small-long ws true e = tt
 small-long ws false e = small-start (viewAt ws 0) ws (ltb-false 16 (length ws) e)
 
-small-short : (t : Bool) (a : LoopAnswer) → Small a → Small (cond t Refused a)
-small-short true a s = tt
-small-short false a s = s
-
 pub small-check : (ws : List ℕ) → Small (checkOf ws)
 unfolding checkOf
-small-check ws = small-short (ltb (length ws) 2) _ (small-long ws (ltb 16 (length ws)) refl)
+small-check ws = cond-all Small (ltb (length ws) 2) Refused _ tt (small-long ws (ltb 16 (length ws)) refl)

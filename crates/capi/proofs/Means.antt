@@ -18,7 +18,7 @@ use Rattle.machine.specs.Rules.{Shaped}
 use Rattle.machine.specs.State.{refusalOf}
 use Rattle.machine.specs.declared.State.{State}
 use Rattle.layout.specs.Layout.{stateIn, stateOver}
-use Rattle.layout.proofs.Back.{count-in, count-kept, register-in, counter-in, reservation-in, shaped-in, ranged-in, register-kept, counter-kept, reservation-kept, read-back}
+use Rattle.layout.proofs.Back.{count-in, count-kept, register-in, pc-in, reservation-in, shaped-in, ranged-in, register-kept, pc-kept, reservation-kept, read-back}
 use Rattle.effect.specs.Execute.{regAt}
 use Rattle.events.specs.Events.{checkedOf, eventsOf}
 use Rattle.events.specs.declared.Event.{Event}
@@ -44,7 +44,7 @@ sized a m b n f g =
 -- ---- unused harts
 
 same-hart : (h : ℕ) (state : List ℕ) → HartKept h state state
-same-hart h state = record { registers = λ r k. refl; counter = refl; reservation = refl }
+same-hart h state = record { registers = λ r k. refl; pc = refl; reservation = refl }
 
 -- a hart that a state doesn't use, and whose registers and pc are those of the bytes, keeps its bytes
 over-kept : (state : List ℕ) → length state ≡ 2312 → IsBytes state → (s : State) → Shaped s → (h : ℕ) → h < 8 → s .count ≤ h
@@ -57,7 +57,7 @@ over-kept state whole bytes s shaped h l u x pc = record {
       let q : h * 32 + r % 32 ≡ 32 * h + r = omega arith in
       register-kept state whole s shaped bytes (32 * h + r) (omega arith)
       (ap (λ (n : ℕ). getD (s .x) n 0) (sym q) ∙ x r ∙ ap (λ (n : ℕ). getD (stateIn state .x) n 0) q ∙ register-in state (32 * h + r) (omega arith));
-  counter = counter-kept state whole s shaped bytes h l (pc ∙ counter-in state h l);
+  pc = pc-kept state whole s shaped bytes h l (pc ∙ pc-in state h l);
   reservation =
       let q : 2120 + 24 * h + 0 ≡ 2120 + 24 * h = omega arith in
       subst (λ (b : ℕ). part (stateOver state s) b 24 ≡ part state b 24) q (reservation-kept state whole s shaped h 0 24 u (omega arith));

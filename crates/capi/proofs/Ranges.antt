@@ -18,20 +18,20 @@ use Rattle.reserve.specs.declared.Reservation.{Reservation}
 use Rattle.reserve.specs.declared.Reservation.the-variants.{None, Held}
 use Rattle.reserve.specs.declared.Slot.{Slot}
 use Rattle.reserve.specs.declared.Notice.{Notice}
-use Rattle.reserve.specs.declared.Notice.the-variants.{Quiet, LoadReserved, ScDone, ScFailed, Write, DeviceWrite, Yield}
+use Rattle.reserve.specs.declared.Notice.the-variants.{Quiet, LoadReserved, ScStored, ScFailed, Write, DeviceWrite, Yield}
 use Rattle.machine.specs.Rules.{MemoryRules}
 use Rattle.machine.specs.State.{refusalOf}
 use Rattle.machine.specs.declared.State.{State}
 use Rattle.machine.proofs.StateLaws.{refusal-0}
 use Rattle.layout.specs.Ranged.{Fits64, Ranged}
-use Rattle.effect.specs.Effect.{Writes, none, one, pair, Access, nothing, reserve, store, scStore, scLose, Exec, trap, effect, stored, noticeOf}
+use Rattle.effect.specs.Effect.{Writes, none, one, pair, Access, nothing, reserve, store, scStored, scFailed, Exec, trap, effect, stored, noticeOf}
 use Rattle.effect.specs.Execute.{regAt}
 use Rattle.effect.specs.Memory.{valueAt}
 use Rattle.effect.specs.Sound.{AccessOk, AccessFits, WritesFit, Fits}
 use Rattle.effect.proofs.Fits.{fits}
 use Rattle.events.specs.declared.Event.{Event}
 use Rattle.events.specs.declared.Event.the-variants.{Step, Device, Yield as YieldOf}
-use Rattle.model.specs.Act.{Act, refuse, fault, change, put, release, setReg, written, registersAfter, countersAfter, slotsAfter, apply, leaves}
+use Rattle.model.specs.Act.{Act, refuse, fault, change, put, release, setReg, written, registersAfter, pcsAfter, slotsAfter, apply, leaves}
 use Rattle.model.specs.Perform.{Machine, reservationOf, fetchOf, stepOf, ofExec, deviceOf, actOn, actOf, answerOf, memoryOf, nextOf, runOf}
 use Rattle.model.specs.Valid.{ActOk}
 use Rattle.model.proofs.Valid.{act-ok}
@@ -75,7 +75,7 @@ small-written h (pair r v r2 v2) x f q = small-setReg h r2 v2 (setReg h r v x) (
 abbrev Reserves : Notice → Type 0
 Reserves Quiet = Unit {0}
 Reserves (LoadReserved g a w) = Fits64 (Held a w)
-Reserves (ScDone g b n) = Unit {0}
+Reserves (ScStored g b n) = Unit {0}
 Reserves (ScFailed g) = Unit {0}
 Reserves (Write g b n) = Unit {0}
 Reserves (DeviceWrite b n) = Unit {0}
@@ -85,7 +85,7 @@ own-numbers : (h : ℕ) (n : Notice) (r : Reservation) → Reserves n → Fits64
 unfolding ownOf
 own-numbers h Quiet r o k = k
 own-numbers h (LoadReserved g a w) r o k = cond-all Fits64 (eqb g h) (Held a w) r o k
-own-numbers h (ScDone g b n) r o k = cond-all Fits64 (eqb g h) None r tt k
+own-numbers h (ScStored g b n) r o k = cond-all Fits64 (eqb g h) None r tt k
 own-numbers h (ScFailed g) r o k = cond-all Fits64 (eqb g h) None r tt k
 own-numbers h (Write g b n) r o k = k
 own-numbers h (DeviceWrite b n) r o k = k
@@ -116,12 +116,12 @@ registers-small (change h ws to t) x f q = small-written h ws x (f .0) q
 registers-small (put a bs) x f q = q
 registers-small (release h) x f q = q
 
-counters-small : (act : Act) (pc : List ℕ) → ActFits act → Small pc → Small (countersAfter act pc)
-counters-small (refuse number) pc f q = q
-counters-small (fault cause value) pc f q = q
-counters-small (change h ws to t) pc f q = λ i. set-all (λ (w : ℕ). w < 2 ^ 64) pc h i to 0 (f .1 .0) (q i)
-counters-small (put a bs) pc f q = q
-counters-small (release h) pc f q = q
+pcs-small : (act : Act) (pc : List ℕ) → ActFits act → Small pc → Small (pcsAfter act pc)
+pcs-small (refuse number) pc f q = q
+pcs-small (fault cause value) pc f q = q
+pcs-small (change h ws to t) pc f q = λ i. set-all (λ (w : ℕ). w < 2 ^ 64) pc h i to 0 (f .1 .0) (q i)
+pcs-small (put a bs) pc f q = q
+pcs-small (release h) pc f q = q
 
 module _ (base : ℕ) (mem : List ℕ) (rules : MemoryRules base (length mem)) where
   -- what an LR reserves lies in memory
@@ -129,8 +129,8 @@ module _ (base : ℕ) (mem : List ℕ) (rules : MemoryRules base (length mem)) w
   reserves h nothing o = tt
   reserves h (reserve a w) o = (omega (arith, rules .1, rules .4, o .1 .1 .1), omega (arith, rules .1, rules .4, o .1 .1 .1))
   reserves h (store a bs) o = tt
-  reserves h (scStore a bs) o = tt
-  reserves h scLose o = tt
+  reserves h (scStored a bs) o = tt
+  reserves h scFailed o = tt
 
   slots-small : (count : ℕ) (act : Act) (l : List Slot) → ActOk base (length mem) act → ((k : ℕ) → Fits64 (getD l k (slot None) .reservation))
       → (k : ℕ) → Fits64 (getD (slotsAfter 64 count act l) k (slot None) .reservation)
@@ -145,7 +145,7 @@ module _ (base : ℕ) (mem : List ℕ) (rules : MemoryRules base (length mem)) w
   ranged-apply s act o f r = record {
     shaped = shaped-apply 64 s act (r .shaped);
     registers = registers-small act (s .x) f (r .registers);
-    counters = counters-small act (s .pc) f (r .counters);
+    pcs = pcs-small act (s .pc) f (r .pcs);
     reservations = slots-small (s .count) act (s .res) o (r .reservations);
   }
 
@@ -153,8 +153,8 @@ bytes-stored : (base : ℕ) (mem : List ℕ) (t : Access) → AccessOk base (len
 bytes-stored base mem nothing o f b = b
 bytes-stored base mem (reserve a w) o f b = b
 bytes-stored base mem (store a bs) o f b = bytes-splice mem (a - base) bs (omega arith) b f
-bytes-stored base mem (scStore a bs) o f b = bytes-splice mem (a - base) bs (omega arith) b f
-bytes-stored base mem scLose o f b = b
+bytes-stored base mem (scStored a bs) o f b = bytes-splice mem (a - base) bs (omega arith) b f
+bytes-stored base mem scFailed o f b = b
 
 bytes-leaves : (base : ℕ) (mem : List ℕ) (act : Act) → ActOk base (length mem) act → ActFits act → IsBytes mem → IsBytes (leaves base mem act)
 unfolding leaves

@@ -112,7 +112,7 @@ pub record RanOn (body : List ℕ) (budget base : ℕ) (state mem told : List �
 -- every byte of the registers, the pc and the reservation of hart h, below 8, is as it was
 pub record HartKept (h : ℕ) (state state′ : List ℕ) : Type 0 where
   pub registers : (r : ℕ) → r < 32 → part state′ (8 + 8 * (32 * h + r)) 8 ≡ part state (8 + 8 * (32 * h + r)) 8
-  pub counter : part state′ (2056 + 8 * h) 8 ≡ part state (2056 + 8 * h) 8
+  pub pc : part state′ (2056 + 8 * h) 8 ≡ part state (2056 + 8 * h) 8
   pub reservation : part state′ (2120 + 24 * h) 24 ≡ part state (2120 + 24 * h) 24
 
 -- ---- calls one after another

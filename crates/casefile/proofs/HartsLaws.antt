@@ -84,7 +84,7 @@ module _ (body : List ℕ) where
   unfolding stateOf
   state-shaped count = record {
     registers = length-each (λ i _. registerOf body (i / 32) (i % 32)) (32 * count) (replicate 256 0) ∙ length-replicate {A = ℕ} 256 0;
-    counters = length-each (λ h _. pcOf body h) count (replicate 8 0) ∙ length-replicate {A = ℕ} 8 0;
+    pcs = length-each (λ h _. pcOf body h) count (replicate 8 0) ∙ length-replicate {A = ℕ} 8 0;
     reservations = length-replicate 8 (slot None);
   }
 
@@ -103,4 +103,4 @@ module _ (body : List ℕ) where
 
 pub none-shaped : Shaped noState
 unfolding noState
-none-shaped = record { registers = length-replicate {A = ℕ} 256 0; counters = length-replicate {A = ℕ} 8 0; reservations = length-replicate 8 (slot None) }
+none-shaped = record { registers = length-replicate {A = ℕ} 256 0; pcs = length-replicate {A = ℕ} 8 0; reservations = length-replicate 8 (slot None) }

@@ -189,24 +189,24 @@ module _ (file : List ℕ) where
   numbered k q (badEvents z p w r) = (omega arith, omega arith)
 
   -- where a row applies, by its number
-  abbrev From : ℕ → ℕ → Type 0
-  From n p = (q : ℕ) → FileRow file n q → p ≤ q
+  abbrev NotBelow : ℕ → ℕ → Type 0
+  NotBelow n p = (q : ℕ) → FileRow file n q → p ≤ q
 
-  table-from : (p : ℕ) → ((q : ℕ) → WrongField file q → p ≤ q) → From 8 p
+  table-from : (p : ℕ) → ((q : ℕ) → WrongField file q → p ≤ q) → NotBelow 8 p
   table-from p f q (badLength z w r) = absurd (omega arith)
   table-from p f q (badTable z w) = f q w
   table-from p f q (badHarts z w r) = absurd (omega arith)
   table-from p f q (badMemoryLength z w r) = absurd (omega arith)
   table-from p f q (badEvents z i w r) = absurd (omega arith)
 
-  harts-from : From 9 (fieldAt file 8)
+  harts-from : NotBelow 9 (fieldAt file 8)
   harts-from q (badLength z w r) = absurd (omega arith)
   harts-from q (badTable z w) = absurd (omega arith)
   harts-from q (badHarts z w r) = omega arith
   harts-from q (badMemoryLength z w r) = absurd (omega arith)
   harts-from q (badEvents z i w r) = absurd (omega arith)
 
-  memory-from : From 10 (fieldAt file 20)
+  memory-from : NotBelow 10 (fieldAt file 20)
   memory-from q (badLength z w r) = absurd (omega arith)
   memory-from q (badTable z w) = absurd (omega arith)
   memory-from q (badHarts z w r) = absurd (omega arith)
@@ -215,14 +215,14 @@ module _ (file : List ℕ) where
 
   events-from : (p : ℕ)
       → ((q : ℕ) → q < p → WrongEvents (countOf (hartsIn file)) (baseOf (hartsIn file)) (length (memoryIn file)) (eventsIn file) q → ⊥)
-      → From 11 (fieldAt file 32 + p)
+      → NotBelow 11 (fieldAt file 32 + p)
   events-from p f q (badLength z w r) = absurd (omega arith)
   events-from p f q (badTable z w) = absurd (omega arith)
   events-from p f q (badHarts z w r) = absurd (omega arith)
   events-from p f q (badMemoryLength z w r) = absurd (omega arith)
   events-from p f q (badEvents z i w r) = let l : p ≤ i = E.not-lower i p (λ k. f i k r) in omega (arith, l, w)
 
-  not-below : (n p : ℕ) → From n p → (q : ℕ) → q < p → FileRow file n q → ⊥
+  not-below : (n p : ℕ) → NotBelow n p → (q : ℕ) → q < p → FileRow file n q → ⊥
   not-below n p f q l r = omega (arith, f q r, l)
 
   -- refused by the first row that applies, at the lowest place, or read

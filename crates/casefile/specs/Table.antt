@@ -41,9 +41,9 @@ tableOf file =
     (Refused 8 0))
 
 -- a body that starts at offset ends no earlier, and less than 2 ^ 32 later
-abbrev pub From : ℕ → Entry → Type 0
-From offset (Wrong place) = Unit {0}
-From offset (Ends end) = (offset ≤ end) × (end < offset + 2 ^ 32)
+abbrev pub EndsWithin : ℕ → Entry → Type 0
+EndsWithin offset (Wrong place) = Unit {0}
+EndsWithin offset (Ends end) = (offset ≤ end) × (end < offset + 2 ^ 32)
 
 -- what a table says of a file of n bytes: the place of a refusal is at most n, or bodies lie in it one after another from 40 on
 abbrev pub InsideFile : ℕ → Found → Type 0

@@ -10,7 +10,7 @@ ghost use lib.Dec.{eqb};
 ghost use lib.ListN.{length, drop, replicate};
 ghost use Rattle.word.specs.Each.{each, allBelow};
 ghost use Rattle.word.specs.Memory.{part};
-ghost use Rattle.casefile.specs.Table.{fieldAt, entryOf, tableOf, From};
+ghost use Rattle.casefile.specs.Table.{fieldAt, entryOf, tableOf, EndsWithin};
 ghost use Rattle.casefile.specs.Harts.{registerOf, pcOf, hartsOk, stateOf, noState};
 ghost use Rattle.casefile.specs.Case.{refusedCase, lengthOk, bodiesOf, caseOf, SoundCase};
 
@@ -46,7 +46,7 @@ fn field(file: &[u8], place: usize) -> usize
 fn read_entry(file: &[u8], place: usize, kind: usize, offset: usize) -> Entry
     requires { ⌜ (place + 12 ≤ length (now file)) × (offset < 2 ^ 40) ⌝ }
     ensures { λ r. ⌜ r ≡ entryOf (now (file .entry)) place kind offset ⌝ }
-    ensures { λ r. ⌜ From offset r ⌝ }
+    ensures { λ r. ⌜ EndsWithin offset r ⌝ }
 {
     if field(file, place) != kind {
         return Entry::Wrong(place);
@@ -98,7 +98,7 @@ fn read_table(file: &[u8]) -> Found
 }
 
 // Whether the pc of each of the count harts of a harts body is a multiple of 4.
-fn counters_ok(body: &[u8], count: usize) -> bool
+fn pcs_ok(body: &[u8], count: usize) -> bool
     requires { ⌜ length (now body) ≡ 16 + 256 * count ⌝ }
     ensures { λ r. ⌜ r ≡ allBelow (λ h. eqb (pcOf (now (body .entry)) h % 4) 0) count ⌝ }
 {
@@ -127,7 +127,7 @@ fn harts_ok(body: &[u8]) -> bool
     (1 <= count)
         & ((count <= 8)
             & ((field(body, 12) == 0)
-                & ((base % 64 == 0) & ((base <= 1099511627776) & counters_ok(body, count)))))
+                & ((base % 64 == 0) & ((base <= 1099511627776) & pcs_ok(body, count)))))
 }
 
 // x of register r of hart h.
@@ -156,7 +156,7 @@ fn registers(body: &[u8], count: usize) -> [u64; 256]
 }
 
 // The pc of each of the count harts of a harts body.
-fn counters(body: &[u8], count: usize) -> [u64; 8]
+fn pcs(body: &[u8], count: usize) -> [u64; 8]
     requires { ⌜ (count ≤ 8) × (length (now body) ≡ 16 + 256 * count) ⌝ }
     ensures { λ pc. ⌜ pc ≡ each (λ h _. pcOf (now (body .entry)) h) count (replicate 8 0) ⌝ }
 {
@@ -175,7 +175,7 @@ fn read_state(body: &[u8], count: usize) -> State
     ensures { λ s. ⌜ s ≡ stateOf count (now (body .entry)) ⌝ }
 {
     let x = registers(body, count);
-    let pc = counters(body, count);
+    let pc = pcs(body, count);
     let res = [Slot {
         reservation: Reservation::None,
     }; 8];

@@ -28,8 +28,8 @@ use Rattle.isa.specs.declared.AtomicOp.the-variants.{Lr, Sc, Cas, CasPair, Rmw}
 use Rattle.isa.specs.declared.Atomic.{Atomic}
 use Rattle.isa.specs.declared.Instr.{Instr}
 use Rattle.isa.specs.declared.Instr.the-variants.{Illegal, Lui, Auipc, Jal, Jalr, Branch, Load, Store, OpImm, OpImm32, Op, Op32, Fence, Ecall, Ebreak, Amo}
-use Rattle.effect.specs.Effect.{none, pair, nothing, reserve, store, scStore, scLose, Exec, trap, effect, offset, nextPc, memoryBy}
-use Rattle.effect.specs.Integer.{computed, execJump, even, holdsOf, execBranch}
+use Rattle.effect.specs.Effect.{none, pair, nothing, reserve, store, scStored, scFailed, Exec, trap, effect, offset, nextPc, memoryBy}
+use Rattle.effect.specs.Integer.{computed, execJump, clearBit0, holdsOf, execBranch}
 use Rattle.effect.specs.Memory.{faultOf, checked, valueAt, loadBytes, extended, storeBytes, execLoad, execStore}
 use Rattle.effect.specs.Atomic.{swapped, pairWrites, execLr, execSc, execAmo, execCas, execCasPair}
 use Rattle.effect.specs.Execute.{pairAt, atomicBy, execAtomic, execute, executeWord}
@@ -130,7 +130,7 @@ module _ (pc : ℕ) where
     fits-execute covered (Jal rd imm) h word x = fits-jump rd (offset 64 pc imm) (offset-lt pc imm)
     fits-execute covered (Jalr rd rs1 imm) h word x =
         let l = offset-lt (x rs1) imm in
-        fits-jump rd (even (offset 64 (x rs1) imm)) (omega arith)
+        fits-jump rd (clearBit0 (offset 64 (x rs1) imm)) (omega arith)
     fits-execute covered (Branch op rs1 rs2 imm) h word x =
         fits-branch (holdsOf 64 op (x rs1) (x rs2)) (offset 64 pc imm) (offset-lt pc imm)
     fits-execute covered (Load op rd rs1 imm) h word x = fits-load op rd (offset 64 (x rs1) imm)
@@ -156,8 +156,8 @@ length-memoryBy base mem (trap cause value) s = refl
 length-memoryBy base mem (effect ws to nothing) s = refl
 length-memoryBy base mem (effect ws to (reserve a w)) s = refl
 length-memoryBy base mem (effect ws to (store a bs)) s = length-splice mem (a - base) bs (omega arith)
-length-memoryBy base mem (effect ws to (scStore a bs)) s = length-splice mem (a - base) bs (omega arith)
-length-memoryBy base mem (effect ws to scLose) s = refl
+length-memoryBy base mem (effect ws to (scStored a bs)) s = length-splice mem (a - base) bs (omega arith)
+length-memoryBy base mem (effect ws to scFailed) s = refl
 
 -- and bytes
 pub bytes-memoryBy : (base : ℕ) (mem : List ℕ) (e : Exec) → IsBytes mem → Sound base (length mem) e → Fits 64 e → IsBytes (memoryBy base mem e)
@@ -165,5 +165,5 @@ bytes-memoryBy base mem (trap cause value) h s f = h
 bytes-memoryBy base mem (effect ws to nothing) h s f = h
 bytes-memoryBy base mem (effect ws to (reserve a w)) h s f = h
 bytes-memoryBy base mem (effect ws to (store a bs)) h s f = bytes-splice mem (a - base) bs (omega arith) h (f .1 .1)
-bytes-memoryBy base mem (effect ws to (scStore a bs)) h s f = bytes-splice mem (a - base) bs (omega arith) h (f .1 .1)
-bytes-memoryBy base mem (effect ws to scLose) h s f = h
+bytes-memoryBy base mem (effect ws to (scStored a bs)) h s f = bytes-splice mem (a - base) bs (omega arith) h (f .1 .1)
+bytes-memoryBy base mem (effect ws to scFailed) h s f = h

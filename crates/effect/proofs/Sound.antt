@@ -12,6 +12,7 @@ use Rattle.word.specs.Word.{low}
 use Rattle.word.specs.Bytes.{toLe}
 use Rattle.word.proofs.BytesLaws.{length-toLe}
 use Rattle.word.proofs.WordLaws.{low-low}
+use Rattle.word.proofs.ChooseLaws.{cond-cases}
 use Rattle.reserve.specs.Range.{Inside, insideOf}
 use Rattle.reserve.proofs.RangeLaws.{inside-of}
 use Rattle.isa.specs.Width.{bitsOf, bytesOf}
@@ -27,7 +28,7 @@ use Rattle.isa.specs.declared.Atomic.{Atomic}
 use Rattle.isa.specs.declared.Instr.{Instr}
 use Rattle.isa.specs.declared.Instr.the-variants.{Illegal, Lui, Auipc, Jal, Jalr, Branch, Load, Store, OpImm, OpImm32, Op, Op32, Fence, Ecall, Ebreak, Amo}
 use Rattle.effect.specs.Effect.{nothing, store, Exec, trap, offset, nextPc}
-use Rattle.effect.specs.Integer.{execJump, even, holdsOf, execBranch}
+use Rattle.effect.specs.Integer.{execJump, clearBit0, holdsOf, execBranch}
 use Rattle.effect.specs.Memory.{faultOf, checked, valueAt, loadBytes, storeBytes, execLoad, execStore}
 use Rattle.effect.specs.Atomic.{CoveredInside, swapped, execLr, execSc, execAmo, execCas, execCasPair}
 use Rattle.effect.specs.Execute.{pairAt, atomicBy, execAtomic, execute, executeWord}
@@ -50,16 +51,12 @@ width-is Word = inl refl
 width-is Double = inr refl
 
 module _ (base len : ℕ) where
-  sound-cond : (t : Bool) (x y : Exec) → (t ≡ true → Sound base len x) → (t ≡ false → Sound base len y) → Sound base len (cond t x y)
-  sound-cond true x y l r = l refl
-  sound-cond false x y l r = r refl
-
   sound-checked : (misaligned outside a n : ℕ) (e : Exec) → 0 < misaligned → 0 < outside
       → ((a % n ≡ 0) × Inside base len a n → Sound base len e) → Sound base len (checked misaligned outside a n base len e)
   unfolding checked
   sound-checked misaligned outside a n e some more h =
       let cause = faultOf misaligned outside a n base len in
-      sound-cond (eqb cause 0) e (trap cause a)
+      cond-cases (Sound base len) (eqb cause 0) e (trap cause a)
       (λ t. h (fault-fine misaligned outside a n base len some more (eqb-true cause 0 t))) (λ f. tt)
 
   bytes-inside : (a n v : ℕ) → Inside base len a n → Inside base len a (length (toLe n v))
@@ -81,11 +78,11 @@ module _ (xlen : ℕ) (enough : 2 ≤ xlen) (pc : ℕ) (aligned : pc % 4 ≡ 0) 
 
   sound-jump : (rd to : ℕ) → Sound base (length mem) (execJump xlen rd to pc)
   unfolding execJump
-  sound-jump rd to = sound-cond base (length mem) (eqb (to % 4) 0) _ _ (λ t. (eqb-true (to % 4) 0 t, tt)) (λ f. tt)
+  sound-jump rd to = cond-cases (Sound base (length mem)) (eqb (to % 4) 0) _ _ (λ t. (eqb-true (to % 4) 0 t, tt)) (λ f. tt)
 
   sound-branch : (taken : Bool) (to : ℕ) → Sound base (length mem) (execBranch xlen taken to pc)
   unfolding execBranch
-  sound-branch true to = sound-cond base (length mem) (eqb (to % 4) 0) _ _ (λ t. (eqb-true (to % 4) 0 t, tt)) (λ f. tt)
+  sound-branch true to = cond-cases (Sound base (length mem)) (eqb (to % 4) 0) _ _ (λ t. (eqb-true (to % 4) 0 t, tt)) (λ f. tt)
   sound-branch false to = (next-aligned, tt)
 
   sound-load : (op : LoadOp) (rd a : ℕ) → Sound base (length mem) (execLoad xlen op rd a pc base mem)
@@ -126,8 +123,8 @@ module _ (xlen : ℕ) (enough : 2 ≤ xlen) (pc : ℕ) (aligned : pc % 4 ≡ 0) 
     sound-sc : (w : Width) (rd a v : ℕ) → Sound base (length mem) (execSc xlen w rd a v pc covered)
     unfolding execSc
     sound-sc w rd a v =
-        sound-cond base (length mem) (eqb (a % bytesOf w) 0) _ _
-        (λ t. sound-cond base (length mem) (covered a (bytesOf w)) _ _
+        cond-cases (Sound base (length mem)) (eqb (a % bytesOf w) 0) _ _
+        (λ t. cond-cases (Sound base (length mem)) (covered a (bytesOf w)) _ _
         (λ s. (next-aligned, bytes-inside base (length mem) a (bytesOf w) v (held a (bytesOf w) s))) (λ s. (next-aligned, tt)))
         (λ f. tt)
 
@@ -147,7 +144,7 @@ module _ (xlen : ℕ) (enough : 2 ≤ xlen) (pc : ℕ) (aligned : pc % 4 ≡ 0) 
     sound-execute (Lui rd imm) word x = (next-aligned, tt)
     sound-execute (Auipc rd imm) word x = (next-aligned, tt)
     sound-execute (Jal rd imm) word x = sound-jump rd (offset xlen pc imm)
-    sound-execute (Jalr rd rs1 imm) word x = sound-jump rd (even (offset xlen (x rs1) imm))
+    sound-execute (Jalr rd rs1 imm) word x = sound-jump rd (clearBit0 (offset xlen (x rs1) imm))
     sound-execute (Branch op rs1 rs2 imm) word x = sound-branch (holdsOf xlen op (x rs1) (x rs2)) (offset xlen pc imm)
     sound-execute (Load op rd rs1 imm) word x = sound-load op rd (offset xlen (x rs1) imm)
     sound-execute (Store op rs1 rs2 imm) word x = sound-store op (offset xlen (x rs1) imm) (x rs2)

@@ -12,7 +12,7 @@ use Rattle.isa.specs.Width.{bytesOf}
 use Rattle.isa.specs.Decode.{decodeOf}
 use Rattle.isa.specs.declared.Width.{Width}
 use Rattle.isa.specs.declared.Instr.the-variants.{Illegal, Ecall, Ebreak}
-use Rattle.effect.specs.Effect.{Exec, trap, effect, none, one, nothing, scLose, scStore, nextPc}
+use Rattle.effect.specs.Effect.{Exec, trap, effect, none, one, nothing, scFailed, scStored, nextPc}
 use Rattle.effect.specs.Integer.{execJump, execBranch}
 use Rattle.effect.specs.Memory.{faultOf, checked}
 use Rattle.effect.specs.Atomic.{execSc}
@@ -65,19 +65,19 @@ module _ (xlen pc : ℕ) where
 
   -- cause 6 of an SC, which has no cause 7
   module _ (w : Width) (rd a v : ℕ) (covered : ℕ → ℕ → Bool) where
-    pub sc-traps : (a % bytesOf w ≡ 0 → ⊥) → execSc xlen w rd a v pc covered ≡ trap 6 a
+    pub exec-sc-traps : (a % bytesOf w ≡ 0 → ⊥) → execSc xlen w rd a v pc covered ≡ trap 6 a
     unfolding execSc
-    sc-traps d = rw (ne-eqb (a % bytesOf w) 0 d)
+    exec-sc-traps d = rw (ne-eqb (a % bytesOf w) 0 d)
 
-    pub sc-succeeds : a % bytesOf w ≡ 0 → covered a (bytesOf w) ≡ true
-        → execSc xlen w rd a v pc covered ≡ effect (one rd 0) (nextPc xlen pc) (scStore a (toLe (bytesOf w) v))
+    pub exec-sc-stored : a % bytesOf w ≡ 0 → covered a (bytesOf w) ≡ true
+        → execSc xlen w rd a v pc covered ≡ effect (one rd 0) (nextPc xlen pc) (scStored a (toLe (bytesOf w) v))
     unfolding execSc
-    sc-succeeds al c = rw (eq-eqb (a % bytesOf w) 0 al, c)
+    exec-sc-stored al c = rw (eq-eqb (a % bytesOf w) 0 al, c)
 
-    pub sc-fails : a % bytesOf w ≡ 0 → covered a (bytesOf w) ≡ false
-        → execSc xlen w rd a v pc covered ≡ effect (one rd 1) (nextPc xlen pc) scLose
+    pub exec-sc-failed : a % bytesOf w ≡ 0 → covered a (bytesOf w) ≡ false
+        → execSc xlen w rd a v pc covered ≡ effect (one rd 1) (nextPc xlen pc) scFailed
     unfolding execSc
-    sc-fails al c = rw (eq-eqb (a % bytesOf w) 0 al, c)
+    exec-sc-failed al c = rw (eq-eqb (a % bytesOf w) 0 al, c)
 
 -- causes 2, 8 and 3
 module _ (xlen word : ℕ) (x : ℕ → ℕ) (pc base : ℕ) (mem : List ℕ) (covered : ℕ → ℕ → Bool) where

@@ -12,7 +12,7 @@ use Rattle.isa.specs.Width.{bitsOf, bytesOf}
 use Rattle.isa.specs.declared.Width.{Width}
 use Rattle.isa.specs.declared.AmoOp.{AmoOp}
 use Rattle.alu.specs.Amo.{amoOf}
-use Rattle.effect.specs.Effect.{Exec, trap, effect, Writes, none, one, pair, Access, nothing, reserve, store, scStore, scLose, nextPc}
+use Rattle.effect.specs.Effect.{Exec, trap, effect, Writes, none, one, pair, Access, nothing, reserve, store, scStored, scFailed, nextPc}
 use Rattle.effect.specs.Memory.{checked, valueAt}
 
 -- all that is covered lies in the len bytes at base
@@ -40,8 +40,8 @@ module _ (xlen : ℕ) where
   execSc w rd a v pc covered =
       cond (eqb (a % bytesOf w) 0)
       (cond (covered a (bytesOf w))
-      (effect (one rd 0) (nextPc xlen pc) (scStore a (toLe (bytesOf w) v)))
-      (effect (one rd 1) (nextPc xlen pc) scLose))
+      (effect (one rd 0) (nextPc xlen pc) (scStored a (toLe (bytesOf w) v)))
+      (effect (one rd 1) (nextPc xlen pc) scFailed))
       (trap 6 a)
 
   -- 01: "AMO: rd gets the old value (W sign-extended); memory gets the operation on old value and rs2. W ignores the upper half of rs2."

@@ -5,7 +5,7 @@ use mathlib.Core.List.{List}
 use lib.ListN.{length}
 use Rattle.word.specs.Memory.{splice}
 use Rattle.reserve.specs.declared.Notice.{Notice}
-use Rattle.reserve.specs.declared.Notice.the-variants.{Quiet, LoadReserved, ScDone, ScFailed, Write}
+use Rattle.reserve.specs.declared.Notice.the-variants.{Quiet, LoadReserved, ScStored, ScFailed, Write}
 use Rattle.effect.specs.declared.Effect.{Effect}
 use Rattle.effect.specs.declared.Done.{Done}
 use Rattle.effect.specs.declared.Done.the-variants.{Retired, Trap}
@@ -21,8 +21,8 @@ pub data Access : Type 0 where
   nothing : Access
   reserve : ℕ → ℕ → Access  -- LR: address and width
   store : ℕ → List ℕ → Access  -- address and bytes
-  scStore : ℕ → List ℕ → Access  -- an SC that succeeds
-  scLose : Access  -- an SC that fails
+  scStored : ℕ → List ℕ → Access  -- an SC that succeeds
+  scFailed : Access  -- an SC that fails
 
 -- cause and value; or what is written, the next pc, and the access
 pub data Exec : Type 0 where
@@ -34,8 +34,8 @@ abbrev pub stored : ℕ → List ℕ → Access → List ℕ
 stored base mem nothing = mem
 stored base mem (reserve a w) = mem
 stored base mem (store a bs) = splice mem (a - base) bs
-stored base mem (scStore a bs) = splice mem (a - base) bs
-stored base mem scLose = mem
+stored base mem (scStored a bs) = splice mem (a - base) bs
+stored base mem scFailed = mem
 
 abbrev pub memoryBy : ℕ → List ℕ → Exec → List ℕ
 memoryBy base mem (trap cause value) = mem
@@ -46,8 +46,8 @@ abbrev pub noticeOf : ℕ → Access → Notice
 noticeOf h nothing = Quiet
 noticeOf h (reserve a w) = LoadReserved h a w
 noticeOf h (store a bs) = Write h a (length bs)
-noticeOf h (scStore a bs) = ScDone h a (length bs)
-noticeOf h scLose = ScFailed h
+noticeOf h (scStored a bs) = ScStored h a (length bs)
+noticeOf h scFailed = ScFailed h
 
 -- the answer as the code gives it: where no register is written, x0 is
 abbrev pub retired : Writes → ℕ → Notice → Done

@@ -11,7 +11,7 @@ use Rattle.isa.specs.declared.Atomic.{Atomic}
 use Rattle.isa.specs.declared.Instr.{Instr}
 use Rattle.isa.specs.declared.Instr.the-variants.{Illegal, Lui, Auipc, Jal, Jalr, Branch, Load, Store, OpImm, OpImm32, Op, Op32, Fence, Ecall, Ebreak, Amo}
 use Rattle.effect.specs.Effect.{Exec, trap, effect, none, nothing, offset, nextPc, sets}
-use Rattle.effect.specs.Integer.{computed, execJump, even, holdsOf, execBranch}
+use Rattle.effect.specs.Integer.{computed, execJump, clearBit0, holdsOf, execBranch}
 use Rattle.effect.specs.Memory.{execLoad, execStore}
 use Rattle.effect.specs.Atomic.{execLr, execSc, execAmo, execCas, execCasPair}
 
@@ -44,7 +44,7 @@ module _ (xlen : ℕ) where
   execute (Lui rd imm) word x pc base mem covered = sets xlen rd imm pc
   execute (Auipc rd imm) word x pc base mem covered = sets xlen rd (offset xlen pc imm) pc
   execute (Jal rd imm) word x pc base mem covered = execJump xlen rd (offset xlen pc imm) pc
-  execute (Jalr rd rs1 imm) word x pc base mem covered = execJump xlen rd (even (offset xlen (x rs1) imm)) pc
+  execute (Jalr rd rs1 imm) word x pc base mem covered = execJump xlen rd (clearBit0 (offset xlen (x rs1) imm)) pc
   execute (Branch op rs1 rs2 imm) word x pc base mem covered =
       execBranch xlen (holdsOf xlen op (x rs1) (x rs2)) (offset xlen pc imm) pc
   execute (Load op rd rs1 imm) word x pc base mem covered = execLoad xlen op rd (offset xlen (x rs1) imm) pc base mem

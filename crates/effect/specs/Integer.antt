@@ -33,5 +33,5 @@ module _ (xlen : ℕ) where
       cond taken (cond (eqb (to % 4) 0) (effect none to nothing) (trap 0 to)) (effect none (nextPc xlen pc) nothing)
 
 -- JALR's target: the manual clears its lowest bit
-abbrev pub even : ℕ → ℕ
-even to = to / 2 * 2
+abbrev pub clearBit0 : ℕ → ℕ
+clearBit0 to = to / 2 * 2

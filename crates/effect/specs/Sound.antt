@@ -5,7 +5,7 @@ use mathlib.Core.Logic.{_⊎_}
 use lib.ListN.{length}
 use Rattle.word.specs.Bytes.{IsBytes}
 use Rattle.reserve.specs.Range.{Inside}
-use Rattle.effect.specs.Effect.{Writes, none, one, pair, Access, nothing, reserve, store, scStore, scLose, Exec, trap, effect}
+use Rattle.effect.specs.Effect.{Writes, none, one, pair, Access, nothing, reserve, store, scStored, scFailed, Exec, trap, effect}
 
 -- 01: a reservation's width is 4 or 8, it is aligned to it, and inside memory (refusal 2); bytes stored are wholly in memory (cause 7): in the
 -- len bytes at base
@@ -13,8 +13,8 @@ abbrev pub AccessOk : ℕ → ℕ → Access → Type 0
 AccessOk base len nothing = Unit {0}
 AccessOk base len (reserve a w) = ((w ≡ 4) ⊎ (w ≡ 8)) × ((a % w ≡ 0) × Inside base len a w)
 AccessOk base len (store a bs) = Inside base len a (length bs)
-AccessOk base len (scStore a bs) = Inside base len a (length bs)
-AccessOk base len scLose = Unit {0}
+AccessOk base len (scStored a bs) = Inside base len a (length bs)
+AccessOk base len scFailed = Unit {0}
 
 -- 01: "a pc that is a multiple of 4"
 abbrev pub Sound : ℕ → ℕ → Exec → Type 0
@@ -26,8 +26,8 @@ abbrev pub AccessFits : Access → Type 0
 AccessFits nothing = Unit {0}
 AccessFits (reserve a w) = Unit {0}
 AccessFits (store a bs) = IsBytes bs
-AccessFits (scStore a bs) = IsBytes bs
-AccessFits scLose = Unit {0}
+AccessFits (scStored a bs) = IsBytes bs
+AccessFits scFailed = Unit {0}
 
 -- 01: "x0 to x31 (64 bits ..)": the values written and the next pc are numbers of xlen bits
 module _ (xlen : ℕ) where

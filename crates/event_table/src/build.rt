@@ -85,15 +85,15 @@ fn registers(count: usize) -> [u64; 256] {
 }
 
 // The pc of a used hart is at base.
-fn counter(used: bool, base: u64, v: u64) -> u64 {
+fn pc_value(used: bool, base: u64, v: u64) -> u64 {
     if used { base } else { v }
 }
 
-fn counters(count: usize, base: u64, x: &[u64; 256]) -> [u64; 8] {
+fn pcs(count: usize, base: u64, x: &[u64; 256]) -> [u64; 8] {
     let mut pc: [u64; 8] = [0; 8];
     let mut h: usize = 0;
     while h < 8 {
-        pc[h] = counter(h < count, base, x[h * 32 + 1]);
+        pc[h] = pc_value(h < count, base, x[h * 32 + 1]);
         h += 1;
     }
     pc
@@ -125,7 +125,7 @@ fn slots(count: usize, x: &[u64; 256]) -> [Slot; 8] {
 // The default state of count harts.
 fn start(count: usize, base: u64) -> State {
     let x = registers(count);
-    let pc = counters(count, base, &x);
+    let pc = pcs(count, base, &x);
     let res = slots(count, &x);
     State { count, x, pc, res }
 }
@@ -147,7 +147,7 @@ fn set_register(s: State, i: usize, v: u64) -> State {
     t
 }
 
-fn set_counter(s: State, h: usize, v: u64) -> State {
+fn set_pc(s: State, h: usize, v: u64) -> State {
     let mut t = s;
     t.pc[h % 8] = v;
     t
@@ -174,7 +174,7 @@ fn harts(s: State, base: u64, item: &[u8; 24]) -> State {
     match item[0] {
         2 => start(a(item) as usize, base),
         3 => set_register(s, place, a(item)),
-        4 => set_counter(s, place, a(item)),
+        4 => set_pc(s, place, a(item)),
         _ => set_slot(s, place, a(item), b(item)),
     }
 }

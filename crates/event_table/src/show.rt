@@ -56,17 +56,17 @@ fn registers<'a>(before: &'a [u64; 256], after: &'a [u64; 256]) {
     }
 }
 
-fn counter(h: usize, before: u64, after: u64) {
+fn pc_line(h: usize, before: u64, after: u64) {
     if before != after {
         out::hart(h);
         out::value(b" pc ", after);
     }
 }
 
-fn counters<'a>(before: &'a [u64; 8], after: &'a [u64; 8]) {
+fn pcs<'a>(before: &'a [u64; 8], after: &'a [u64; 8]) {
     let mut h: usize = 0;
     while h < 8 {
-        counter(h, before[h], after[h]);
+        pc_line(h, before[h], after[h]);
         h += 1;
     }
 }
@@ -129,7 +129,7 @@ pub fn state(before: State, after: State) {
     registers(&x, &y);
     let p = before.pc;
     let q = after.pc;
-    counters(&p, &q);
+    pcs(&p, &q);
     let r = before.res;
     let s = after.res;
     slots(r, s);

@@ -1,10 +1,11 @@
 -- Instructions that leave memory as it was, each law over the register width. Assumes nothing.
 use mathlib.Core.Path.{_≡_, refl}
-use mathlib.Core.Bool.{Bool, true, false, cond}
+use mathlib.Core.Bool.{Bool, true, false}
 use mathlib.Core.List.{List}
 use Prim.Native.Nat.{ℕ, _%_}
 use lib.Dec.{eqb}
 use lib.ListN.{length}
+use Rattle.word.proofs.ChooseLaws.{cond-all}
 use Rattle.isa.specs.Width.{bytesOf}
 use Rattle.isa.specs.declared.LoadOp.{LoadOp}
 use Rattle.isa.specs.declared.Width.{Width}
@@ -14,24 +15,24 @@ use Rattle.effect.specs.Memory.{faultOf, checked, loadBytes, execLoad}
 use Rattle.effect.specs.Atomic.{execLr}
 
 module _ (base : ℕ) (mem : List ℕ) where
-  pub memoryBy-cond : (t : Bool) (x y : Exec) → memoryBy base mem x ≡ mem → memoryBy base mem y ≡ mem → memoryBy base mem (cond t x y) ≡ mem
-  memoryBy-cond true x y l r = l
-  memoryBy-cond false x y l r = r
+  -- memory is as it was
+  Leaves : Exec → Type 0
+  Leaves e = memoryBy base mem e ≡ mem
 
   pub memoryBy-checked : (misaligned outside a n len : ℕ) (e : Exec) → memoryBy base mem e ≡ mem
       → memoryBy base mem (checked misaligned outside a n base len e) ≡ mem
-  unfolding checked
+  unfolding checked Leaves
   memoryBy-checked misaligned outside a n len e l =
-      memoryBy-cond (eqb (faultOf misaligned outside a n base len) 0) e (trap (faultOf misaligned outside a n base len) a) l refl
+      cond-all Leaves (eqb (faultOf misaligned outside a n base len) 0) e (trap (faultOf misaligned outside a n base len) a) l refl
 
   module _ (xlen : ℕ) where
     pub memoryBy-jump : (rd to pc : ℕ) → memoryBy base mem (execJump xlen rd to pc) ≡ mem
-    unfolding execJump
-    memoryBy-jump rd to pc = memoryBy-cond (eqb (to % 4) 0) _ _ refl refl
+    unfolding execJump Leaves
+    memoryBy-jump rd to pc = cond-all Leaves (eqb (to % 4) 0) _ _ refl refl
 
     pub memoryBy-branch : (taken : Bool) (to pc : ℕ) → memoryBy base mem (execBranch xlen taken to pc) ≡ mem
-    unfolding execBranch
-    memoryBy-branch true to pc = memoryBy-cond (eqb (to % 4) 0) _ _ refl refl
+    unfolding execBranch Leaves
+    memoryBy-branch true to pc = cond-all Leaves (eqb (to % 4) 0) _ _ refl refl
     memoryBy-branch false to pc = refl
 
     pub memoryBy-load : (op : LoadOp) (rd a pc : ℕ) → memoryBy base mem (execLoad xlen op rd a pc base mem) ≡ mem

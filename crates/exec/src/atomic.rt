@@ -70,7 +70,7 @@ pub fn sc(
             rd,
             0,
             pc,
-            Notice::ScDone {
+            Notice::ScStored {
                 hart: h,
                 addr: a,
                 len: n as u64,

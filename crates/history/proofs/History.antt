@@ -13,7 +13,7 @@ use Rattle.reserve.specs.Reserve.{coversOf, breaksOf, ownOf, observeOf}
 use Rattle.reserve.specs.declared.Reservation.{Reservation}
 use Rattle.reserve.specs.declared.Reservation.the-variants.{None, Held}
 use Rattle.reserve.specs.declared.Notice.{Notice}
-use Rattle.reserve.specs.declared.Notice.the-variants.{Quiet, LoadReserved, ScDone, ScFailed, Write, DeviceWrite, Yield}
+use Rattle.reserve.specs.declared.Notice.the-variants.{Quiet, LoadReserved, ScStored, ScFailed, Write, DeviceWrite, Yield}
 use Rattle.reserve.proofs.RangeLaws.{apart-exact, inside-of, of-inside, none-covers}
 use Rattle.history.specs.History.{observes, Spares, AllSpare, Reserved, Since}
 
@@ -46,9 +46,9 @@ module _ (size h a w : ℕ) where
   unfolding Came breaksOf ownOf Spares
   came-by Quiet r f e = inr (e, tt)
   came-by (LoadReserved g b v) r f e = by-hart g (Held b v) r e (λ s q. inl (cc)) (λ d q. inr (q, d))
-  came-by (ScDone g b n) r f e =
+  came-by (ScStored g b n) r f e =
       by-hart g None r e (λ s q. none-held q)
-      (λ d q. inr (q, (d, unreached g b n d (subst (λ (x : Reservation). breaksOf size h (ScDone g b n) x ≡ false) q f))))
+      (λ d q. inr (q, (d, unreached g b n d (subst (λ (x : Reservation). breaksOf size h (ScStored g b n) x ≡ false) q f))))
   came-by (ScFailed g) r f e = by-hart g None r e (λ s q. none-held q) (λ d q. inr (q, d))
   came-by (Write g b n) r f e =
       inr (e, λ d. unreached g b n d (subst (λ (x : Reservation). breaksOf size h (Write g b n) x ≡ false) e f))
@@ -71,7 +71,7 @@ module _ (size h a w : ℕ) where
   unfolding observeOf breaksOf ownOf Spares
   kept Quiet s = refl
   kept (LoadReserved g b v) s = rw (ne-eqb g h s)
-  kept (ScDone g b n) s = rw (ne-eqb g h (s .0), apart-exact b n (setOf size a) size .1 (s .1))
+  kept (ScStored g b n) s = rw (ne-eqb g h (s .0), apart-exact b n (setOf size a) size .1 (s .1))
   kept (ScFailed g) s = rw (ne-eqb g h s)
   kept (Write g b n) s =
       bool-cases (eqb g h) (λ t. rw t) (λ t. rw (t, apart-exact b n (setOf size a) size .1 (s (eqb-false g h t))))
@@ -89,24 +89,24 @@ module _ (size h a w : ℕ) where
   holds (n ∷ before) since s r = holds before since s (observeOf size h n r)
 
   -- from any start: the trace made it, or it was there and all spared it
-  pub told : (trace : List Notice) (r : Reservation) → observes size h trace r ≡ Held a w
+  pub from-any : (trace : List Notice) (r : Reservation) → observes size h trace r ≡ Held a w
       → Reserved size h a w trace ⊎ ((r ≡ Held a w) × AllSpare size h a w trace)
   unfolding Came
-  told [] r e = inr (e, tt)
-  told (n ∷ ns) r e =
+  from-any [] r e = inr (e, tt)
+  from-any (n ∷ ns) r e =
       ⊎-elim
       (λ (q : Reserved size h a w ns).
       inl (record { before = n ∷ q .before; since = q .since; split = ap (λ l. n ∷ l) (q .split); spared = q .spared }))
       (λ (q : (observeOf size h n r ≡ Held a w) × AllSpare size h a w ns).
       ⊎-elim (λ (m : n ≡ LoadReserved h a w). inl (record { before = []; since = ns; split = ap (λ x. x ∷ ns) m; spared = q .1 }))
       (λ (m : (r ≡ Held a w) × Spares size h a w n). inr (m .0, (m .1, q .1))) (came n r (q .0)))
-      (told ns (observeOf size h n r) e)
+      (from-any ns (observeOf size h n r) e)
 
   -- Of a hart that started without a reservation: it holds that of w bytes at a exactly if its latest retired LR was of these and nothing since
   -- then broke the reservation, in 01's words ("What breaks a reservation").
   pub history : (trace : List Notice) → (observes size h trace None ≡ Held a w) ↔ Reserved size h a w trace
   history trace = (
-    λ e. ⊎-elim (λ (q : Reserved size h a w trace). q) (λ (q : (None ≡ Held a w) × AllSpare size h a w trace). none-held (q .0)) (told trace None e),
+    λ e. ⊎-elim (λ (q : Reserved size h a w trace). q) (λ (q : (None ≡ Held a w) × AllSpare size h a w trace). none-held (q .0)) (from-any trace None e),
     λ q. subst (λ (l : List Notice). observes size h l None ≡ Held a w) (sym (q .split)) (holds (q .before) (q .since) (q .spared) None),
   )
 

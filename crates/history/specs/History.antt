@@ -7,7 +7,7 @@ use Rattle.reserve.specs.Range.{Touch, Inside, setOf}
 use Rattle.reserve.specs.Reserve.{observeOf}
 use Rattle.reserve.specs.declared.Reservation.{Reservation}
 use Rattle.reserve.specs.declared.Notice.{Notice}
-use Rattle.reserve.specs.declared.Notice.the-variants.{Quiet, LoadReserved, ScDone, ScFailed, Write, DeviceWrite, Yield}
+use Rattle.reserve.specs.declared.Notice.the-variants.{Quiet, LoadReserved, ScStored, ScFailed, Write, DeviceWrite, Yield}
 
 -- hart h's reservation after a list of notices, the first one first
 abbrev pub observes : ℕ → ℕ → List Notice → Reservation → Reservation
@@ -19,7 +19,7 @@ observes size h (n ∷ ns) r = observes size h ns (observeOf size h n r)
 -- w bytes at a reserved:
 unfoldable pub Spares : ℕ → ℕ → ℕ → ℕ → Notice → Type 0
 Spares size h a w (LoadReserved g b v) = g ≢ h
-Spares size h a w (ScDone g b n) = (g ≢ h) × (Touch b n (setOf size a) size → ⊥)
+Spares size h a w (ScStored g b n) = (g ≢ h) × (Touch b n (setOf size a) size → ⊥)
 Spares size h a w (ScFailed g) = g ≢ h
 Spares size h a w (Yield g) = g ≢ h
 Spares size h a w (Write g b n) = g ≢ h → Touch b n (setOf size a) size → ⊥

@@ -8,6 +8,30 @@ use crate::fields;
 ghost use mathlib.Core.Path.{_≡_};
 ghost use Rattle.isa.specs.Decode.{luiOf, auipcOf, jalOf, jalrOf, branchAs, branchOf, loadAs, loadOf, storeAs, storeOf, shiftAs, shiftOf, opImmAs, opImmOf, shift32As, shift32Of, opImm32Of, opAs, opOf, op32As, op32Of, miscMemOf, systemOf};
 
+// The keys of the definition's tables `shifts`, `shifts32`, `ops` and `ops32`: `key funct f3` there is funct * 8 + funct3 here. An instruction and
+// its form of 32 bits have one key, and so have a register's shift and an immediate's, but for SRAI, which has funct6.
+const ADD: u32 = 0x00 * 8 + 0;
+
+const SLL: u32 = 0x00 * 8 + 1;
+
+const SLT: u32 = 0x00 * 8 + 2;
+
+const SLTU: u32 = 0x00 * 8 + 3;
+
+const XOR: u32 = 0x00 * 8 + 4;
+
+const SRL: u32 = 0x00 * 8 + 5;
+
+const OR: u32 = 0x00 * 8 + 6;
+
+const AND: u32 = 0x00 * 8 + 7;
+
+const SUB: u32 = 0x20 * 8 + 0;
+
+const SRA: u32 = 0x20 * 8 + 5;
+
+const SRAI: u32 = 0x10 * 8 + 5;
+
 pub fn lui(word: u32) -> Instr
     ensures { λ r. ⌜ r ≡ luiOf word ⌝ }
 {
@@ -139,9 +163,9 @@ fn shift(word: u32) -> Instr
     ensures { λ r. ⌜ r ≡ shiftOf word ⌝ }
 {
     match fields::funct6(word) * 8 + fields::funct3(word) {
-        1 => shift_as(AluOp::Sll, word),
-        5 => shift_as(AluOp::Srl, word),
-        133 => shift_as(AluOp::Sra, word),
+        SLL => shift_as(AluOp::Sll, word),
+        SRL => shift_as(AluOp::Srl, word),
+        SRAI => shift_as(AluOp::Sra, word),
         _ => Instr::Illegal,
     }
 }
@@ -189,9 +213,9 @@ fn shift_32(word: u32) -> Instr
     ensures { λ r. ⌜ r ≡ shift32Of word ⌝ }
 {
     match fields::funct7(word) * 8 + fields::funct3(word) {
-        1 => shift_32_as(AluOp::Sll, word),
-        5 => shift_32_as(AluOp::Srl, word),
-        261 => shift_32_as(AluOp::Sra, word),
+        SLL => shift_32_as(AluOp::Sll, word),
+        SRL => shift_32_as(AluOp::Srl, word),
+        SRA => shift_32_as(AluOp::Sra, word),
         _ => Instr::Illegal,
     }
 }
@@ -227,16 +251,16 @@ pub fn op(word: u32) -> Instr
     ensures { λ r. ⌜ r ≡ opOf word ⌝ }
 {
     match fields::funct7(word) * 8 + fields::funct3(word) {
-        0 => op_as(AluOp::Add, word),
-        1 => op_as(AluOp::Sll, word),
-        2 => op_as(AluOp::Slt, word),
-        3 => op_as(AluOp::Sltu, word),
-        4 => op_as(AluOp::Xor, word),
-        5 => op_as(AluOp::Srl, word),
-        6 => op_as(AluOp::Or, word),
-        7 => op_as(AluOp::And, word),
-        256 => op_as(AluOp::Sub, word),
-        261 => op_as(AluOp::Sra, word),
+        ADD => op_as(AluOp::Add, word),
+        SLL => op_as(AluOp::Sll, word),
+        SLT => op_as(AluOp::Slt, word),
+        SLTU => op_as(AluOp::Sltu, word),
+        XOR => op_as(AluOp::Xor, word),
+        SRL => op_as(AluOp::Srl, word),
+        OR => op_as(AluOp::Or, word),
+        AND => op_as(AluOp::And, word),
+        SUB => op_as(AluOp::Sub, word),
+        SRA => op_as(AluOp::Sra, word),
         _ => Instr::Illegal,
     }
 }
@@ -257,11 +281,11 @@ pub fn op_32(word: u32) -> Instr
     ensures { λ r. ⌜ r ≡ op32Of word ⌝ }
 {
     match fields::funct7(word) * 8 + fields::funct3(word) {
-        0 => op_32_as(AluOp::Add, word),
-        1 => op_32_as(AluOp::Sll, word),
-        5 => op_32_as(AluOp::Srl, word),
-        256 => op_32_as(AluOp::Sub, word),
-        261 => op_32_as(AluOp::Sra, word),
+        ADD => op_32_as(AluOp::Add, word),
+        SLL => op_32_as(AluOp::Sll, word),
+        SRL => op_32_as(AluOp::Srl, word),
+        SUB => op_32_as(AluOp::Sub, word),
+        SRA => op_32_as(AluOp::Sra, word),
         _ => Instr::Illegal,
     }
 }

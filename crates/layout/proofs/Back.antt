@@ -122,9 +122,9 @@ module _ (bytes : List ℕ) where
   unfolding stateIn
   register-in i h = table-at (λ k. wordAt bytes (8 + 8 * k)) 256 i 0 h
 
-  pub counter-in : (h : ℕ) → h < 8 → getD (stateIn bytes .pc) h 0 ≡ wordAt bytes (2056 + 8 * h)
+  pub pc-in : (h : ℕ) → h < 8 → getD (stateIn bytes .pc) h 0 ≡ wordAt bytes (2056 + 8 * h)
   unfolding stateIn
-  counter-in h l = table-at (λ k. wordAt bytes (2056 + 8 * k)) 8 h 0 l
+  pc-in h l = table-at (λ k. wordAt bytes (2056 + 8 * k)) 8 h 0 l
 
   pub reservation-in : (h : ℕ) → h < 8 → getD (stateIn bytes .res) h (slot None) .reservation ≡ reservationAt bytes (2120 + 24 * h)
   unfolding stateIn
@@ -134,7 +134,7 @@ module _ (bytes : List ℕ) where
   unfolding stateIn
   shaped-in = record {
     registers = length-table (λ k. wordAt bytes (8 + 8 * k)) 256;
-    counters = length-table (λ k. wordAt bytes (2056 + 8 * k)) 8;
+    pcs = length-table (λ k. wordAt bytes (2056 + 8 * k)) 8;
     reservations = length-table (λ k. slot (reservationAt bytes (2120 + 24 * k))) 8;
   }
 
@@ -152,14 +152,14 @@ module _ (bytes : List ℕ) where
     ranged-in = record {
       shaped = shaped-in;
       registers = table-all (λ (v : ℕ). v < 2 ^ 64) (λ k. wordAt bytes (8 + 8 * k)) 256 0 (lit< tt) (λ k. word-small (8 + 8 * k));
-      counters = table-all (λ (v : ℕ). v < 2 ^ 64) (λ k. wordAt bytes (2056 + 8 * k)) 8 0 (lit< tt) (λ k. word-small (2056 + 8 * k));
+      pcs = table-all (λ (v : ℕ). v < 2 ^ 64) (λ k. wordAt bytes (2056 + 8 * k)) 8 0 (lit< tt) (λ k. word-small (2056 + 8 * k));
       reservations = table-all (λ (q : Slot). Fits64 (q .reservation)) (λ k. slot (reservationAt bytes (2120 + 24 * k))) 8 (slot None) tt
           (λ k. reservation-small (2120 + 24 * k));
     }
 
 -- ---- what stands where in bytes that a state was put over
 
--- the bytes after the registers, and after the counters too
+-- the bytes after the registers, and after the pcs too
 abbrev one : List ℕ → State → List ℕ
 one bytes s = splice bytes 8 (wordBytes (s .x))
 
@@ -174,7 +174,7 @@ module _ (bytes : List ℕ) (whole : length bytes ≡ 2312) (s : State) (shaped 
   size-x = omega (arith, length-wordBytes (s .x), shaped .registers)
 
   size-pc : length (wordBytes (s .pc)) ≡ 64
-  size-pc = omega (arith, length-wordBytes (s .pc), shaped .counters)
+  size-pc = omega (arith, length-wordBytes (s .pc), shaped .pcs)
 
   many : length (take (s .count) (s .res)) ≡ min (s .count) 8
   many = length-take (s .count) (s .res) ∙ ap (min (s .count)) (shaped .reservations)
@@ -188,13 +188,13 @@ module _ (bytes : List ℕ) (whole : length bytes ≡ 2312) (s : State) (shaped 
   length-two : length (two bytes s) ≡ 2312
   length-two = length-splice (one bytes s) 2056 (wordBytes (s .pc)) (omega (arith, size-pc, length-one)) ∙ length-one
 
-  -- the range before the reservations, and that before the counters
+  -- the range before the reservations, and that before the pcs
   before-slots : (b n : ℕ) → b + n ≤ 2120 → part (stateOver bytes s) b n ≡ part (two bytes s) b n
   unfolding stateOver
   before-slots b n h = part-splice-before (two bytes s) 2120 (slotBytes s) (omega (arith, size-slots, length-two)) b n h
 
-  before-counters : (b n : ℕ) → b + n ≤ 2056 → part (stateOver bytes s) b n ≡ part (one bytes s) b n
-  before-counters b n h =
+  before-pcs : (b n : ℕ) → b + n ≤ 2056 → part (stateOver bytes s) b n ≡ part (one bytes s) b n
+  before-pcs b n h =
       before-slots b n (omega arith)
       ∙ part-splice-before (one bytes s) 2056 (wordBytes (s .pc)) (omega (arith, size-pc, length-one)) b n h
 
@@ -205,18 +205,18 @@ module _ (bytes : List ℕ) (whole : length bytes ≡ 2312) (s : State) (shaped 
   -- the count keeps its bytes
   pub count-kept : part (stateOver bytes s) 0 8 ≡ part bytes 0 8
   count-kept =
-      before-counters 0 8 (omega arith) ∙ part-splice-before bytes 8 (wordBytes (s .x)) (omega (arith, size-x)) 0 8 (omega arith)
+      before-pcs 0 8 (omega arith) ∙ part-splice-before bytes 8 (wordBytes (s .x)) (omega (arith, size-x)) 0 8 (omega arith)
 
   -- register i % 32 of hart i / 32
   pub register-put : (i : ℕ) → i < 256 → part (stateOver bytes s) (8 + 8 * i) 8 ≡ toLe 8 (getD (s .x) i 0)
   register-put i h =
-      before-counters (8 + 8 * i) 8 (omega arith)
+      before-pcs (8 + 8 * i) 8 (omega arith)
       ∙ part-of bytes 8 (s .x) (omega (arith, shaped .registers)) i (omega (arith, shaped .registers))
 
-  pub counter-put : (h : ℕ) → h < 8 → part (stateOver bytes s) (2056 + 8 * h) 8 ≡ toLe 8 (getD (s .pc) h 0)
-  counter-put h l =
+  pub pc-put : (h : ℕ) → h < 8 → part (stateOver bytes s) (2056 + 8 * h) 8 ≡ toLe 8 (getD (s .pc) h 0)
+  pc-put h l =
       before-slots (2056 + 8 * h) 8 (omega arith)
-      ∙ part-of (one bytes s) 2056 (s .pc) (omega (arith, shaped .counters, length-one)) h (omega (arith, shaped .counters))
+      ∙ part-of (one bytes s) 2056 (s .pc) (omega (arith, shaped .pcs, length-one)) h (omega (arith, shaped .pcs))
 
   -- number j of a used hart's reservation
   pub reservation-put : (h j : ℕ) → h < s .count → h < 8 → j < 3
@@ -251,8 +251,8 @@ module _ (bytes : List ℕ) (whole : length bytes ≡ 2312) (s : State) (shaped 
     pub register-kept : (i : ℕ) → i < 256 → getD (s .x) i 0 ≡ wordAt bytes (8 + 8 * i) → part (stateOver bytes s) (8 + 8 * i) 8 ≡ part bytes (8 + 8 * i) 8
     register-kept i h e = register-put i h ∙ ap (toLe 8) e ∙ same-bytes (8 + 8 * i) (omega arith)
 
-    pub counter-kept : (h : ℕ) → h < 8 → getD (s .pc) h 0 ≡ wordAt bytes (2056 + 8 * h) → part (stateOver bytes s) (2056 + 8 * h) 8 ≡ part bytes (2056 + 8 * h) 8
-    counter-kept h l e = counter-put h l ∙ ap (toLe 8) e ∙ same-bytes (2056 + 8 * h) (omega arith)
+    pub pc-kept : (h : ℕ) → h < 8 → getD (s .pc) h 0 ≡ wordAt bytes (2056 + 8 * h) → part (stateOver bytes s) (2056 + 8 * h) 8 ≡ part bytes (2056 + 8 * h) 8
+    pc-kept h l e = pc-put h l ∙ ap (toLe 8) e ∙ same-bytes (2056 + 8 * h) (omega arith)
 
 -- ---- reading back
 
@@ -294,10 +294,10 @@ module _ (bytes : List ℕ) (whole : length bytes ≡ 2312) (s : State) (ranged 
       (λ i h.
       let l : i < 256 = omega (arith, length-table x 256) in
       table-at x 256 i 0 l ∙ ap le (register-put bytes whole s shaped i l) ∙ word-back (getD (s .x) i 0) (ranged .registers i)))
-      (ext-getD 0 (table pc 8) (s .pc) (length-table pc 8 ∙ sym (shaped .counters))
+      (ext-getD 0 (table pc 8) (s .pc) (length-table pc 8 ∙ sym (shaped .pcs))
       (λ i h.
       let l : i < 8 = omega (arith, length-table pc 8) in
-      table-at pc 8 i 0 l ∙ ap le (counter-put bytes whole s shaped i l) ∙ word-back (getD (s .pc) i 0) (ranged .counters i)))
+      table-at pc 8 i 0 l ∙ ap le (pc-put bytes whole s shaped i l) ∙ word-back (getD (s .pc) i 0) (ranged .pcs i)))
       (ext-getD (slot None) (table res 8) (s .res) (length-table res 8 ∙ sym (shaped .reservations))
       (λ i h.
       let l : i < 8 = omega (arith, length-table res 8) in

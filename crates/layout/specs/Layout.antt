@@ -10,7 +10,7 @@ use lib.ListN.{take}
 use Rattle.word.specs.Bytes.{le, toLe}
 use Rattle.word.specs.Memory.{part, splice}
 use Rattle.reserve.specs.Reserve.{slot}
-use Rattle.reserve.specs.Lent.{heldBy}
+use Rattle.reserve.specs.Packed.{heldBy}
 use Rattle.reserve.specs.declared.Reservation.{Reservation}
 use Rattle.reserve.specs.declared.Reservation.the-variants.{None, Held}
 use Rattle.reserve.specs.declared.Slot.{Slot}

@@ -14,5 +14,5 @@ Fits64 (Held addr width) = (addr < 2 ^ 64) × (width < 2 ^ 64)
 pub record Ranged (s : State) : Type 0 where
   pub shaped : Shaped s
   pub registers : (i : ℕ) → getD (s .x) i 0 < 2 ^ 64
-  pub counters : (h : ℕ) → getD (s .pc) h 0 < 2 ^ 64
+  pub pcs : (h : ℕ) → getD (s .pc) h 0 < 2 ^ 64
   pub reservations : (h : ℕ) → Fits64 (getD (s .res) h (slot None) .reservation)

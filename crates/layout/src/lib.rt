@@ -91,7 +91,7 @@ fn store_registers(bytes: &mut [u8], x: [u64; 256])
 }
 
 // Writes the pc of all harts.
-fn store_counters(bytes: &mut [u8], pc: [u64; 8])
+fn store_pcs(bytes: &mut [u8], pc: [u64; 8])
     requires { ⌜ length (now bytes) ≡ 2312 ⌝ }
     ensures { λ _. ⌜ now (bytes .exit) ≡ splice (now (bytes .entry)) 2056 (wordBytes pc) ⌝ }
 {
@@ -141,6 +141,6 @@ pub fn write_state(bytes: &mut [u8], s: State)
     let pc = s.pc;
     let res = s.res;
     store_registers(bytes, x);
-    store_counters(bytes, pc);
+    store_pcs(bytes, pc);
     store_slots(bytes, res, count);
 }

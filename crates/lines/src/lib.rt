@@ -3,7 +3,7 @@ use events::Event;
 use machine::State;
 use model::Outcome;
 use model::advance::advance;
-use reserve::lent;
+use reserve::packed;
 use text::put_byte;
 use text::put_bytes;
 use text::put_decimal;
@@ -92,7 +92,7 @@ pub fn put_lines(out: &mut [u8], at: usize, from: usize, s: State, base: u64, bo
     let mut x = s.x;
     let mut pc = s.pc;
     let res = s.res;
-    let mut t = lent::lend(res);
+    let mut t = packed::pack(res);
     let n = body.len() / 24;
     let mut p = at;
     let mut i: usize = 0;

@@ -30,5 +30,5 @@ StateRules base len s = (1 ≤ s .count) × (s .count ≤ 8) × ((k : ℕ) → k
 -- the lengths of a state's arrays, which its type fixes
 pub record Shaped (s : State) : Type 0 where
   pub registers : length (s .x) ≡ 256
-  pub counters : length (s .pc) ≡ 8
+  pub pcs : length (s .pc) ≡ 8
   pub reservations : length (s .res) ≡ 8

@@ -9,9 +9,9 @@ use Rattle.word.specs.Bytes.{toLe}
 use Rattle.reserve.specs.Range.{insideOf}
 use Rattle.reserve.specs.declared.Slot.{Slot}
 use Rattle.effect.specs.Effect as E
-use Rattle.model.specs.Act.{Act, refuse, put, told, setReg, registersAfter, countersAfter, slotsAfter, leaves, retiredAs}
+use Rattle.model.specs.Act.{Act, refuse, put, outcomeOf, setReg, registersAfter, pcsAfter, slotsAfter, leaves, retiredAs}
 use Rattle.model.specs.Perform.{ofExec, deviceOf}
-use Rattle.model.specs.Advance.{registersBy, countersBy, slotsBy, toldBy}
+use Rattle.model.specs.Advance.{registersBy, pcsBy, slotsBy, outcomeBy}
 use Rattle.model.specs.declared.Outcome.{Outcome}
 use Rattle.events.specs.declared.Event.{Event}
 use Rattle.machine.specs.State.{refusalOf}
@@ -36,12 +36,12 @@ module _ (h : ℕ) where
   registers-done (E.effect (E.one r v) to t) x = refl
   registers-done (E.effect (E.pair r v r2 v2) to t) x = refl
 
-  pub counters-done : (e : E.Exec) (pc : List ℕ) → countersBy h (E.doneOf h e) pc ≡ countersAfter (ofExec h e) pc
-  unfolding countersBy
-  counters-done (E.trap cause value) pc = refl
-  counters-done (E.effect E.none to t) pc = refl
-  counters-done (E.effect (E.one r v) to t) pc = refl
-  counters-done (E.effect (E.pair r v r2 v2) to t) pc = refl
+  pub pcs-done : (e : E.Exec) (pc : List ℕ) → pcsBy h (E.doneOf h e) pc ≡ pcsAfter (ofExec h e) pc
+  unfolding pcsBy
+  pcs-done (E.trap cause value) pc = refl
+  pcs-done (E.effect E.none to t) pc = refl
+  pcs-done (E.effect (E.one r v) to t) pc = refl
+  pcs-done (E.effect (E.pair r v r2 v2) to t) pc = refl
 
   pub slots-done : (e : E.Exec) (count : ℕ) (l : List Slot) → slotsBy count (E.doneOf h e) l ≡ slotsAfter 64 count (ofExec h e) l
   unfolding slotsBy
@@ -50,8 +50,8 @@ module _ (h : ℕ) where
   slots-done (E.effect (E.one r v) to t) count l = refl
   slots-done (E.effect (E.pair r v r2 v2) to t) count l = refl
 
-  pub outcome-done : (e : E.Exec) → toldBy (E.doneOf h e) ≡ told (ofExec h e)
-  unfolding toldBy
+  pub outcome-done : (e : E.Exec) → outcomeBy (E.doneOf h e) ≡ outcomeOf (ofExec h e)
+  unfolding outcomeBy
   outcome-done (E.trap cause value) = refl
   outcome-done (E.effect E.none to t) = refl
   outcome-done (E.effect (E.one r v) to t) = refl
@@ -62,7 +62,7 @@ module _ (h : ℕ) where
   leaves-done (E.trap cause value) base mem = refl
   leaves-done (E.effect ws to t) base mem = refl
 
--- a device write leaves registers and counters
+-- a device write leaves registers and pcs
 module _ (base : ℕ) (mem : List ℕ) (a n v : ℕ) where
   either : (P : Act → Type 0) → P (refuse 4) → P (refuse 5) → P (put a (toLe n v)) → P (deviceOf base mem a n v)
   unfolding deviceOf
@@ -76,8 +76,8 @@ module _ (base : ℕ) (mem : List ℕ) (a n v : ℕ) where
   pub device-registers : (x : List ℕ) → registersAfter (deviceOf base mem a n v) x ≡ x
   device-registers x = either (λ (act : Act). registersAfter act x ≡ x) refl refl refl
 
-  pub device-counters : (pc : List ℕ) → countersAfter (deviceOf base mem a n v) pc ≡ pc
-  device-counters pc = either (λ (act : Act). countersAfter act pc ≡ pc) refl refl refl
+  pub device-pcs : (pc : List ℕ) → pcsAfter (deviceOf base mem a n v) pc ≡ pc
+  device-pcs pc = either (λ (act : Act). pcsAfter act pc ≡ pc) refl refl refl
 
 -- reservations that are lent are refused as those of the state are
 pub refused-same : (base : ℕ) (mem : List ℕ) (s : State) {l : List Slot} → l ≡ s .res
@@ -96,7 +96,7 @@ module _ (base count : ℕ) (x pc mem : List ℕ) (res : List Slot) (none : refu
   module _ (r : Outcome) (res′ : List Slot) (x′ pc′ mem′ : List ℕ) (a : Advances (actOn base mem (stateFrom count x pc res) e) base count res x pc mem r res′ x′ pc′ mem′) where
     pub advanced-next : record { state = stateFrom count x′ pc′ res′; mem = mem′ } ≡ nextOf base (record { state = stateFrom count x pc res; mem = mem }) e
     unfolding nextOf answerOf memoryOf apply here
-    advanced-next = rw (act-valid base here valid e, a .registers, a .counters, a .slots, a .memory)
+    advanced-next = rw (act-valid base here valid e, a .registers, a .pcs, a .slots, a .memory)
 
     pub advanced-valid : refusalOf base (length mem′) (stateFrom count x′ pc′ res′) ≡ 0
     unfolding here
@@ -104,7 +104,7 @@ module _ (base count : ℕ) (x pc mem : List ℕ) (res : List Slot) (none : refu
         refusal-0 base (length mem′) (stateFrom count x′ pc′ res′) .1
         (subst (λ (m : Machine). Valid base m) (sym advanced-next) (valid-next base here valid e))
 
-    pub advanced-answer : r ≡ told (actOf base mem (stateFrom count x pc res) e)
+    pub advanced-answer : r ≡ outcomeOf (actOf base mem (stateFrom count x pc res) e)
     unfolding here
     advanced-answer = rw (act-valid base here valid e) (a .outcome)
 

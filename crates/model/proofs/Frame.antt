@@ -15,6 +15,7 @@ use Rattle.word.specs.Bytes.{le, toLe}
 use Rattle.word.specs.Memory.{part, splice}
 use Rattle.word.proofs.MemoryLaws.{splice-before, splice-after, part-splice-before, part-splice-after}
 use Rattle.word.proofs.WordLaws.{split-lt}
+use Rattle.word.proofs.ChooseLaws.{cond-cases}
 use Rattle.word.proofs.TestLaws.{bool-cases}
 use Rattle.word.proofs.EachLaws.{each-at, each-past, length-each}
 use Rattle.reserve.specs.Range.{Touch, Inside, insideOf}
@@ -29,13 +30,13 @@ use Rattle.isa.specs.declared.Instr.{Instr}
 use Rattle.machine.specs.Rules.{Shaped}
 use Rattle.machine.specs.State.{refusalOf}
 use Rattle.machine.specs.declared.State.{State}
-use Rattle.effect.specs.Effect.{Writes, none, one, pair, Access, nothing, reserve, store, scStore, scLose, Exec, trap, effect, stored, noticeOf}
+use Rattle.effect.specs.Effect.{Writes, none, one, pair, Access, nothing, reserve, store, scStored, scFailed, Exec, trap, effect, stored, noticeOf}
 use Rattle.effect.specs.Execute.{regAt, execute, executeWord}
 use Rattle.effect.specs.Memory.{valueAt}
 use Rattle.effect.specs.Sound.{AccessOk}
 use Rattle.events.specs.declared.Event.{Event}
 use Rattle.events.specs.declared.Event.the-variants.{Step, Device, Yield as YieldOf}
-use Rattle.model.specs.Act.{Act, refuse, fault, change, put, release, actNotice, setReg, written, registersAfter, countersAfter, apply, leaves}
+use Rattle.model.specs.Act.{Act, refuse, fault, change, put, release, actNotice, setReg, written, registersAfter, pcsAfter, apply, leaves}
 use Rattle.model.specs.Perform.{Machine, reservationOf, fetchOf, stepOf, ofExec, deviceOf, actOn, actOf, answerOf, memoryOf, nextOf, runOf}
 use Rattle.model.specs.Valid.{Valid, ActOk}
 use Rattle.model.specs.Trace.{noticeAt, WritesInto, NotBy}
@@ -44,10 +45,6 @@ use Rattle.model.proofs.Valid.{act-valid, act-ok}
 
 -- What holds of every act that an event can come to holds of its act: a step and a yield are of a hart below the count.
 module _ (base : ℕ) (mem : List ℕ) (s : State) (P : Act → Type 0) (refused : (number : ℕ) → P (refuse number)) where
-  choose : (t : Bool) (x y : Act) → (t ≡ true → P x) → P y → P (cond t x y)
-  choose true x y f p = f refl
-  choose false x y f p = p
-
   by-exec : (h : ℕ) (x : Exec) → ((cause value : ℕ) → P (fault cause value)) → ((ws : Writes) (to : ℕ) (t : Access) → P (change h ws to t)) → P (ofExec h x)
   by-exec h (trap cause value) f g = f cause value
   by-exec h (effect ws to t) f g = g ws to t
@@ -58,16 +55,16 @@ module _ (base : ℕ) (mem : List ℕ) (s : State) (P : Act → Type 0) (refused
       → P (actOf base mem s e)
   unfolding actOf actOn deviceOf
   acts (Step h) trapped stepped device yields =
-      choose (eqb (refusalOf base (length mem) s) 0) _ _
-      (λ v. choose (ltb h (s .count)) _ _ (λ l. by-exec h (stepOf base mem s h) trapped (stepped h refl (ltb-true h (s .count) l))) (refused 3))
-      (refused _)
+      cond-cases P (eqb (refusalOf base (length mem) s) 0) _ _
+      (λ v. cond-cases P (ltb h (s .count)) _ _ (λ l. by-exec h (stepOf base mem s h) trapped (stepped h refl (ltb-true h (s .count) l))) (λ z. refused 3))
+      (λ z. refused _)
   acts (Device a n v) trapped stepped device yields =
-      choose (eqb (refusalOf base (length mem) s) 0) _ _
-      (λ r. choose (leb 1 n && leb n 8) _ _ (λ i. choose (insideOf base (length mem) a n) _ _ (λ j. device a (toLe n v)) (refused 5)) (refused 4))
-      (refused _)
+      cond-cases P (eqb (refusalOf base (length mem) s) 0) _ _
+      (λ r. cond-cases P (leb 1 n && leb n 8) _ _ (λ i. cond-cases P (insideOf base (length mem) a n) _ _ (λ j. device a (toLe n v)) (λ z. refused 5)) (λ z. refused 4))
+      (λ z. refused _)
   acts (YieldOf h) trapped stepped device yields =
-      choose (eqb (refusalOf base (length mem) s) 0) _ _
-      (λ v. choose (ltb h (s .count)) _ _ (λ l. yields h refl (ltb-true h (s .count) l)) (refused 3)) (refused _)
+      cond-cases P (eqb (refusalOf base (length mem) s) 0) _ _
+      (λ v. cond-cases P (ltb h (s .count)) _ _ (λ l. yields h refl (ltb-true h (s .count) l)) (λ z. refused 3)) (λ z. refused _)
 
 -- ---- the arrays of a state
 
@@ -86,24 +83,24 @@ length-slots size count n l = length-each (observeSlot size n) count l
 
 pub shaped-apply : (size : ℕ) (s : State) (act : Act) → Shaped s → Shaped (apply size s act)
 unfolding apply
-shaped-apply size s (refuse number) h = record { registers = h .registers; counters = h .counters; reservations = h .reservations }
-shaped-apply size s (fault cause value) h = record { registers = h .registers; counters = h .counters; reservations = h .reservations }
+shaped-apply size s (refuse number) h = record { registers = h .registers; pcs = h .pcs; reservations = h .reservations }
+shaped-apply size s (fault cause value) h = record { registers = h .registers; pcs = h .pcs; reservations = h .reservations }
 shaped-apply size s (change g ws to t) h =
     record {
       registers = length-written g ws (s .x) ∙ h .registers;
-      counters = rw length-set (h .counters);
+      pcs = rw length-set (h .pcs);
       reservations = length-slots size (s .count) (noticeOf g t) (s .res) ∙ h .reservations;
     }
 shaped-apply size s (put a bs) h =
     record {
       registers = h .registers;
-      counters = h .counters;
+      pcs = h .pcs;
       reservations = length-slots size (s .count) (DeviceWrite a (length bs)) (s .res) ∙ h .reservations;
     }
 shaped-apply size s (release g) h =
     record {
       registers = h .registers;
-      counters = h .counters;
+      pcs = h .pcs;
       reservations = length-slots size (s .count) (Yield g) (s .res) ∙ h .reservations;
     }
 
@@ -198,8 +195,8 @@ module _ (base : ℕ) (mem : List ℕ) (P : List ℕ → Type 0) (same : P mem) 
   by-access h nothing o d = same
   by-access h (reserve b w) o d = same
   by-access h (store b bs) o d = kept b bs o d
-  by-access h (scStore b bs) o d = kept b bs o d
-  by-access h scLose o d = same
+  by-access h (scStored b bs) o d = kept b bs o d
+  by-access h scFailed o d = same
 
   by-act : (act : Act) → ActOk base (length mem) act → (WritesInto (actNotice act) a n → ⊥) → P (leaves base mem act)
   unfolding leaves
@@ -230,7 +227,7 @@ module _ (base : ℕ) (m : Machine) (e : Event) where
   pub unused-pc : (k : ℕ) → m .state .count ≤ k → getD (nextOf base m e .state .pc) k 0 ≡ getD (m .state .pc) k 0
   unfolding nextOf answerOf apply
   unused-pc k u =
-      acts base (m .mem) (m .state) (λ (a : Act). getD (countersAfter a (m .state .pc)) k 0 ≡ getD (m .state .pc) k 0) (λ n. refl) e (λ c v. refl)
+      acts base (m .mem) (m .state) (λ (a : Act). getD (pcsAfter a (m .state .pc)) k 0 ≡ getD (m .state .pc) k 0) (λ n. refl) e (λ c v. refl)
       (λ h q l ws to t. getD-set-other (m .state .pc) h k to 0 (omega arith)) (λ a bs. refl) (λ h q l. refl)
 
   pub unused-res : (k : ℕ) → m .state .count ≤ k → getD (nextOf base m e .state .res) k (slot None) ≡ getD (m .state .res) k (slot None)
@@ -251,15 +248,15 @@ module _ (base : ℕ) (m : Machine) (e : Event) where
     pub other-pc : getD (nextOf base m e .state .pc) h 0 ≡ getD (m .state .pc) h 0
     unfolding nextOf answerOf apply
     other-pc =
-        acts base (m .mem) (m .state) (λ (a : Act). getD (countersAfter a (m .state .pc)) h 0 ≡ getD (m .state .pc) h 0) (λ n. refl) e (λ c v. refl)
+        acts base (m .mem) (m .state) (λ (a : Act). getD (pcsAfter a (m .state .pc)) h 0 ≡ getD (m .state .pc) h 0) (λ n. refl) e (λ c v. refl)
         (λ g q l ws to t. getD-set-other (m .state .pc) g h to 0 (λ z. not-of g q (sym z))) (λ a bs. refl) (λ g q l. refl)
 
     not-access : (g : ℕ) → g ≢ h → (t : Access) → NotBy h (noticeOf g t)
     not-access g d nothing = tt
     not-access g d (reserve a w) = d
     not-access g d (store a bs) = d
-    not-access g d (scStore a bs) = d
-    not-access g d scLose = d
+    not-access g d (scStored a bs) = d
+    not-access g d scFailed = d
 
     pub not-by : NotBy h (noticeAt base m e)
     not-by =

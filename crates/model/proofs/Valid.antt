@@ -15,7 +15,7 @@ use Rattle.word.specs.Each.{each}
 use Rattle.word.proofs.BytesLaws.{length-toLe}
 use Rattle.word.proofs.MemoryLaws.{length-splice}
 use Rattle.word.proofs.WordLaws.{split-lt}
-use Rattle.word.proofs.ChooseLaws.{cond-all}
+use Rattle.word.proofs.ChooseLaws.{cond-all, cond-cases}
 use Rattle.word.proofs.TestLaws.{bool-cases, and-both}
 use Rattle.word.proofs.EachLaws.{each-at, length-each}
 use Rattle.reserve.specs.Range.{Inside, insideOf}
@@ -24,13 +24,13 @@ use Rattle.reserve.specs.declared.Reservation.{Reservation}
 use Rattle.reserve.specs.declared.Reservation.the-variants.{None, Held}
 use Rattle.reserve.specs.declared.Slot.{Slot}
 use Rattle.reserve.specs.declared.Notice.{Notice}
-use Rattle.reserve.specs.declared.Notice.the-variants.{Quiet, LoadReserved, ScDone, ScFailed, Write, DeviceWrite, Yield}
+use Rattle.reserve.specs.declared.Notice.the-variants.{Quiet, LoadReserved, ScStored, ScFailed, Write, DeviceWrite, Yield}
 use Rattle.reserve.proofs.RangeLaws.{inside-of, cover-inside, none-covers}
 use Rattle.machine.specs.Rules.{MemoryRules, ReservationRules, HartRules, StateRules}
 use Rattle.machine.specs.State.{refusalOf}
 use Rattle.machine.specs.declared.State.{State}
 use Rattle.machine.proofs.StateLaws.{refusal-0}
-use Rattle.effect.specs.Effect.{Writes, none, one, pair, Access, nothing, reserve, store, scStore, scLose, Exec, trap, effect, stored, noticeOf}
+use Rattle.effect.specs.Effect.{Writes, none, one, pair, Access, nothing, reserve, store, scStored, scFailed, Exec, trap, effect, stored, noticeOf}
 use Rattle.effect.specs.Atomic.{CoveredInside}
 use Rattle.effect.specs.Execute.{regAt}
 use Rattle.effect.specs.Memory.{valueAt}
@@ -67,7 +67,7 @@ module _ (base len : ℕ) where
   NoticeOk : Notice → Type 0
   NoticeOk Quiet = Unit {0}
   NoticeOk (LoadReserved g a w) = ReservationRules base len (Held a w)
-  NoticeOk (ScDone g b n) = Unit {0}
+  NoticeOk (ScStored g b n) = Unit {0}
   NoticeOk (ScFailed g) = Unit {0}
   NoticeOk (Write g b n) = Unit {0}
   NoticeOk (DeviceWrite b n) = Unit {0}
@@ -77,7 +77,7 @@ module _ (base len : ℕ) where
   unfolding ownOf NoticeOk
   own-ok h Quiet r o k = k
   own-ok h (LoadReserved g a w) r o k = cond-all (ReservationRules base len) (eqb g h) (Held a w) r o k
-  own-ok h (ScDone g b n) r o k = cond-all (ReservationRules base len) (eqb g h) None r tt k
+  own-ok h (ScStored g b n) r o k = cond-all (ReservationRules base len) (eqb g h) None r tt k
   own-ok h (ScFailed g) r o k = cond-all (ReservationRules base len) (eqb g h) None r tt k
   own-ok h (Write g b n) r o k = k
   own-ok h (DeviceWrite b n) r o k = k
@@ -102,8 +102,8 @@ module _ (base len : ℕ) where
   access-notice h nothing o = tt
   access-notice h (reserve a w) o = (o .0, o .1 .0, o .1 .1)
   access-notice h (store a bs) o = tt
-  access-notice h (scStore a bs) o = tt
-  access-notice h scLose o = tt
+  access-notice h (scStored a bs) o = tt
+  access-notice h scFailed o = tt
 
   -- an act keeps the rules of the state
   pub apply-rules : (size : ℕ) (s : State) (act : Act) → ActOk base len act → StateRules base len s → StateRules base len (apply size s act)
@@ -128,8 +128,8 @@ stored-length : (base : ℕ) (mem : List ℕ) (t : Access) → AccessOk base (le
 stored-length base mem nothing o = refl
 stored-length base mem (reserve a w) o = refl
 stored-length base mem (store a bs) o = length-splice mem (a - base) bs (omega arith)
-stored-length base mem (scStore a bs) o = length-splice mem (a - base) bs (omega arith)
-stored-length base mem scLose o = refl
+stored-length base mem (scStored a bs) o = length-splice mem (a - base) bs (omega arith)
+stored-length base mem scFailed o = refl
 
 pub length-leaves : (base : ℕ) (mem : List ℕ) (act : Act) → ActOk base (length mem) act → length (leaves base mem act) ≡ length mem
 unfolding leaves
@@ -158,19 +158,15 @@ module _ (base : ℕ) (mem : List ℕ) (s : State) (mr : MemoryRules base (lengt
       (sound (valueAt base mem (getD (s .pc) h 0) 4) (regAt (s .x) h) (getD (s .pc) h 0) base mem (coversOf 64 (reservationOf s h)) (sr .2 h l .1)
       (covered-inside base (length mem) (reservationOf s h) mr (sr .2 h l .2))) tt
 
-  choose : (t : Bool) (a b : Act) → (t ≡ true → ActOk base (length mem) a) → (t ≡ false → ActOk base (length mem) b) → ActOk base (length mem) (cond t a b)
-  choose true a b f g = f refl
-  choose false a b f g = g refl
-
   pub act-ok : (e : Event) → ActOk base (length mem) (actOn base mem s e)
   unfolding actOn deviceOf
   act-ok (Step h) =
-      choose (ltb h (s .count)) (ofExec h (stepOf base mem s h)) (refuse 3) (λ t. of-exec h (stepOf base mem s h) (fetch-sound h (ltb-true h (s .count) t))) (λ f. tt)
+      cond-cases (ActOk base (length mem)) (ltb h (s .count)) (ofExec h (stepOf base mem s h)) (refuse 3) (λ t. of-exec h (stepOf base mem s h) (fetch-sound h (ltb-true h (s .count) t))) (λ f. tt)
   act-ok (Device a n v) =
-      choose (leb 1 n && leb n 8) (cond (insideOf base (length mem) a n) (put a (toLe n v)) (refuse 5)) (refuse 4)
-      (λ t. choose (insideOf base (length mem) a n) (put a (toLe n v)) (refuse 5)
+      cond-cases (ActOk base (length mem)) (leb 1 n && leb n 8) (cond (insideOf base (length mem) a n) (put a (toLe n v)) (refuse 5)) (refuse 4)
+      (λ t. cond-cases (ActOk base (length mem)) (insideOf base (length mem) a n) (put a (toLe n v)) (refuse 5)
       (λ i. subst (λ (k : ℕ). Inside base (length mem) a k) (sym (length-toLe n v)) (inside-of base (length mem) a n i)) (λ f. tt)) (λ f. tt)
-  act-ok (YieldOf h) = choose (ltb h (s .count)) (release h) (refuse 3) (λ t. tt) (λ f. tt)
+  act-ok (YieldOf h) = cond-cases (ActOk base (length mem)) (ltb h (s .count)) (release h) (refuse 3) (λ t. tt) (λ f. tt)
 
 module _ (base : ℕ) (m : Machine) (v : Valid base m) (e : Event) where
   -- a machine that isn't refused by 1 or 2: the act is the event's own

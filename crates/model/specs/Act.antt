@@ -1,4 +1,4 @@
--- What an event comes to: decided once, and then told and applied. Both what is told and what changes are read off the decision.
+-- What an event comes to: decided once, and then outcomeOf and applied. Both what is outcomeOf and what changes are read off the decision.
 use Prim.Native.Nat.{ℕ, _+_, _-_, _*_, _%_}
 use mathlib.Core.Bool.{cond}
 use mathlib.Core.List.{List}
@@ -8,7 +8,7 @@ use Rattle.word.specs.Memory.{splice}
 use Rattle.reserve.specs.Reserve.{observeAllOf}
 use Rattle.reserve.specs.declared.Slot.{Slot}
 use Rattle.reserve.specs.declared.Notice.{Notice}
-use Rattle.reserve.specs.declared.Notice.the-variants.{Quiet, LoadReserved, ScDone, ScFailed, Write, DeviceWrite, Yield}
+use Rattle.reserve.specs.declared.Notice.the-variants.{Quiet, LoadReserved, ScStored, ScFailed, Write, DeviceWrite, Yield}
 use Rattle.machine.specs.declared.State.{State}
 use Rattle.effect.specs.Effect.{Writes, none, one, pair, Access, stored, noticeOf}
 use Rattle.model.specs.declared.Outcome.{Outcome}
@@ -33,19 +33,19 @@ actNotice (release h) = Yield h
 abbrev pub retiredAs : Notice → Outcome
 retiredAs Quiet = O.Retired
 retiredAs (LoadReserved g a w) = O.Retired
-retiredAs (ScDone g b n) = O.ScStored
+retiredAs (ScStored g b n) = O.ScStored
 retiredAs (ScFailed g) = O.ScFailed
 retiredAs (Write g b n) = O.Retired
 retiredAs (DeviceWrite b n) = O.Retired
 retiredAs (Yield g) = O.Retired
 
 -- the answer, with 01's number or cause and value
-abbrev pub told : Act → Outcome
-told (refuse number) = O.Refused number
-told (fault cause value) = O.Trap cause value
-told (change h ws to t) = retiredAs (noticeOf h t)
-told (put a bs) = O.Retired
-told (release h) = O.Retired
+abbrev pub outcomeOf : Act → Outcome
+outcomeOf (refuse number) = O.Refused number
+outcomeOf (fault cause value) = O.Trap cause value
+outcomeOf (change h ws to t) = retiredAs (noticeOf h t)
+outcomeOf (put a bs) = O.Retired
+outcomeOf (release h) = O.Retired
 
 -- register r of hart h set; x0 never is
 unfoldable pub setReg : ℕ → ℕ → ℕ → List ℕ → List ℕ
@@ -64,12 +64,12 @@ registersAfter (change h ws to t) x = written h ws x
 registersAfter (put a bs) x = x
 registersAfter (release h) x = x
 
-abbrev pub countersAfter : Act → List ℕ → List ℕ
-countersAfter (refuse number) pc = pc
-countersAfter (fault cause value) pc = pc
-countersAfter (change h ws to t) pc = set pc h to
-countersAfter (put a bs) pc = pc
-countersAfter (release h) pc = pc
+abbrev pub pcsAfter : Act → List ℕ → List ℕ
+pcsAfter (refuse number) pc = pc
+pcsAfter (fault cause value) pc = pc
+pcsAfter (change h ws to t) pc = set pc h to
+pcsAfter (put a bs) pc = pc
+pcsAfter (release h) pc = pc
 
 -- the reservations of the first count harts follow the notice, at a set size
 abbrev pub slotsAfter : ℕ → ℕ → Act → List Slot → List Slot
@@ -92,6 +92,6 @@ apply size s act =
     record {
       count = s .count;
       x = registersAfter act (s .x);
-      pc = countersAfter act (s .pc);
+      pc = pcsAfter act (s .pc);
       res = slotsAfter size (s .count) act (s .res);
     }

@@ -6,3 +6,4 @@ pub mod Valid
 pub mod Advance
 pub mod Trace
 pub mod Fetch
+pub mod Retired

@@ -17,7 +17,7 @@ use Rattle.effect.specs.Memory.{valueAt}
 use Rattle.effect.specs.Execute.{regAt, executeWord}
 use Rattle.events.specs.declared.Event.{Event}
 use Rattle.events.specs.declared.Event.the-variants.{Step, Device, Yield}
-use Rattle.model.specs.Act.{Act, refuse, fault, change, put, release, told, apply, leaves}
+use Rattle.model.specs.Act.{Act, refuse, fault, change, put, release, outcomeOf, apply, leaves}
 use Rattle.model.specs.declared.Outcome.{Outcome}
 use Rattle.model.specs.declared.Answer.{Answer}
 
@@ -61,14 +61,14 @@ pub record Machine : Type 0 where
 
 -- the answer to an event, the state with it, and the memory afterwards
 unfoldable pub answerOf : ℕ → List ℕ → State → Event → Answer
-answerOf base mem s e = record { outcome = told (actOf base mem s e); state = apply 64 s (actOf base mem s e) }
+answerOf base mem s e = record { outcome = outcomeOf (actOf base mem s e); state = apply 64 s (actOf base mem s e) }
 
 unfoldable pub memoryOf : ℕ → List ℕ → State → Event → List ℕ
 memoryOf base mem s e = leaves base mem (actOf base mem s e)
 
 -- the answer alone
-abbrev pub answered : ℕ → Machine → Event → Outcome
-answered base m e = answerOf base (m .mem) (m .state) e .outcome
+abbrev pub outcomeAt : ℕ → Machine → Event → Outcome
+outcomeAt base m e = answerOf base (m .mem) (m .state) e .outcome
 
 -- the machine after an event, and after events one after another: each gets what the one before left
 unfoldable pub nextOf : ℕ → Machine → Event → Machine

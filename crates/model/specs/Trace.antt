@@ -4,7 +4,7 @@ use mathlib.Core.List.{List, [], _∷_}
 use Prim.Native.Nat.{ℕ}
 use Rattle.reserve.specs.Range.{Touch}
 use Rattle.reserve.specs.declared.Notice.{Notice}
-use Rattle.reserve.specs.declared.Notice.the-variants.{Quiet, LoadReserved, ScDone, ScFailed, Write, DeviceWrite, Yield}
+use Rattle.reserve.specs.declared.Notice.the-variants.{Quiet, LoadReserved, ScStored, ScFailed, Write, DeviceWrite, Yield}
 use Rattle.events.specs.declared.Event.{Event}
 use Rattle.model.specs.Act.{actNotice}
 use Rattle.model.specs.Perform.{Machine, actOf, nextOf}
@@ -23,7 +23,7 @@ traceOf base m (e ∷ es) = noticeAt base m e ∷ traceOf base (nextOf base m e)
 abbrev pub WritesInto : Notice → ℕ → ℕ → Type 0
 WritesInto Quiet a n = ⊥
 WritesInto (LoadReserved g b w) a n = ⊥
-WritesInto (ScDone g b k) a n = Touch b k a n
+WritesInto (ScStored g b k) a n = Touch b k a n
 WritesInto (ScFailed g) a n = ⊥
 WritesInto (Write g b k) a n = Touch b k a n
 WritesInto (DeviceWrite b k) a n = Touch b k a n
@@ -33,7 +33,7 @@ WritesInto (Yield g) a n = ⊥
 abbrev pub NotBy : ℕ → Notice → Type 0
 NotBy h Quiet = Unit {0}
 NotBy h (LoadReserved g b w) = g ≢ h
-NotBy h (ScDone g b k) = g ≢ h
+NotBy h (ScStored g b k) = g ≢ h
 NotBy h (ScFailed g) = g ≢ h
 NotBy h (Write g b k) = g ≢ h
 NotBy h (DeviceWrite b k) = Unit {0}

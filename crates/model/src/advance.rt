@@ -1,22 +1,22 @@
-// Events performed in place, on registers, counters and reservations that refusals 1 and 2 do not refuse. Reservations are lent as 24 numbers.
+// Events performed in place, on registers, pcs and reservations that refusals 1 and 2 do not refuse. Reservations are lent as 24 numbers.
 use crate::Outcome;
 use effect::Done;
 use events::Event;
 use reserve::Notice;
 use reserve::Reservation;
-use reserve::lent;
+use reserve::packed;
 ghost use mathlib.Core.Path.{_≡_};
 ghost use Prim.Native.Nat.{_<_, _≤_};
 ghost use lib.ListN.{length};
 ghost use Rattle.reserve.specs.Reserve.{coversOf};
-ghost use Rattle.reserve.specs.Lent.{slotsIn};
+ghost use Rattle.reserve.specs.Packed.{slotsIn};
 ghost use Rattle.machine.specs.State.{refusalOf};
 ghost use Rattle.effect.specs.Effect.{Meets};
 ghost use Rattle.effect.specs.Atomic.{CoveredInside};
 ghost use Rattle.effect.specs.Execute.{regAt};
-ghost use Rattle.model.specs.Act.{retiredAs, setReg, told, release, slotsAfter, leaves};
+ghost use Rattle.model.specs.Act.{retiredAs, setReg, outcomeOf, release, slotsAfter, leaves};
 ghost use Rattle.model.specs.Perform.{fetchOf, stepOf, ofExec, actOn, deviceOf};
-ghost use Rattle.model.specs.Advance.{Advances, stateFrom, registersBy, countersBy, slotsBy, toldBy};
+ghost use Rattle.model.specs.Advance.{Advances, stateFrom, registersBy, pcsBy, slotsBy, outcomeBy};
 
 // Fetches the word at pc and does what it says, for hart h, whose registers are among x and whose reservation is res.
 fn fetch(x: &[u64; 256], h: usize, pc: u64, base: u64, res: Reservation, mem: &mut [u8]) -> Done
@@ -48,7 +48,7 @@ fn set_reg(x: &mut [u64; 256], h: usize, r: usize, v: u64)
 // Registers and pc of hart h after its step.
 fn move_hart(x: &mut [u64; 256], pc: &mut [u64; 8], h: usize, d: Done)
     requires { ⌜ h < 8 ⌝ }
-    ensures { λ _. ⌜ (now (x .exit) ≡ registersBy h d (now (x .entry))) × (now (pc .exit) ≡ countersBy h d (now (pc .entry))) ⌝ }
+    ensures { λ _. ⌜ (now (x .exit) ≡ registersBy h d (now (x .entry))) × (now (pc .exit) ≡ pcsBy h d (now (pc .entry))) ⌝ }
 {
     if let Done::Retired(e) = d {
         set_reg(x, h, e.rd, e.value);
@@ -64,7 +64,7 @@ fn retired_as(n: Notice) -> Outcome
     match n {
         Notice::Quiet => Outcome::Retired,
         Notice::LoadReserved { .. } => Outcome::Retired,
-        Notice::ScDone { .. } => Outcome::ScStored,
+        Notice::ScStored { .. } => Outcome::ScStored,
         Notice::ScFailed { .. } => Outcome::ScFailed,
         Notice::Write { .. } => Outcome::Retired,
         Notice::DeviceWrite { .. } => Outcome::Retired,
@@ -75,12 +75,12 @@ fn retired_as(n: Notice) -> Outcome
 // The reservations after a step, and its answer.
 fn settle(t: &mut [u64; 24], count: usize, d: Done) -> Outcome
     requires { ⌜ count ≤ 8 ⌝ }
-    ensures { λ r. ⌜ (r ≡ toldBy d) × (slotsIn (now (t .exit)) ≡ slotsBy count d (slotsIn (now (t .entry)))) ⌝ }
+    ensures { λ r. ⌜ (r ≡ outcomeBy d) × (slotsIn (now (t .exit)) ≡ slotsBy count d (slotsIn (now (t .entry)))) ⌝ }
 {
     match d {
         Done::Retired(e) => {
             let n = e.notice;
-            lent::observe(t, count, 64, n);
+            packed::observe(t, count, 64, n);
             retired_as(n)
         }
         Done::Trap { cause, value } => Outcome::Trap { cause, value },
@@ -101,7 +101,7 @@ fn step_hart(
     requires { ⌜ h < count ⌝ }
     ensures { λ r. ⌜ Advances (ofExec h (stepOf base (now (mem .entry)) (stateFrom count (now (x .entry)) (now (pc .entry)) (slotsIn (now (t .entry)))) h)) base count (slotsIn (now (t .entry))) (now (x .entry)) (now (pc .entry)) (now (mem .entry)) r (slotsIn (now (t .exit))) (now (x .exit)) (now (pc .exit)) (now (mem .exit)) ⌝ }
 {
-    let r = lent::reservation(t, h);
+    let r = packed::reservation(t, h);
     let at = pc[h];
     let d = fetch(x, h, at, base, r, mem);
     move_hart(x, pc, h, d);
@@ -119,7 +119,7 @@ fn write_device(
     mem: &mut [u8],
 ) -> Outcome
     requires { ⌜ count ≤ 8 ⌝ }
-    ensures { λ r. ⌜ r ≡ told (deviceOf base (now (mem .entry)) addr size value) ⌝ }
+    ensures { λ r. ⌜ r ≡ outcomeOf (deviceOf base (now (mem .entry)) addr size value) ⌝ }
     ensures { λ _. ⌜ slotsIn (now (t .exit)) ≡ slotsAfter 64 count (deviceOf base (now (mem .entry)) addr size value) (slotsIn (now (t .entry))) ⌝ }
     ensures { λ _. ⌜ now (mem .exit) ≡ leaves base (now (mem .entry)) (deviceOf base (now (mem .entry)) addr size value) ⌝ }
 {
@@ -133,16 +133,16 @@ fn write_device(
         return Outcome::Refused { number: 5 };
     }
     word::bytes::store_at(mem, (addr - base) as usize, size, value);
-    lent::device_write(t, count, 64, addr, size as u64);
+    packed::device_write(t, count, 64, addr, size as u64);
     Outcome::Retired
 }
 
 // A yield of hart h.
 fn release_hart(t: &mut [u64; 24], count: usize, h: usize) -> Outcome
     requires { ⌜ count ≤ 8 ⌝ }
-    ensures { λ r. ⌜ (r ≡ told (release h)) × (slotsIn (now (t .exit)) ≡ slotsAfter 64 count (release h) (slotsIn (now (t .entry)))) ⌝ }
+    ensures { λ r. ⌜ (r ≡ outcomeOf (release h)) × (slotsIn (now (t .exit)) ≡ slotsAfter 64 count (release h) (slotsIn (now (t .entry)))) ⌝ }
 {
-    lent::release(t, count, h);
+    packed::release(t, count, h);
     Outcome::Retired
 }
 

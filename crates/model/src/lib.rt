@@ -4,7 +4,7 @@ pub mod run;
 
 use events::Event;
 use machine::State;
-use reserve::lent;
+use reserve::packed;
 ghost use mathlib.Core.Path.{_≡_};
 ghost use Rattle.events.specs.declared.Event.the-variants.{Step, Device, Yield};
 ghost use Rattle.model.specs.Perform.{answerOf, memoryOf};
@@ -51,9 +51,9 @@ pub fn perform(s: State, base: u64, mem: &mut [u8], e: Event) -> Answer
             state: s,
         };
     }
-    let mut t = lent::lend(res);
+    let mut t = packed::pack(res);
     let outcome = advance::advance(&mut x, &mut pc, &mut t, count, base, mem, e);
-    let after = lent::slots(&t);
+    let after = packed::unpack(&t);
     Answer {
         outcome,
         state: State {

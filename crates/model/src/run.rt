@@ -4,11 +4,11 @@ use crate::Verdict;
 use crate::advance::advance;
 use events::Checked;
 use machine::State;
-use reserve::lent;
+use reserve::packed;
 ghost use mathlib.Core.Path.{_≡_};
 ghost use Prim.Native.Nat.{_*_, _≤_, min};
 ghost use lib.ListN.{length};
-ghost use Rattle.reserve.specs.Lent.{slotsIn};
+ghost use Rattle.reserve.specs.Packed.{slotsIn};
 ghost use Rattle.machine.specs.State.{refusalOf};
 ghost use Rattle.events.specs.Events.{firstEvents};
 ghost use Rattle.model.specs.Perform.{runOf};
@@ -71,9 +71,9 @@ pub fn run(s: State, base: u64, mem: &mut [u8], body: &[u8], budget: usize) -> R
         Checked::Bad(place) => refused_run(11, place, s),
         Checked::Good => {
             let n = smaller(budget, body.len() / 24);
-            let mut t = lent::lend(res);
+            let mut t = packed::pack(res);
             perform_first(&mut x, &mut pc, &mut t, count, base, mem, body, n);
-            let after = lent::slots(&t);
+            let after = packed::unpack(&t);
             Ran {
                 verdict: Verdict::Performed,
                 performed: n,

@@ -20,12 +20,12 @@ use Rattle.isa.specs.declared.AtomicOp.the-variants as A
 use Rattle.isa.specs.declared.Atomic.{Atomic}
 use Rattle.isa.specs.declared.Instr.{Instr}
 use Rattle.isa.specs.declared.Instr.the-variants as I
-use Rattle.effect.specs.Effect.{Writes, none, one, Access, nothing, reserve, scStore, Exec, effect, offset, nextPc}
+use Rattle.effect.specs.Effect.{Writes, none, one, Access, nothing, reserve, scStored, Exec, effect, offset, nextPc}
 use Rattle.effect.specs.Integer.{execJump, execBranch, holdsOf}
 use Rattle.effect.specs.Memory.{valueAt}
 use Rattle.effect.specs.Atomic.{execLr}
 use Rattle.effect.specs.Execute.{regAt, execAtomic, execute}
-use Rattle.effect.proofs.TrapLaws.{access-retires, jump-retires, branch-taken, branch-passed, sc-succeeds}
+use Rattle.effect.proofs.TrapLaws.{access-retires, jump-retires, branch-taken, branch-passed, exec-sc-stored}
 use Rattle.model.specs.Act.{setReg, written}
 use Rattle.retry.specs.Loop.{atomicView, viewOf}
 use Rattle.retry.specs.declared.View.{View}
@@ -117,8 +117,8 @@ module _ (pc : ℕ) (aligned : pc % 4 ≡ 0) (small : pc + 4 < 2 ^ 64) where
 
     -- an SC of n bytes at addr, aligned and covered
     pub does-sc : (a : Atomic) → a .op ≡ A.Sc → (addr n : ℕ) → x (a .rs1) ≡ addr → bytesOf (a .width) ≡ n → addr % n ≡ 0 → covered addr n ≡ true
-        → execute 64 (I.Amo a) word x pc base mem covered ≡ effect (one (a .rd) 0) (nextPc 64 pc) (scStore addr (toLe n (x (a .rs2))))
+        → execute 64 (I.Amo a) word x pc base mem covered ≡ effect (one (a .rd) 0) (nextPc 64 pc) (scStored addr (toLe n (x (a .rs2))))
     unfolding execute execAtomic
     does-sc a q addr n s l al c =
-        rw q (sc-succeeds 64 pc (a .width) (a .rd) (x (a .rs1)) (x (a .rs2)) covered (rw (s, l) al) (rw (s, l) c)
-        ∙ ap₂ (λ (b k : ℕ). effect (one (a .rd) 0) (nextPc 64 pc) (scStore b (toLe k (x (a .rs2))))) s l)
+        rw q (exec-sc-stored 64 pc (a .width) (a .rd) (x (a .rs1)) (x (a .rs2)) covered (rw (s, l) al) (rw (s, l) c)
+        ∙ ap₂ (λ (b k : ℕ). effect (one (a .rd) 0) (nextPc 64 pc) (scStored b (toLe k (x (a .rs2))))) s l)

@@ -30,14 +30,14 @@ use Rattle.effect.specs.Execute.{regAt, execAtomic, execute, executeWord}
 use Rattle.events.specs.declared.Event.{Event}
 use Rattle.events.specs.declared.Event.the-variants.{Step, Device, Yield}
 use Rattle.model.specs.Act.{setReg, apply, leaves}
-use Rattle.model.specs.Perform.{Machine, fetchOf, deviceOf, actOn, actOf, answerOf, memoryOf, nextOf, runOf, answered}
+use Rattle.model.specs.Perform.{Machine, fetchOf, deviceOf, actOn, actOf, answerOf, memoryOf, nextOf, runOf, outcomeAt}
 use Rattle.model.specs.Trace.{noticeAt, WritesInto}
 use Rattle.model.specs.declared.Outcome.{Outcome}
 use Rattle.model.specs.declared.Outcome.the-variants as O
 use Rattle.retry.specs.Reasons.{LrAt}
 use Rattle.retry.specs.declared.LoopAnswer.the-variants.{Accepted}
 use Rattle.retry.specs.Loop.{viewOf, pastSc, wrongOffset, clobbers, lowestOf, scanOf, startOf, checkOf}
-use Rattle.progress.specs.Claim.{Start, Harmless, Finish, succeeded, left, back, Safe, Finishes, Calm, Unfinished}
+use Rattle.progress.specs.Claim.{Start, Harmless, Finish, bySc, left, back, Safe, Finishes, Calm, Unfinished}
 use Rattle.progress.proofs.Retry.{retry}
 
 -- Edge 12's loop: lr.w x6,(x5); bne x6,x0,+12; sc.w x7,x8,(x5); bne x7,x0,-12.
@@ -90,7 +90,7 @@ unfolding refusalOf memoryOk stateOk hartOk reservationOk insideOf allBelow regA
 meets words v len few accepted first placed =
     record {
       valid = refusal-0 1024 (length (begin words v .mem)) (begin words v .state) .0 (rw len refl);
-      shaped = record { registers = refl; counters = refl; reservations = refl };
+      shaped = record { registers = refl; pcs = refl; reservations = refl };
       used = omega arith;
       here = refl;
       accepted = accepted;
@@ -153,12 +153,12 @@ mixed = so-far ++ Step 0 ∷ []
 pub by-sc : Finish 1024 0 1024 1096 leaving lr (runOf 1024 (begin leaving 0) mixed) (Step 0)
 unfolding toLe signExtend ofInt toInt low classOf branchOf sizedOf lrOf atomicOf decodeOf refusalOf memoryOk stateOk hartOk reservationOk insideOf allBelow valueAt le part splice regAt touches coversOf breaksOf ownOf observeOf observeAllOf holdsOf execBranch faultOf checked execLr execSc execAtomic execute executeWord setReg apply leaves fetchOf deviceOf actOn actOf answerOf memoryOf nextOf runOf
 by-sc =
-    succeeded
+    bySc
     (record {
       sc = sc;
       fetches = record { inside = inside-of 1024 128 1032 4 refl; decodes = refl };
       isSc = refl;
-      succeeds = refl;
+      answers = refl;
       address = refl;
       width = refl;
       bytes = refl;
@@ -190,12 +190,12 @@ by-sc-unfinished = (not-lr, (never, (never, (never, (never, (never, (never, (nev
     never q f = contrary refl (sym q)
 
     not-lr : true ≡ true → Finish 1024 0 1024 1096 leaving lr (begin leaving 0) (Step 0) → ⊥
-    not-lr t (succeeded s) = let a : O.Retired ≡ O.ScStored = s .succeeds in let z : _≡_ {A = ℕ} 0 1 = cc in omega arith
+    not-lr t (bySc s) = let a : O.Retired ≡ O.ScStored = s .answers in let z : _≡_ {A = ℕ} 0 1 = cc in omega arith
     not-lr t (left d) = d 1 (omega arith) refl
     not-lr t (back q) = let z : _≡_ {A = ℕ} 1028 1024 = q in omega arith
 
     not-branch : true ≡ true → Finish 1024 0 1024 1096 leaving lr (runOf 1024 (begin leaving 0) so-far) (Step 0) → ⊥
-    not-branch t (succeeded s) = let a : O.Retired ≡ O.ScStored = s .succeeds in let z : _≡_ {A = ℕ} 0 1 = cc in omega arith
+    not-branch t (bySc s) = let a : O.Retired ≡ O.ScStored = s .answers in let z : _≡_ {A = ℕ} 0 1 = cc in omega arith
     not-branch t (left d) = d 2 (omega arith) refl
     not-branch t (back q) = let z : _≡_ {A = ℕ} 1032 1024 = q in omega arith
 
@@ -215,7 +215,7 @@ unfolding toLe signExtend ofInt toInt low classOf branchOf sizedOf lrOf atomicOf
 tight s = go (s .1)
   where
     unfinished : Finish 1024 0 1024 1096 shortest lr (begin shortest 0) (Step 0) → ⊥
-    unfinished (succeeded f) = let a : O.Retired ≡ O.ScStored = f .succeeds in let z : _≡_ {A = ℕ} 0 1 = cc in omega arith
+    unfinished (bySc f) = let a : O.Retired ≡ O.ScStored = f .answers in let z : _≡_ {A = ℕ} 0 1 = cc in omega arith
     unfinished (left d) = d 1 (omega arith) refl
     unfinished (back q) = let z : _≡_ {A = ℕ} 1028 1024 = q in omega arith
 
@@ -227,11 +227,11 @@ tight s = go (s .1)
 
 -- hart 0's step after these events
 abbrev next : List Event → Outcome
-next es = answered 1024 (runOf 1024 (begin leaving 0) es) (Step 0)
+next es = outcomeAt 1024 (runOf 1024 (begin leaving 0) es) (Step 0)
 
 -- After the LR, hart 1 stores into the set, beside the LR's bytes. This, and nothing else that is asked, fails; and so does the SC.
 pub record Disturbed : Type 0 where
-  pub told : noticeAt 1024 (runOf 1024 (begin leaving 0) (Step 0 ∷ [])) (Step 1) ≡ N.Write 1 1104 4
+  pub noticed : noticeAt 1024 (runOf 1024 (begin leaving 0) (Step 0 ∷ [])) (Step 1) ≡ N.Write 1 1104 4
   pub writes : WritesInto (noticeAt 1024 (runOf 1024 (begin leaving 0) (Step 0 ∷ [])) (Step 1)) (setOf 64 1096) 64
   pub not-block : WritesInto (noticeAt 1024 (runOf 1024 (begin leaving 0) (Step 0 ∷ [])) (Step 1)) 1024 (4 * length leaving) → ⊥
   pub no-yield : noticeAt 1024 (runOf 1024 (begin leaving 0) (Step 0 ∷ [])) (Step 1) ≢ N.Yield 0
@@ -241,7 +241,7 @@ pub disturbed : Disturbed
 unfolding toLe signExtend ofInt toInt low classOf branchOf storeOf sizedOf lrOf atomicOf decodeOf refusalOf memoryOk stateOk hartOk reservationOk insideOf allBelow valueAt le part splice regAt touches coversOf breaksOf ownOf observeOf observeAllOf holdsOf execBranch faultOf checked execStore execLr execSc execAtomic execute executeWord setReg apply leaves fetchOf deviceOf actOn actOf answerOf memoryOf nextOf runOf Touch
 disturbed =
     record {
-      told = refl;
+      noticed = refl;
       writes = (1104, omega arith, omega arith, omega arith, omega arith);
       not-block = λ t. absurd (omega arith);
       no-yield = λ y. let z : _≡_ {A = ℕ} 0 1 = cc in omega arith;

@@ -29,14 +29,14 @@ use Rattle.isa.specs.declared.Instr.{Instr}
 use Rattle.isa.specs.declared.Instr.the-variants as I
 use Rattle.isa.proofs.DecodeLaws.{regs-below}
 use Rattle.machine.specs.Rules.{Shaped}
-use Rattle.effect.specs.Effect.{Writes, one, Access, nothing, reserve, scStore, Exec, noticeOf, nextPc}
+use Rattle.effect.specs.Effect.{Writes, one, Access, nothing, reserve, scStored, Exec, noticeOf, nextPc}
 use Rattle.effect.specs.Memory.{valueAt}
 use Rattle.effect.specs.Execute.{regAt, execute}
 use Rattle.effect.proofs.Sound.{width-is}
 use Rattle.events.specs.declared.Event.{Event}
 use Rattle.events.specs.declared.Event.the-variants.{Step, Device, Yield}
-use Rattle.model.specs.Act.{Act, change, told, retiredAs, actNotice, written, countersAfter, registersAfter, apply, leaves}
-use Rattle.model.specs.Perform.{Machine, reservationOf, ofExec, actOf, answerOf, memoryOf, nextOf, runOf, answered}
+use Rattle.model.specs.Act.{Act, change, outcomeOf, retiredAs, actNotice, written, pcsAfter, registersAfter, apply, leaves}
+use Rattle.model.specs.Perform.{Machine, reservationOf, ofExec, actOf, answerOf, memoryOf, nextOf, runOf, outcomeAt}
 use Rattle.model.specs.Valid.{Valid}
 use Rattle.model.specs.Trace.{noticeAt, WritesInto, NotBy}
 use Rattle.model.specs.Fetch.{Fetches}
@@ -52,7 +52,7 @@ use Rattle.retry.specs.declared.View.{View}
 use Rattle.retry.specs.declared.View.the-variants.{Lr, Sc, Plain, Jump, Branch, Other}
 use Rattle.retry.proofs.ViewLaws.{Seen, SeenLr, SeenSc, seen, lr-view}
 use Rattle.retry.proofs.Accepted.{Ahead, Home, Keeps, Before, After, Block, block}
-use Rattle.progress.specs.Claim.{hartPc, isStep, Stored, FineAs, Fine, Start, Harmless, Finish, succeeded, left, back, Safe, Finishes, Calm, Unfinished, steps, NextStep}
+use Rattle.progress.specs.Claim.{hartPc, isStep, StoredSc, FineAs, Fine, Start, Harmless, Finish, bySc, left, back, Safe, Finishes, Calm, Unfinished, steps, NextStep}
 use Rattle.progress.proofs.Does.{Moves, Does, does, does-lr, does-sc}
 
 -- ---- notices
@@ -65,7 +65,7 @@ touch-in b k a n c l low high t = (t .0, t .1, t .2, omega arith, omega arith)
 writes-in : (nt : Notice) (a n c l : ℕ) → c ≤ a → a + n ≤ c + l → WritesInto nt a n → WritesInto nt c l
 writes-in N.Quiet a n c l low high t = t
 writes-in (N.LoadReserved g b w) a n c l low high t = t
-writes-in (N.ScDone g b k) a n c l low high t = touch-in b k a n c l low high t
+writes-in (N.ScStored g b k) a n c l low high t = touch-in b k a n c l low high t
 writes-in (N.ScFailed g) a n c l low high t = t
 writes-in (N.Write g b k) a n c l low high t = touch-in b k a n c l low high t
 writes-in (N.DeviceWrite b k) a n c l low high t = touch-in b k a n c l low high t
@@ -77,7 +77,7 @@ spares : (h addr w : ℕ) → Inside (setOf 64 addr) 64 addr w → (nt : Notice)
 unfolding Spares
 spares h addr w i N.Quiet d r y = tt
 spares h addr w i (N.LoadReserved g b v) d r y = d
-spares h addr w i (N.ScDone g b k) d r y = (d, r)
+spares h addr w i (N.ScStored g b k) d r y = (d, r)
 spares h addr w i (N.ScFailed g) d r y = d
 spares h addr w i (N.Write g b k) d r y = λ z. r
 spares h addr w i (N.DeviceWrite b k) d r y = λ t. r (touch-in b k addr w (setOf 64 addr) 64 (i .0) (i .1) t)
@@ -103,16 +103,16 @@ not-step h (Yield g) f q = let z : _≡_ {A = ℕ} 0 1 = cc in omega arith
 -- ---- a step that retires, from its act
 
 module _ (base : ℕ) (m : Machine) (h : ℕ) (ws : Writes) (to : ℕ) (t : Access) (q : actOf base (m .mem) (m .state) (Step h) ≡ change h ws to t) where
-  said : answered base m (Step h) ≡ retiredAs (noticeOf h t)
+  said : outcomeAt base m (Step h) ≡ retiredAs (noticeOf h t)
   unfolding answerOf
-  said = ap told q
+  said = ap outcomeOf q
 
   noticed : noticeAt base m (Step h) ≡ noticeOf h t
   noticed = ap actNotice q
 
   goes : h < length (m .state .pc) → hartPc (nextOf base m (Step h)) h ≡ to
   unfolding nextOf answerOf apply
-  goes l = ap (λ (a : Act). getD (countersAfter a (m .state .pc)) h 0) q ∙ getD-set-same (m .state .pc) h to 0 l
+  goes l = ap (λ (a : Act). getD (pcsAfter a (m .state .pc)) h 0) q ∙ getD-set-same (m .state .pc) h to 0 l
 
   regs : (r : ℕ) → regAt (nextOf base m (Step h) .state .x) h r ≡ regAt (written h ws (m .state .x)) h r
   unfolding nextOf answerOf apply
@@ -231,7 +231,7 @@ module _ (base h p addr : ℕ) (words : List ℕ) (lr : Atomic) (j : ℕ)
       changed = act-is ∙ ap (ofExec h) (mv .is)
 
       to-there : hartPc (nextOf base m (Step h)) h ≡ p + 4 * i′
-      to-there = goes base m h (mv .ws) (p + 4 * i′) t changed (omega (arith, hart-8, a .ground .shaped .counters))
+      to-there = goes base m h (mv .ws) (p + 4 * i′) t changed (omega (arith, hart-8, a .ground .shaped .pcs))
 
       arrive : Onward m i
       unfolding Onward
@@ -282,7 +282,7 @@ module _ (base h p addr : ℕ) (words : List ℕ) (lr : Atomic) (j : ℕ)
     home rd off mv f =
         let q : actOf base (m .mem) (m .state) (Step h) ≡ change h (mv .ws) ((hartPc m h + off) % 2 ^ 64) nothing = act-is ∙ ap (ofExec h) (mv .is) in (
           subst (FineAs base h p addr words lr m (Step h)) (sym (said base m h (mv .ws) ((hartPc m h + off) % 2 ^ 64) nothing q)) tt,
-          inl (back (goes base m h (mv .ws) ((hartPc m h + off) % 2 ^ 64) nothing q (omega (arith, hart-8, a .ground .shaped .counters)) ∙ omega (arith, low, a .here))),
+          inl (back (goes base m h (mv .ws) ((hartPc m h + off) % 2 ^ 64) nothing q (omega (arith, hart-8, a .ground .shaped .pcs)) ∙ omega (arith, low, a .here))),
         )
 
     -- between the LR and the first SC
@@ -352,8 +352,8 @@ module _ (base h p addr : ℕ) (words : List ℕ) (lr : Atomic) (j : ℕ)
     closing : i ≡ j → Good m i
     unfolding Good Onward coversOf leaves
     closing z = (
-      subst (FineAs base h p addr words lr m (Step h)) (sym succeeds) kept,
-      inl (succeeded kept),
+      subst (FineAs base h p addr words lr m (Step h)) (sym answers) kept,
+      inl (bySc kept),
     )
       where
         s : SeenSc (decodeOf (getD words i 0)) (lr .rs1) (bytesOf (lr .width))
@@ -370,7 +370,7 @@ module _ (base h p addr : ℕ) (words : List ℕ) (lr : Atomic) (j : ℕ)
             ap (λ (r : Reservation). coversOf 64 r addr (bytesOf (lr .width))) (a .holds (omega arith) (omega arith))
             ∙ of-inside (setOf 64 addr) 64 addr (bytesOf (lr .width)) own-set
 
-        act : actOf base (m .mem) (m .state) (Step h) ≡ change h (one (s .of .rd) 0) (nextPc 64 (hartPc m h)) (scStore addr new)
+        act : actOf base (m .mem) (m .state) (Step h) ≡ change h (one (s .of .rd) 0) (nextPc 64 (hartPc m h)) (scStored addr new)
         act =
             act-is
             ∙ ap (λ (n : Instr). ofExec h (by n)) (s .is)
@@ -378,8 +378,8 @@ module _ (base h p addr : ℕ) (words : List ℕ) (lr : Atomic) (j : ℕ)
             (does-sc (hartPc m h) pc-aligned pc-low (valueAt base (m .mem) (hartPc m h) 4) (regAt (m .state .x) h) base (m .mem)
             (coversOf 64 (reservationOf (m .state) h)) (s .of) (s .kind) addr (bytesOf (lr .width)) src (s .width-is) aligned covered)
 
-        succeeds : answered base m (Step h) ≡ O.ScStored
-        succeeds = said base m h (one (s .of .rd) 0) (nextPc 64 (hartPc m h)) (scStore addr new) act
+        answers : outcomeAt base m (Step h) ≡ O.ScStored
+        answers = said base m h (one (s .of .rd) 0) (nextPc 64 (hartPc m h)) (scStored addr new) act
 
         size : length new ≡ bytesOf (lr .width)
         size = length-toLe (bytesOf (lr .width)) (regAt (m .state .x) h (s .of .rs2))
@@ -387,16 +387,16 @@ module _ (base h p addr : ℕ) (words : List ℕ) (lr : Atomic) (j : ℕ)
         bytes : part (nextOf base m (Step h) .mem) (addr - base) (bytesOf (lr .width)) ≡ new
         bytes =
             ap₂ (λ (l : List ℕ) (n : ℕ). part l (addr - base) n)
-            (leaves-mem base m h (one (s .of .rd) 0) (nextPc 64 (hartPc m h)) (scStore addr new) act) (sym size)
+            (leaves-mem base m h (one (s .of .rd) 0) (nextPc 64 (hartPc m h)) (scStored addr new) act) (sym size)
             ∙ part-splice (m .mem) (addr - base) new (omega (arith, size, a .ground .reachable .0, a .ground .reachable .1))
 
-        kept : Stored base h p addr words lr m (Step h)
+        kept : StoredSc base h p addr words lr m (Step h)
         kept =
             record {
               sc = s .of;
               fetches = subst (Fetches base m h) (s .is) fetches;
               isSc = s .kind;
-              succeeds = succeeds;
+              answers = succeeds;
               address = src;
               width = s .width-is;
               bytes = bytes;

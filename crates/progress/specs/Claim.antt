@@ -20,7 +20,7 @@ use Rattle.effect.specs.Execute.{regAt}
 use Rattle.effect.specs.Memory.{valueAt}
 use Rattle.events.specs.declared.Event.{Event}
 use Rattle.events.specs.declared.Event.the-variants.{Step, Device, Yield}
-use Rattle.model.specs.Perform.{Machine, nextOf, runOf, answered}
+use Rattle.model.specs.Perform.{Machine, nextOf, runOf, outcomeAt}
 use Rattle.model.specs.Valid.{Valid}
 use Rattle.model.specs.Trace.{noticeAt, WritesInto}
 use Rattle.model.specs.Fetch.{Fetches}
@@ -79,11 +79,11 @@ module _ (base h p addr : ℕ) (words : List ℕ) (lr : Atomic) where
 
   -- With the event hart h makes an SC that succeeds at the LR's address: "An SC succeeds or fails by the rule above, also where its rd is x0; the
   -- successful one leaves the low 4 or 8 bytes of rs2 at the LR's address."
-  pub record Stored (m : Machine) (e : Event) : Type 0 where
+  pub record StoredSc (m : Machine) (e : Event) : Type 0 where
     pub sc : Atomic
     pub fetches : Fetches base m h (Amo sc)
     pub isSc : sc .op ≡ Sc
-    pub succeeds : answered base m e ≡ O.ScStored
+    pub answers : outcomeAt base m e ≡ O.ScStored
     pub address : regAt (m .state .x) h (sc .rs1) ≡ addr
     pub width : bytesOf (sc .width) ≡ bytesOf (lr .width)
     pub bytes : part (nextOf base m e .mem) (addr - base) (bytesOf (lr .width)) ≡ toLe (bytesOf (lr .width)) (regAt (m .state .x) h (sc .rs2))
@@ -91,18 +91,18 @@ module _ (base h p addr : ℕ) (words : List ℕ) (lr : Atomic) where
   -- "without a refusal, a trap or a failed SC"; and where an SC of the hart succeeds, it does so at the LR's address and leaves rs2 there
   abbrev pub FineAs : Machine → Event → Outcome → Type 0
   FineAs m e O.Retired = Unit {0}
-  FineAs m e O.ScStored = Stored m e
+  FineAs m e O.ScStored = StoredSc m e
   FineAs m e O.ScFailed = ⊥
   FineAs m e (O.Trap cause value) = ⊥
   FineAs m e (O.Refused number) = ⊥
 
   abbrev pub Fine : Machine → Event → Type 0
-  Fine m e = FineAs m e (answered base m e)
+  Fine m e = FineAs m e (outcomeAt base m e)
 
   -- "The hart has left the loop when its pc is the address of none of the block's words, and has come back when, after a step, its pc is that of
   -- place 0."
   pub data Finish (m : Machine) (e : Event) : Type 0 where
-    succeeded : Stored m e → Finish m e
+    bySc : StoredSc m e → Finish m e
     left : ((k : ℕ) → k < length words → hartPc (nextOf base m e) h ≢ p + 4 * k) → Finish m e
     back : hartPc (nextOf base m e) h ≡ p → Finish m e
 

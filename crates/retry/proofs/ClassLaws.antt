@@ -7,7 +7,7 @@ use Prim.Native.Nat.{ℕ}
 use lib.Dec.{eqb}
 use borrow.Author.Tests.{eqb-true}
 use Rattle.word.specs.Choose.{Row, _⇒_, select}
-use Rattle.word.proofs.ChooseLaws.{cond-all, select-rows, select-all}
+use Rattle.word.proofs.ChooseLaws.{cond-all, cond-cases, select-rows, select-all}
 use Rattle.isa.specs.Fields.{bits, rdOf, rs1Of, rs2Of, funct3Of, funct5Of, funct6Of, funct7Of, immI}
 use Rattle.isa.specs.Decode as D
 use Rattle.isa.specs.declared.AluOp.the-variants.{Add}
@@ -43,14 +43,10 @@ abbrev RowsAt : {A B : Type 0} → (B → Type 0) → ℕ → (A → B) → List
 RowsAt P k f [] = Unit {0}
 RowsAt P k f ((n ⇒ a) ∷ rows) = (k ≡ n → P (f a)) × RowsAt P k f rows
 
-cond-at : {B : Type 0} (P : B → Type 0) (t : Bool) (x y : B) → (t ≡ true → P x) → P y → P (cond t x y)
-cond-at P true x y p q = p refl
-cond-at P false x y p q = q
-
 select-at : {A B : Type 0} (P : B → Type 0) (k : ℕ) (rows : List (Row A)) (f : A → B) (d : B) → RowsAt P k f rows → P d → P (select k rows f d)
 select-at P k [] f d r e = e
 select-at P k ((n ⇒ a) ∷ rows) f d r e =
-    cond-at P (eqb k n) (f a) (select k rows f d) (λ t. r .0 (eqb-true k n t)) (select-at P k rows f d (r .1) e)
+    cond-cases P (eqb k n) (f a) (select k rows f d) (λ t. r .0 (eqb-true k n t)) (λ z. select-at P k rows f d (r .1) e)
 
 module _ (c w : ℕ) where
   from-load : c ≡ D.LOAD → InClass c (D.loadOf w)

@@ -22,16 +22,17 @@ use Rattle.effect.specs.Execute.{regAt, execute, execAtomic}
 use Rattle.effect.proofs.TrapLaws as T
 use Rattle.events.specs.declared.Event.{Event}
 use Rattle.events.specs.declared.Event.the-variants.{Step}
-use Rattle.model.specs.Act.{Act, told, setReg, apply, leaves}
-use Rattle.model.specs.Perform.{Machine, reservationOf, ofExec, actOf, answerOf, memoryOf, nextOf, runOf, answered}
+use Rattle.model.specs.Act.{Act, outcomeOf, setReg, apply, leaves}
+use Rattle.model.specs.Perform.{Machine, reservationOf, ofExec, actOf, answerOf, memoryOf, nextOf, runOf, outcomeAt}
 use Rattle.model.specs.Valid.{Valid}
+use Rattle.model.specs.Retired.{Traps}
 use Rattle.model.specs.Trace.{traceOf}
 use Rattle.model.specs.declared.Outcome.the-variants.{ScStored, ScFailed, Trap}
 use Rattle.model.proofs.Valid.{valid-next, valid-run}
 use Rattle.model.proofs.Frame.{count-next, count-run, shaped-next, res-next, step-act}
 use Rattle.history.specs.History.{observes, Reserved, Since}
 use Rattle.history.proofs.History.{history, sc-exact}
-use Rattle.sc_history.specs.Sc.{Reservationless, FetchesSc, atomicAddress, atomicSize, Traps, Stores, Loses}
+use Rattle.sc_history.specs.Sc.{Reservationless, FetchesSc, atomicAddress, atomicSize, StoredLeaves, FailedLeaves}
 
 -- a register that was set
 set-own : (h r v : ℕ) (x : List ℕ) → h < 8 → length x ≡ 256 → r % 32 ≢ 0 → regAt (setReg h r v x) h r ≡ v
@@ -50,27 +51,27 @@ module _ (base : ℕ) (m : Machine) (v : Valid base m) (h : ℕ) (u : h < m .sta
   unfolding exec covered execute execAtomic
   act-sc = step-act base m v h u (Amo sc) (f .fetches) ∙ rw (f .isSc) refl
 
-  by-exec : (e : Exec) → exec ≡ e → answered base m (Step h) ≡ told (ofExec h e)
+  by-exec : (e : Exec) → exec ≡ e → outcomeAt base m (Step h) ≡ outcomeOf (ofExec h e)
   unfolding answerOf
-  by-exec e q = ap told (act-sc ∙ ap (ofExec h) q)
+  by-exec e q = ap outcomeOf (act-sc ∙ ap (ofExec h) q)
 
   -- 01: cause 6, "address not aligned to its width", value "address"; "SC has no cause 7"
-  pub sc-misaligned : atomicAddress m h sc % atomicSize sc ≢ 0 → answered base m (Step h) ≡ Trap 6 (atomicAddress m h sc)
+  pub sc-misaligned : atomicAddress m h sc % atomicSize sc ≢ 0 → outcomeAt base m (Step h) ≡ Trap 6 (atomicAddress m h sc)
   unfolding exec covered
-  sc-misaligned d = by-exec _ (T.sc-traps 64 (getD (m .state .pc) h 0) (sc .width) (sc .rd) (atomicAddress m h sc) _ covered d)
+  sc-misaligned d = by-exec _ (T.exec-sc-traps 64 (getD (m .state .pc) h 0) (sc .width) (sc .rd) (atomicAddress m h sc) _ covered d)
 
   pub sc-covered : atomicAddress m h sc % atomicSize sc ≡ 0 → coversOf 64 (reservationOf (m .state) h) (atomicAddress m h sc) (atomicSize sc) ≡ true
-      → answered base m (Step h) ≡ ScStored
+      → outcomeAt base m (Step h) ≡ ScStored
   unfolding exec covered
-  sc-covered al c = by-exec _ (T.sc-succeeds 64 (getD (m .state .pc) h 0) (sc .width) (sc .rd) (atomicAddress m h sc) _ covered al c)
+  sc-covered al c = by-exec _ (T.exec-sc-stored 64 (getD (m .state .pc) h 0) (sc .width) (sc .rd) (atomicAddress m h sc) _ covered al c)
 
   pub sc-uncovered : atomicAddress m h sc % atomicSize sc ≡ 0 → coversOf 64 (reservationOf (m .state) h) (atomicAddress m h sc) (atomicSize sc) ≡ false
-      → answered base m (Step h) ≡ ScFailed
+      → outcomeAt base m (Step h) ≡ ScFailed
   unfolding exec covered
-  sc-uncovered al c = by-exec _ (T.sc-fails 64 (getD (m .state .pc) h 0) (sc .width) (sc .rd) (atomicAddress m h sc) _ covered al c)
+  sc-uncovered al c = by-exec _ (T.exec-sc-failed 64 (getD (m .state .pc) h 0) (sc .width) (sc .rd) (atomicAddress m h sc) _ covered al c)
 
   -- An SC traps exactly if its address isn't aligned, whatever the reservation, and then with cause 6 and the address.
-  pub sc-traps : Traps (answered base m (Step h)) ↔ (atomicAddress m h sc % atomicSize sc ≢ 0)
+  pub sc-traps : Traps (outcomeAt base m (Step h)) ↔ (atomicAddress m h sc % atomicSize sc ≢ 0)
   sc-traps = (
     λ t al.
         bool-cases (coversOf 64 (reservationOf (m .state) h) (atomicAddress m h sc) (atomicSize sc))
@@ -80,13 +81,13 @@ module _ (base : ℕ) (m : Machine) (v : Valid base m) (h : ℕ) (u : h < m .sta
   )
 
   -- one that doesn't trap succeeds exactly if the reservation's set contains its bytes, and fails otherwise
-  module _ (d : Traps (answered base m (Step h)) → ⊥) where
+  module _ (d : Traps (outcomeAt base m (Step h)) → ⊥) where
     aligned : atomicAddress m h sc % atomicSize sc ≡ 0
     aligned =
         bool-cases (eqb (atomicAddress m h sc % atomicSize sc) 0) (λ t. eqb-true (atomicAddress m h sc % atomicSize sc) 0 t)
         (λ t. absurd (d (sc-traps .1 (eqb-false (atomicAddress m h sc % atomicSize sc) 0 t))))
 
-    pub sc-stored : (answered base m (Step h) ≡ ScStored) ↔ (coversOf 64 (reservationOf (m .state) h) (atomicAddress m h sc) (atomicSize sc) ≡ true)
+    pub sc-stored : (outcomeAt base m (Step h) ≡ ScStored) ↔ (coversOf 64 (reservationOf (m .state) h) (atomicAddress m h sc) (atomicSize sc) ≡ true)
     sc-stored = (
       λ o.
           bool-cases (coversOf 64 (reservationOf (m .state) h) (atomicAddress m h sc) (atomicSize sc)) (λ c. c)
@@ -94,7 +95,7 @@ module _ (base : ℕ) (m : Machine) (v : Valid base m) (h : ℕ) (u : h < m .sta
       λ c. sc-covered aligned c,
     )
 
-    pub sc-failed : (answered base m (Step h) ≡ ScFailed) ↔ (answered base m (Step h) ≢ ScStored)
+    pub sc-failed : (outcomeAt base m (Step h) ≡ ScFailed) ↔ (outcomeAt base m (Step h) ≢ ScStored)
     sc-failed = (
       λ o p. let z : _≡_ {A = ℕ} 0 1 = cc in omega arith,
       λ n.
@@ -109,24 +110,24 @@ module _ (base : ℕ) (m : Machine) (v : Valid base m) (h : ℕ) (u : h < m .sta
 
   module _ (shaped : Shaped (m .state)) where
     -- 01: "Success writes memory and puts 0 in rd"
-    pub sc-stores : answered base m (Step h) ≡ ScStored → Stores base m h sc
+    pub stored-leaves : outcomeAt base m (Step h) ≡ ScStored → StoredLeaves base m h sc
     unfolding exec covered apply leaves
-    sc-stores o =
-        let d : Traps (answered base m (Step h)) → ⊥ = λ t. let z : _≡_ {A = ℕ} 0 1 = cc (t .2) in omega arith in
-        let q = next-by _ (T.sc-succeeds 64 (getD (m .state .pc) h 0) (sc .width) (sc .rd) (atomicAddress m h sc) _ covered (aligned d) (sc-stored d .0 o)) in
+    stored-leaves o =
+        let d : Traps (outcomeAt base m (Step h)) → ⊥ = λ t. let z : _≡_ {A = ℕ} 0 1 = cc (t .2) in omega arith in
+        let q = next-by _ (T.exec-sc-stored 64 (getD (m .state .pc) h 0) (sc .width) (sc .rd) (atomicAddress m h sc) _ covered (aligned d) (sc-stored d .0 o)) in
         record {
           memory = ap (λ (n : Machine). n .mem) q;
           register = λ z. ap (λ (n : Machine). regAt (n .state .x) h (sc .rd)) q ∙ set-own h (sc .rd) 0 (m .state .x) (omega (arith, v .1 .1)) (shaped .registers) z;
         }
 
     -- 01: "failure puts 1 in rd and writes nothing"
-    pub sc-loses : answered base m (Step h) ≡ ScFailed → Loses base m h sc
+    pub failed-leaves : outcomeAt base m (Step h) ≡ ScFailed → FailedLeaves base m h sc
     unfolding exec covered apply leaves
-    sc-loses o =
-        let d : Traps (answered base m (Step h)) → ⊥ = λ t. let z : _≡_ {A = ℕ} 0 1 = cc (t .2) in omega arith in
+    failed-leaves o =
+        let d : Traps (outcomeAt base m (Step h)) → ⊥ = λ t. let z : _≡_ {A = ℕ} 0 1 = cc (t .2) in omega arith in
         let c = bool-cases (coversOf 64 (reservationOf (m .state) h) (atomicAddress m h sc) (atomicSize sc))
         (λ t. absurd (sc-failed d .0 o (sc-covered (aligned d) t))) (λ t. t) in
-        let q = next-by _ (T.sc-fails 64 (getD (m .state .pc) h 0) (sc .width) (sc .rd) (atomicAddress m h sc) _ covered (aligned d) c) in
+        let q = next-by _ (T.exec-sc-failed 64 (getD (m .state .pc) h 0) (sc .width) (sc .rd) (atomicAddress m h sc) _ covered (aligned d) c) in
         record {
           memory = ap (λ (n : Machine). n .mem) q;
           register = λ z. ap (λ (n : Machine). regAt (n .state .x) h (sc .rd)) q ∙ set-own h (sc .rd) 1 (m .state .x) (omega (arith, v .1 .1)) (shaped .registers) z;
@@ -156,25 +157,25 @@ module _ (base : ℕ) (m : Machine) (v : Valid base m) (s : Shaped (m .state)) (
 
   -- 01: "from a start without reservations an SC that doesn't trap succeeds exactly if the history since its hart's latest retired LR allows it":
   -- it stores, or it fails, exactly if the set around that LR's address has all its bytes and nothing since then broke the reservation, or not.
-  module _ (sc : Atomic) (f : FetchesSc base (runOf base m es) h sc) (d : Traps (answered base (runOf base m es) (Step h)) → ⊥) where
+  module _ (sc : Atomic) (f : FetchesSc base (runOf base m es) h sc) (d : Traps (outcomeAt base (runOf base m es) (Step h)) → ⊥) where
     used : h < runOf base m es .state .count
     used = subst (λ (k : ℕ). h < k) (sym (count-run base m es)) u
 
-    pub sc-succeeds : (answered base (runOf base m es) (Step h) ≡ ScStored)
+    pub sc-stored-run : (outcomeAt base (runOf base m es) (Step h) ≡ ScStored)
         ↔ Since 64 h (atomicAddress (runOf base m es) h sc) (atomicSize sc) (traceOf base m es)
-    sc-succeeds =
+    sc-stored-run =
         let p = sc-stored base (runOf base m es) (valid-run base m v es) h used sc f d in
         let q = covered-exact (atomicAddress (runOf base m es) h sc) (atomicSize sc) in
         (λ o. q .0 (p .0 o), λ y. p .1 (q .1 y))
 
-    pub sc-fails : (answered base (runOf base m es) (Step h) ≡ ScFailed)
+    pub sc-failed-run : (outcomeAt base (runOf base m es) (Step h) ≡ ScFailed)
         ↔ (Since 64 h (atomicAddress (runOf base m es) h sc) (atomicSize sc) (traceOf base m es) → ⊥)
-    sc-fails =
+    sc-failed-run =
         let p = sc-failed base (runOf base m es) (valid-run base m v es) h used sc f d in
-        (λ o y. p .0 o (sc-succeeds .1 y), λ n. p .1 (λ o. n (sc-succeeds .0 o)))
+        (λ o y. p .0 o (sc-stored-run .1 y), λ n. p .1 (λ o. n (sc-stored-run .0 o)))
 
   -- which SC traps, after any events
   module _ (sc : Atomic) (f : FetchesSc base (runOf base m es) h sc) where
-    pub sc-traps-run : Traps (answered base (runOf base m es) (Step h)) ↔ (atomicAddress (runOf base m es) h sc % atomicSize sc ≢ 0)
+    pub sc-traps-run : Traps (outcomeAt base (runOf base m es) (Step h)) ↔ (atomicAddress (runOf base m es) h sc % atomicSize sc ≢ 0)
     sc-traps-run =
         sc-traps base (runOf base m es) (valid-run base m v es) h (subst (λ (k : ℕ). h < k) (sym (count-run base m es)) u) sc f

@@ -14,7 +14,7 @@ use Rattle.word.proofs.BytesLaws.{length-toLe}
 use Rattle.reserve.specs.Range.{Inside, insideOf}
 use Rattle.reserve.specs.Reserve.{coversOf}
 use Rattle.reserve.specs.declared.Notice.{Notice}
-use Rattle.reserve.specs.declared.Notice.the-variants.{Quiet, LoadReserved, ScDone, ScFailed, Write, DeviceWrite, Yield}
+use Rattle.reserve.specs.declared.Notice.the-variants.{Quiet, LoadReserved, ScStored, ScFailed, Write, DeviceWrite, Yield}
 use Rattle.reserve.proofs.RangeLaws.{inside-of}
 use Rattle.isa.specs.Width.{bitsOf, bytesOf}
 use Rattle.isa.specs.Decode.{decodeOf}
@@ -23,31 +23,31 @@ use Rattle.isa.specs.declared.AtomicOp.the-variants.{Lr, Sc, Cas, CasPair, Rmw}
 use Rattle.isa.specs.declared.Atomic.{Atomic}
 use Rattle.isa.specs.declared.Instr.{Instr}
 use Rattle.isa.specs.declared.Instr.the-variants.{Illegal, Lui, Auipc, Jal, Jalr, Branch, Load, Store, OpImm, OpImm32, Op, Op32, Fence, Ecall, Ebreak, Amo}
-use Rattle.effect.specs.Effect.{Writes, Access, nothing, reserve, store, scStore, scLose, Exec, trap, effect, offset}
+use Rattle.effect.specs.Effect.{Writes, Access, nothing, reserve, store, scStored, scFailed, Exec, trap, effect, offset}
 use Rattle.effect.specs.Integer.{execJump, execBranch}
 use Rattle.effect.specs.Memory.{faultOf, checked, valueAt, storeBytes, execLoad, execStore}
 use Rattle.effect.specs.Atomic.{swapped, execLr, execSc, execAmo, execCas, execCasPair}
 use Rattle.effect.specs.Execute.{regAt, pairAt, atomicBy, execAtomic, execute, executeWord}
 use Rattle.events.specs.declared.Event.{Event}
 use Rattle.events.specs.declared.Event.the-variants.{Step, Device, Yield as YieldOf}
-use Rattle.model.specs.Act.{Act, refuse, fault, change, put, release, actNotice, told}
-use Rattle.model.specs.Perform.{Machine, reservationOf, fetchOf, stepOf, ofExec, deviceOf, actOn, actOf, answerOf, answered}
+use Rattle.model.specs.Act.{Act, refuse, fault, change, put, release, actNotice, outcomeOf}
+use Rattle.model.specs.Perform.{Machine, reservationOf, fetchOf, stepOf, ofExec, deviceOf, actOn, actOf, answerOf, outcomeAt}
 use Rattle.model.specs.Valid.{Valid}
+use Rattle.model.specs.Retired.{Traps, Refuses}
 use Rattle.model.specs.Trace.{noticeAt}
 use Rattle.model.specs.Fetch.{Fetches}
 use Rattle.model.specs.declared.Outcome.{Outcome}
 use Rattle.model.specs.declared.Outcome.the-variants as O
 use Rattle.model.proofs.Valid.{act-valid}
 use Rattle.model.proofs.Frame.{step-act}
-use Rattle.sc_history.specs.Sc.{Traps, Refuses}
 use Rattle.sc_history.specs.Told.{toldSc, toldAtomic, noticeBy, RetiredLr}
 
 -- ---- the notice of each instruction
 
 module _ (h : ℕ) where
-  -- if it retires, the notice is what is told of it, by its answer
+  -- if it retires, the notice is what is outcomeOf of it, by its answer
   Tells : (Outcome → Notice) → Exec → Type 0
-  Tells n e = (Traps (told (ofExec h e)) → ⊥) → actNotice (ofExec h e) ≡ n (told (ofExec h e))
+  Tells n e = (Traps (outcomeOf (ofExec h e)) → ⊥) → actNotice (ofExec h e) ≡ n (outcomeOf (ofExec h e))
 
   trapped : (n : Outcome → Notice) (cause value : ℕ) → Tells n (trap cause value)
   unfolding Tells
@@ -87,7 +87,7 @@ module _ (h : ℕ) where
     tells-sc i =
         pick (toldAtomic h x base mem Sc i) (eqb (x (i .rs1) % bytesOf (i .width)) 0) _ _
         (λ t. pick (toldAtomic h x base mem Sc i) (covered (x (i .rs1)) (bytesOf (i .width))) _ _
-        (λ c d. ap (λ (j : ℕ). ScDone h (x (i .rs1)) j) (length-toLe (bytesOf (i .width)) (x (i .rs2)))) (λ c d. refl))
+        (λ c d. ap (λ (j : ℕ). ScStored h (x (i .rs1)) j) (length-toLe (bytesOf (i .width)) (x (i .rs2)))) (λ c d. refl))
         (λ f. trapped (toldAtomic h x base mem Sc i) 6 (x (i .rs1)))
 
     tells-atomic : (op : AtomicOp) (i : Atomic) → Tells (toldAtomic h x base mem op i) (atomicBy 64 op i x pc base mem covered)
@@ -148,15 +148,15 @@ Happens O.ScFailed = Unit {0}
 Happens (O.Trap cause value) = ⊥
 Happens (O.Refused number) = ⊥
 
-happens-access : (h : ℕ) (ws : Writes) (to : ℕ) (t : Access) → Happens (told (change h ws to t))
+happens-access : (h : ℕ) (ws : Writes) (to : ℕ) (t : Access) → Happens (outcomeOf (change h ws to t))
 unfolding Happens
 happens-access h ws to nothing = tt
 happens-access h ws to (reserve a w) = tt
 happens-access h ws to (store a bs) = tt
-happens-access h ws to (scStore a bs) = tt
-happens-access h ws to scLose = tt
+happens-access h ws to (scStored a bs) = tt
+happens-access h ws to scFailed = tt
 
-quiet-or : (act : Act) → (actNotice act ≡ Quiet) ⊎ Happens (told act)
+quiet-or : (act : Act) → (actNotice act ≡ Quiet) ⊎ Happens (outcomeOf act)
 unfolding Happens
 quiet-or (refuse number) = inl refl
 quiet-or (fault cause value) = inl refl
@@ -165,33 +165,33 @@ quiet-or (put a bs) = inr tt
 quiet-or (release h) = inr tt
 
 -- 01: "Not: .. a trap"; a refusal leaves "the state as given": neither tells anything
-pub notice-none : (base : ℕ) (m : Machine) (e : Event) → Traps (answered base m e) ⊎ Refuses (answered base m e) → noticeAt base m e ≡ Quiet
+pub notice-none : (base : ℕ) (m : Machine) (e : Event) → Traps (outcomeAt base m e) ⊎ Refuses (outcomeAt base m e) → noticeAt base m e ≡ Quiet
 unfolding answerOf Happens
 notice-none base m e w =
     ⊎-elim (λ (q : noticeAt base m e ≡ Quiet). q)
-    (λ (n : Happens (answered base m e)).
-    ⊎-elim (λ (t : Traps (answered base m e)). absurd (subst Happens (t .2) n)) (λ (r : Refuses (answered base m e)). absurd (subst Happens (r .1) n)) w)
+    (λ (n : Happens (outcomeAt base m e)).
+    ⊎-elim (λ (t : Traps (outcomeAt base m e)). absurd (subst Happens (t .2) n)) (λ (r : Refuses (outcomeAt base m e)). absurd (subst Happens (r .1) n)) w)
     (quiet-or (actOf base (m .mem) (m .state) e))
 
 module _ (base : ℕ) (m : Machine) (v : Valid base m) where
   -- a retired step tells what its instruction does
-  pub notice-step : (h : ℕ) → h < m .state .count → (i : Instr) → Fetches base m h i → (Traps (answered base m (Step h)) → ⊥)
-      → noticeAt base m (Step h) ≡ noticeBy h (regAt (m .state .x) h) base (m .mem) i (answered base m (Step h))
+  pub notice-step : (h : ℕ) → h < m .state .count → (i : Instr) → Fetches base m h i → (Traps (outcomeAt base m (Step h)) → ⊥)
+      → noticeAt base m (Step h) ≡ noticeBy h (regAt (m .state .x) h) base (m .mem) i (outcomeAt base m (Step h))
   unfolding answerOf Tells
   notice-step h u i f =
       subst
-      (λ (act : Act). (Traps (told act) → ⊥) → actNotice act ≡ noticeBy h (regAt (m .state .x) h) base (m .mem) i (told act))
+      (λ (act : Act). (Traps (outcomeOf act) → ⊥) → actNotice act ≡ noticeBy h (regAt (m .state .x) h) base (m .mem) i (outcomeOf act))
       (sym (step-act base m v h u i f))
       (tells h (regAt (m .state .x) h) (getD (m .state .pc) h 0) base (m .mem) (coversOf 64 (reservationOf (m .state) h)) i
       (valueAt base (m .mem) (getD (m .state .pc) h 0) 4))
 
   -- a device write that isn't refused, its address and number of bytes
-  pub notice-device : (a n w : ℕ) → (Refuses (answered base m (Device a n w)) → ⊥) → noticeAt base m (Device a n w) ≡ DeviceWrite a n
+  pub notice-device : (a n w : ℕ) → (Refuses (outcomeAt base m (Device a n w)) → ⊥) → noticeAt base m (Device a n w) ≡ DeviceWrite a n
   unfolding answerOf actOn deviceOf
   notice-device a n w =
       rw (act-valid base m v (Device a n w)) (go (leb 1 n && leb n 8) (insideOf base (length (m .mem)) a n))
     where
-      go : (s t : Bool) → (Refuses (told (cond s (cond t (put a (toLe n w)) (refuse 5)) (refuse 4))) → ⊥)
+      go : (s t : Bool) → (Refuses (outcomeOf (cond s (cond t (put a (toLe n w)) (refuse 5)) (refuse 4))) → ⊥)
           → actNotice (cond s (cond t (put a (toLe n w)) (refuse 5)) (refuse 4)) ≡ DeviceWrite a n
       go true true d = ap (λ (k : ℕ). DeviceWrite a k) (length-toLe n w)
       go true false d = absurd (d (5, refl))
@@ -208,21 +208,21 @@ module _ (base : ℕ) (m : Machine) (v : Valid base m) where
 IsLr : Notice → Type 0
 IsLr Quiet = ⊥
 IsLr (LoadReserved g a w) = Unit {0}
-IsLr (ScDone g b n) = ⊥
+IsLr (ScStored g b n) = ⊥
 IsLr (ScFailed g) = ⊥
 IsLr (Write g b n) = ⊥
 IsLr (DeviceWrite b n) = ⊥
 IsLr (Yield g) = ⊥
 
-retired-lr : (act : Act) → IsLr (actNotice act) → told act ≡ O.Retired
+retired-lr : (act : Act) → IsLr (actNotice act) → outcomeOf act ≡ O.Retired
 unfolding IsLr
 retired-lr (refuse number) l = absurd l
 retired-lr (fault cause value) l = absurd l
 retired-lr (change h ws to nothing) l = absurd l
 retired-lr (change h ws to (reserve a w)) l = refl
 retired-lr (change h ws to (store a bs)) l = absurd l
-retired-lr (change h ws to (scStore a bs)) l = absurd l
-retired-lr (change h ws to scLose) l = absurd l
+retired-lr (change h ws to (scStored a bs)) l = absurd l
+retired-lr (change h ws to scFailed) l = absurd l
 retired-lr (put a bs) l = absurd l
 retired-lr (release h) l = absurd l
 
@@ -305,14 +305,14 @@ module _ (base : ℕ) (m : Machine) (v : Valid base m) where
       go true l = l
       go false l = l
 
-  -- a step that is answered by anything but a refusal is of a used hart
-  used : (h : ℕ) → answered base m (Step h) ≡ O.Retired → h < m .state .count
+  -- a step that is outcomeAt by anything but a refusal is of a used hart
+  used : (h : ℕ) → outcomeAt base m (Step h) ≡ O.Retired → h < m .state .count
   unfolding answerOf actOn Happens
   used h e =
-      let q : told (actOn base (m .mem) (m .state) (Step h)) ≡ O.Retired = rw (act-valid base m v (Step h)) at e in
+      let q : outcomeOf (actOn base (m .mem) (m .state) (Step h)) ≡ O.Retired = rw (act-valid base m v (Step h)) at e in
       go (ltb h (m .state .count)) refl q
     where
-      go : (s : Bool) → ltb h (m .state .count) ≡ s → told (cond s (ofExec h (stepOf base (m .mem) (m .state) h)) (refuse 3)) ≡ O.Retired → h < m .state .count
+      go : (s : Bool) → ltb h (m .state .count) ≡ s → outcomeOf (cond s (ofExec h (stepOf base (m .mem) (m .state) h)) (refuse 3)) ≡ O.Retired → h < m .state .count
       go true p q = ltb-true h (m .state .count) p
       go false p q = absurd (subst Happens (sym q) tt)
 
@@ -328,7 +328,7 @@ module _ (base : ℕ) (m : Machine) (v : Valid base m) where
     lr-came (Step h) q =
         let i = decodeOf (valueAt base (m .mem) (getD (m .state .pc) h 0) 4) in
         let x = regAt (m .state .x) h in
-        let o = answered base m (Step h) in
+        let o = outcomeAt base m (Step h) in
         let l = lr-told (Step h) q in
         let p = fetched h l in
         let f : Fetches base m h i = record { inside = p .1; decodes = refl } in

@@ -15,8 +15,6 @@ use Rattle.effect.specs.Execute.{regAt}
 use Rattle.events.specs.declared.Event.the-variants.{Step}
 use Rattle.model.specs.Perform.{Machine, reservationOf, nextOf}
 use Rattle.model.specs.Fetch.{Fetches}
-use Rattle.model.specs.declared.Outcome.{Outcome}
-use Rattle.model.specs.declared.Outcome.the-variants.{Trap, Refused}
 
 -- "a start without reservations": no used hart holds one
 abbrev pub Reservationless : State → Type 0
@@ -34,20 +32,13 @@ atomicAddress m h i = regAt (m .state .x) h (i .rs1)
 abbrev pub atomicSize : Atomic → ℕ
 atomicSize i = bytesOf (i .width)
 
--- the answer is a trap, or a refusal
-abbrev pub Traps : Outcome → Type 0
-Traps o = (cause : ℕ) × (value : ℕ) × (o ≡ Trap cause value)
-
-abbrev pub Refuses : Outcome → Type 0
-Refuses o = (number : ℕ) × (o ≡ Refused number)
-
 -- 01: "Success writes memory and puts 0 in rd": the low bytes of rs2 stand at the SC's address, the rest of memory is as it was, and rd is 0, unless it
 -- is x0
-pub record Stores (base : ℕ) (m : Machine) (h : ℕ) (sc : Atomic) : Type 0 where
+pub record StoredLeaves (base : ℕ) (m : Machine) (h : ℕ) (sc : Atomic) : Type 0 where
   pub memory : nextOf base m (Step h) .mem ≡ splice (m .mem) (atomicAddress m h sc - base) (toLe (atomicSize sc) (regAt (m .state .x) h (sc .rs2)))
   pub register : sc .rd % 32 ≢ 0 → regAt (nextOf base m (Step h) .state .x) h (sc .rd) ≡ 0
 
 -- 01: "failure puts 1 in rd and writes nothing"
-pub record Loses (base : ℕ) (m : Machine) (h : ℕ) (sc : Atomic) : Type 0 where
+pub record FailedLeaves (base : ℕ) (m : Machine) (h : ℕ) (sc : Atomic) : Type 0 where
   pub memory : nextOf base m (Step h) .mem ≡ m .mem
   pub register : sc .rd % 32 ≢ 0 → regAt (nextOf base m (Step h) .state .x) h (sc .rd) ≡ 1

@@ -7,7 +7,7 @@ use Prim.Native.Nat.{ℕ}
 use lib.Dec.{eqb}
 use Rattle.word.specs.Word.{low}
 use Rattle.reserve.specs.declared.Notice.{Notice}
-use Rattle.reserve.specs.declared.Notice.the-variants.{Quiet, LoadReserved, ScDone, ScFailed, Write}
+use Rattle.reserve.specs.declared.Notice.the-variants.{Quiet, LoadReserved, ScStored, ScFailed, Write}
 use Rattle.isa.specs.Width.{bitsOf, bytesOf}
 use Rattle.isa.specs.declared.AtomicOp.{AtomicOp}
 use Rattle.isa.specs.declared.AtomicOp.the-variants.{Lr, Sc, Cas, CasPair, Rmw}
@@ -19,7 +19,7 @@ use Rattle.effect.specs.Memory.{storeBytes, valueAt}
 use Rattle.effect.specs.Execute.{pairAt}
 use Rattle.events.specs.declared.Event.{Event}
 use Rattle.events.specs.declared.Event.the-variants.{Step}
-use Rattle.model.specs.Perform.{Machine, answered}
+use Rattle.model.specs.Perform.{Machine, outcomeAt}
 use Rattle.model.specs.Fetch.{Fetches}
 use Rattle.model.specs.declared.Outcome.{Outcome}
 use Rattle.model.specs.declared.Outcome.the-variants as O
@@ -30,7 +30,7 @@ module _ (h : ℕ) (x : ℕ → ℕ) (base : ℕ) (mem : List ℕ) where
   -- an SC, of n bytes at a, by its answer
   abbrev pub toldSc : ℕ → ℕ → Outcome → Notice
   toldSc a n O.Retired = Quiet
-  toldSc a n O.ScStored = ScDone h a n
+  toldSc a n O.ScStored = ScStored h a n
   toldSc a n O.ScFailed = ScFailed h
   toldSc a n (O.Trap cause value) = Quiet
   toldSc a n (O.Refused number) = Quiet
@@ -71,4 +71,4 @@ pub record RetiredLr (base : ℕ) (m : Machine) (e : Event) (h a w : ℕ) : Type
   pub isLr : lr .op ≡ Lr
   pub address : atomicAddress m h lr ≡ a
   pub width : atomicSize lr ≡ w
-  pub retires : answered base m e ≡ O.Retired
+  pub retires : outcomeAt base m e ≡ O.Retired

@@ -10,7 +10,7 @@ use Rattle.casefile.proofs.harts_ok.Statement.{statement}
 use Rattle.casefile.proofs.harts_ok.Tie as tie
 use Rattle.casefile.proofs.harts_ok.Reads as reads
 use Rattle.casefile.proofs.harts_ok.Lts as lts
-use Rattle.casefile.proofs.counters_ok.Reads as counters-ok-reads
+use Rattle.casefile.proofs.pcs_ok.Reads as pcs-ok-reads
 use Rattle.casefile.proofs.field.Reads as field-reads
 use Rattle.word.proofs.bytes.load_at.Reads as load-at-reads
 
@@ -39,12 +39,12 @@ load-at-requires c κs = search needs
 field-requires-2 : tie.Need-field-requires-2
 field-requires-2 c κs = search needs
 
-counters-ok-requires : tie.Need-counters-ok-requires
-counters-ok-requires c κs = search needs
+pcs-ok-requires : tie.Need-pcs-ok-requires
+pcs-ok-requires c κs = search needs
 
 returns-3 : tie.Need-returns-3
 unfolding hartsOk
-returns-3 c = rw (c .counters-ok .ensures, c .before .field2 .ensures .0, c .before .before .load-at .ensures, eq-eqb _ _ (c .before .before .before .if2 .left ∙ ap (λ (n : ℕ). 16 + 256 * n) (c .before .before .before .before .field .ensures .0)), c .before .before .before .before .field .ensures .0)
+returns-3 c = rw (c .pcs-ok .ensures, c .before .field2 .ensures .0, c .before .before .load-at .ensures, eq-eqb _ _ (c .before .before .before .if2 .left ∙ ap (λ (n : ℕ). 16 + 256 * n) (c .before .before .before .before .field .ensures .0)), c .before .before .before .before .field .ensures .0)
 
 pub harts-ok-spec : {M : Type 1} → statement M
 harts-ok-spec =
@@ -57,5 +57,5 @@ harts-ok-spec =
     returns-2
     load-at-requires
     field-requires-2
-    counters-ok-requires
+    pcs-ok-requires
     returns-3)

@@ -4,7 +4,7 @@ use native.Mathlib.Omega.{arith}
 use lib.Dec.{ltb, eqb}
 use lib.ListN.{length}
 use borrow.Author.Tests.{lt-ltb, le-ltb, eq-eqb, ne-eqb}
-use Rattle.casefile.specs.Table.{fieldAt, entryOf, tableOf, From}
+use Rattle.casefile.specs.Table.{fieldAt, entryOf, tableOf, EndsWithin}
 use Rattle.casefile.specs.declared.Entry.{Entry}
 use Rattle.casefile.specs.declared.Entry.the-variants.{Wrong, Ends}
 use borrow.Author.Needs.{needs}
@@ -29,20 +29,20 @@ three c = eq-eqb _ _ (sym (c .before .field .ensures .0) ∙ c .if3 .left)
 first : (c : tie.After-known-told2) → entryOf (c .before .before .before .before .before .before .before .before .before .args .file .now) 4 1 40 ≡ Ends (c .before .memory .given .0 .0)
 first c = sym (c .before .before .before .read-entry .ensures .0) ∙ c .before .memory .given .1
 
-from1 : (c : tie.After-known-told2) → From 40 (Ends (c .before .memory .given .0 .0))
-from1 c = subst (λ (e : Entry). From 40 e) (c .before .memory .given .1) (c .before .before .before .read-entry .ensures .1)
+from1 : (c : tie.After-known-told2) → EndsWithin 40 (Ends (c .before .memory .given .0 .0))
+from1 c = subst (λ (e : Entry). EndsWithin 40 e) (c .before .memory .given .1) (c .before .before .before .read-entry .ensures .1)
 
 second : (c : tie.After-known-told4) → entryOf (c .before .before .before .before .before .before .before .before .before .before .before .before .before .args .file .now) 16 2 (c .before .before .before .before .before .memory .given .0 .0) ≡ Ends (c .before .events .given .0 .0)
 second c = sym (c .before .before .before .read-entry2 .ensures .0) ∙ c .before .events .given .1
 
-from2 : (c : tie.After-known-told4) → From (c .before .before .before .before .before .memory .given .0 .0) (Ends (c .before .events .given .0 .0))
-from2 c = subst (λ (e : Entry). From (c .before .before .before .before .before .memory .given .0 .0) e) (c .before .events .given .1) (c .before .before .before .read-entry2 .ensures .1)
+from2 : (c : tie.After-known-told4) → EndsWithin (c .before .before .before .before .before .memory .given .0 .0) (Ends (c .before .events .given .0 .0))
+from2 c = subst (λ (e : Entry). EndsWithin (c .before .before .before .before .before .memory .given .0 .0) e) (c .before .events .given .1) (c .before .before .before .read-entry2 .ensures .1)
 
 third : (c : tie.After-known-told6) → entryOf (c .before .before .before .before .before .before .before .before .before .before .before .before .before .before .before .before .before .args .file .now) 28 3 (c .before .before .before .before .before .events .given .0 .0) ≡ Ends (c .before .end .given .0 .0)
 third c = sym (c .before .before .before .read-entry3 .ensures .0) ∙ c .before .end .given .1
 
-from3 : (c : tie.After-known-told6) → From (c .before .before .before .before .before .events .given .0 .0) (Ends (c .before .end .given .0 .0))
-from3 c = subst (λ (e : Entry). From (c .before .before .before .before .before .events .given .0 .0) e) (c .before .end .given .1) (c .before .before .before .read-entry3 .ensures .1)
+from3 : (c : tie.After-known-told6) → EndsWithin (c .before .before .before .before .before .events .given .0 .0) (Ends (c .before .end .given .0 .0))
+from3 c = subst (λ (e : Entry). EndsWithin (c .before .before .before .before .before .events .given .0 .0) e) (c .before .end .given .1) (c .before .before .before .read-entry3 .ensures .1)
 
 returns : tie.Need-returns
 unfolding tableOf

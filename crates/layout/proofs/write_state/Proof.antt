@@ -6,8 +6,8 @@ use Rattle.layout.proofs.write_state.Tie as tie
 store-registers-requires : tie.Need-store-registers-requires
 store-registers-requires c κs = search needs
 
-store-counters-requires : tie.Need-store-counters-requires
-store-counters-requires c κs = search needs
+store-pcs-requires : tie.Need-store-pcs-requires
+store-pcs-requires c κs = search needs
 
 store-slots-requires : tie.Need-store-slots-requires
 store-slots-requires c κs = search needs
@@ -17,14 +17,14 @@ same-length c = search needs
 
 returns : tie.Need-returns
 unfolding stateOver
-returns c = rw (c .before .before .store-slots .ensures, c .before .before .before .before .before .before .store-counters .ensures, c .before .before .before .before .before .before .before .before .before .before .store-registers .ensures)
+returns c = rw (c .before .before .store-slots .ensures, c .before .before .before .before .before .before .store-pcs .ensures, c .before .before .before .before .before .before .before .before .before .before .store-registers .ensures)
 
 pub write-state-spec : {M : Type 1} → statement M
 write-state-spec =
     tie.close
     (tie.spec
     store-registers-requires
-    store-counters-requires
+    store-pcs-requires
     store-slots-requires
     same-length
     returns)

@@ -5,14 +5,14 @@ use native.Mathlib.Nat.{sub-zero}
 use native.Mathlib.Omega.{arith}
 use lib.ListN.{length, take, drop, length-take, length-drop}
 use lib.Seq.{length-take-le}
-use Rattle.reserve.specs.Lent.{slotsIn}
+use Rattle.reserve.specs.Packed.{slotsIn}
 use Rattle.reserve.specs.declared.Slot.{Slot}
 use Rattle.machine.specs.State.{refusalOf}
 use Rattle.text.specs.Put.{Put}
 use Rattle.text.proofs.PutLaws.{none, then, as-text}
 use Rattle.events.specs.Events.{eventOf, firstEvents}
 use Rattle.events.specs.declared.Event.{Event}
-use Rattle.model.specs.Act.{told}
+use Rattle.model.specs.Act.{outcomeOf}
 use Rattle.model.specs.Perform.{Machine, actOf, answerOf, nextOf, runOf}
 use Rattle.model.specs.Advance.{stateFrom}
 use Rattle.model.proofs.AdvanceLaws.{refused-same, advanced-next, advanced-valid, advanced-answer, events-more, event-width}
@@ -38,8 +38,8 @@ Inv-loop out₀ at from base body count x₀ pc₀ t₀ n p₀ i₀ out x pc t p
 abbrev μ-loop : tie.MeasureT-loop
 μ-loop out₀ at from base body count x₀ pc₀ t₀ n p₀ i₀ out x pc t p i = n - i
 
-lend-requires : tie.Need-lend-requires Inv-loop μ-loop
-lend-requires c κs = search needs
+pack-requires : tie.Need-pack-requires Inv-loop μ-loop
+pack-requires c κs = search needs
 
 loop-holds : tie.Need-loop-holds Inv-loop μ-loop
 loop-holds c =
@@ -47,7 +47,7 @@ loop-holds c =
       omega arith,
       refl,
       omega arith,
-      refused-same (a .base) (drop (a .from) (a .out .now)) (a .s) (c .lend .ensures)
+      refused-same (a .base) (drop (a .from) (a .out .now)) (a .s) (c .pack .ensures)
           ∙ subst (λ (k : ℕ). refusalOf (a .base) k (a .s) ≡ 0) (sym (length-drop (a .from) (a .out .now))) (c .before .before .before .before .before .before .pre .1),
       rw sub-zero (λ o r x. x),
       rw sub-zero refl,
@@ -165,11 +165,11 @@ returns c =
     let z : n - l .i ≡ 0 = omega arith in
     let here : Machine = record { state = stateFrom (s .count) (l .x) (l .pc) (slotsIn (l .t)); mem = drop (a .from) (l .out) } in
     let end = as-text (sym (lines-none (a .base) here (l .i) (n - l .i) (drop (l .i * 24) body) (omega arith))) (none (l .out) (l .p)) in (
-      as-text (ap (λ (k : List Slot). linesOf (a .base) (start k) 0 (firstEvents n body)) (c .before .before .lend .ensures)) (l .inv .4 (l .out) (l .p) end),
+      as-text (ap (λ (k : List Slot). linesOf (a .base) (start k) 0 (firstEvents n body)) (c .before .before .pack .ensures)) (l .inv .4 (l .out) (l .p) end),
       (
         omega arith,
         ap (λ (m : Machine). m .mem) (rw z at (l .inv .5))
-            ∙ ap (λ (k : List Slot). runOf (a .base) (start k) (firstEvents n body) .mem) (c .before .before .lend .ensures),
+            ∙ ap (λ (k : List Slot). runOf (a .base) (start k) (firstEvents n body) .mem) (c .before .before .pack .ensures),
       ),
     )
 
@@ -179,7 +179,7 @@ put-lines-spec =
     (tie.spec
     Inv-loop
     μ-loop
-    lend-requires
+    pack-requires
     loop-holds
     mul-start
     add-read-event

@@ -2,13 +2,13 @@ use mathlib.Core.Path.{_≡_, refl, sym, ap, _∙_}
 use native.Mathlib.Omega.{arith}
 use borrow.Author.Tests.{lt-ltb, le-ltb}
 use lib.ListN.{length}
-use Rattle.reserve.specs.Lent.{slotsIn}
+use Rattle.reserve.specs.Packed.{slotsIn}
 use Rattle.machine.specs.Rules.{MemoryRules, StateRules}
 use Rattle.machine.proofs.StateLaws.{refusal-0}
 use Rattle.model.specs.Act.{leaves}
 use Rattle.model.specs.Perform.{actOn}
 use Rattle.model.specs.Advance.{stateFrom}
-use Rattle.model.proofs.AdvanceLaws.{device-registers, device-counters}
+use Rattle.model.proofs.AdvanceLaws.{device-registers, device-pcs}
 use borrow.Author.Needs.{needs}
 use Rattle.model.proofs.advance.advance.Statement.{statement}
 use Rattle.model.proofs.advance.advance.Tie as tie
@@ -45,13 +45,13 @@ returns-2 : tie.Need-returns-2
 unfolding actOn leaves
 returns-2 c =
     rw (c .before .before .before .before .e3 .given .1, lt-ltb _ _ (c .before .before .if2 .taken))
-    (record { outcome = c .release-hart .ensures .0; slots = c .release-hart .ensures .1; registers = refl; counters = refl; memory = refl })
+    (record { outcome = c .release-hart .ensures .0; slots = c .release-hart .ensures .1; registers = refl; pcs = refl; memory = refl })
 
 returns-3 : tie.Need-returns-3
 unfolding actOn leaves
 returns-3 c =
     rw (c .before .before .e .given .1, le-ltb _ _ (c .if1 .left))
-    (record { outcome = refl; slots = refl; registers = refl; counters = refl; memory = refl })
+    (record { outcome = refl; slots = refl; registers = refl; pcs = refl; memory = refl })
 
 same-length-2 : tie.Need-same-length-2
 same-length-2 c = search needs
@@ -65,7 +65,7 @@ returns-4 c =
       outcome = w .0;
       slots = w .1 .0;
       registers = sym (device-registers _ _ _ _ _ _);
-      counters = sym (device-counters _ _ _ _ _ _);
+      pcs = sym (device-pcs _ _ _ _ _ _);
       memory = w .1 .1;
     })
 
@@ -73,7 +73,7 @@ returns-5 : tie.Need-returns-5
 unfolding actOn leaves
 returns-5 c =
     rw (c .before .before .e3 .given .1, le-ltb _ _ (c .if2 .left))
-    (record { outcome = refl; slots = refl; registers = refl; counters = refl; memory = refl })
+    (record { outcome = refl; slots = refl; registers = refl; pcs = refl; memory = refl })
 
 pub advance-spec : {M : Type 1} → statement M
 advance-spec =

@@ -1,6 +1,6 @@
 use mathlib.Core.Path.{_≡_, refl, sym, ap, _∙_}
 use native.Mathlib.Omega.{arith}
-use Rattle.model.specs.Advance.{registersBy, countersBy}
+use Rattle.model.specs.Advance.{registersBy, pcsBy}
 use borrow.Author.Needs.{needs}
 use Rattle.model.proofs.advance.move_hart.Statement.{statement}
 use Rattle.model.proofs.advance.move_hart.Tie as tie
@@ -24,11 +24,11 @@ enum-told : tie.Need-enum-told
 enum-told c = search needs
 
 returns : tie.Need-returns
-unfolding registersBy countersBy
+unfolding registersBy pcsBy
 returns c = rw (c .before .before .before .before .before .d .given .1) (rw (← c .before .before .set-reg .ensures) (c .set-reg2 .ensures), refl)
 
 returns-2 : tie.Need-returns-2
-unfolding registersBy countersBy
+unfolding registersBy pcsBy
 returns-2 c = rw (c .enum-told .given .1) (refl, refl)
 
 pub move-hart-spec : {M : Type 1} → statement M

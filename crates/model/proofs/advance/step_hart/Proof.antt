@@ -3,7 +3,7 @@ use native.Mathlib.Omega.{arith}
 use Prim.Native.Nat.{ℕ}
 use lib.ListN.{length, getD}
 use Rattle.reserve.specs.Reserve.{coversOf}
-use Rattle.reserve.specs.Lent.{slotsIn}
+use Rattle.reserve.specs.Packed.{slotsIn}
 use Rattle.reserve.specs.declared.Reservation.{Reservation}
 use Rattle.machine.specs.Rules.{MemoryRules, StateRules}
 use Rattle.machine.proofs.StateLaws.{refusal-0}
@@ -12,9 +12,9 @@ use Rattle.effect.specs.Effect as E
 use Rattle.effect.specs.Atomic.{CoveredInside}
 use Rattle.effect.specs.Execute.{regAt}
 use Rattle.model.specs.Perform.{fetchOf, stepOf, reservationOf}
-use Rattle.model.specs.Advance.{Advances, stateFrom, registersBy, countersBy, slotsBy, toldBy}
+use Rattle.model.specs.Advance.{Advances, stateFrom, registersBy, pcsBy, slotsBy, outcomeBy}
 use Rattle.model.proofs.Valid.{covered-inside}
-use Rattle.model.proofs.AdvanceLaws.{registers-done, counters-done, slots-done, outcome-done, leaves-done}
+use Rattle.model.proofs.AdvanceLaws.{registers-done, pcs-done, slots-done, outcome-done, leaves-done}
 use borrow.Author.Needs.{needs}
 use Rattle.model.proofs.advance.step_hart.Statement.{statement}
 use Rattle.model.proofs.advance.step_hart.Tie as tie
@@ -59,10 +59,10 @@ returns c =
     let same = ap (λ (q : Reservation). fetchOf (regAt (a .x .now) (a .h)) (getD (a .pc .now) (a .h) 0) (a .base) (a .mem .now) (coversOf 64 q)) (c .before .before .before .before .before .before .before .before .before .before .before .reservation .ensures) in
     let d = f .answer ∙ ap (E.doneOf (a .h)) same in
     record {
-      outcome = c .settle .ensures .0 ∙ ap toldBy d ∙ outcome-done (a .h) e;
+      outcome = c .settle .ensures .0 ∙ ap outcomeBy d ∙ outcome-done (a .h) e;
       slots = c .settle .ensures .1 ∙ ap (λ (r : Done). slotsBy (a .count) r l) d ∙ slots-done (a .h) e (a .count) l;
       registers = c .before .before .move-hart .ensures .0 ∙ ap (λ (r : Done). registersBy (a .h) r (a .x .now)) d ∙ registers-done (a .h) e (a .x .now);
-      counters = c .before .before .move-hart .ensures .1 ∙ ap (λ (r : Done). countersBy (a .h) r (a .pc .now)) d ∙ counters-done (a .h) e (a .pc .now);
+      pcs = c .before .before .move-hart .ensures .1 ∙ ap (λ (r : Done). pcsBy (a .h) r (a .pc .now)) d ∙ pcs-done (a .h) e (a .pc .now);
       memory = f .memory ∙ ap (λ (r : E.Exec). E.memoryBy (a .base) (a .mem .now) r) same ∙ leaves-done (a .h) e (a .base) (a .mem .now);
     }
 

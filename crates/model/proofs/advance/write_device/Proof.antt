@@ -4,7 +4,7 @@ use borrow.Author.Tests.{lt-leb, le-leb, not-true, not-false}
 use Prim.Native.Nat.{ℕ}
 use Rattle.word.proofs.BytesLaws.{length-toLe}
 use Rattle.reserve.specs.Reserve.{observeAllOf, Observed}
-use Rattle.reserve.specs.Lent.{slotsIn}
+use Rattle.reserve.specs.Packed.{slotsIn}
 use Rattle.reserve.specs.declared.Notice.the-variants.{DeviceWrite}
 use Rattle.reserve.proofs.RangeLaws.{inside-of}
 use Rattle.model.specs.Act.{leaves}

@@ -3,7 +3,7 @@ use Prim.Native.Nat.{ℕ, _+_, _-_, _*_, _≤_}
 use native.Mathlib.Nat.{sub-zero}
 use native.Mathlib.Omega.{arith}
 use lib.ListN.{length, take, drop, length-take, length-drop}
-use Rattle.reserve.specs.Lent.{slotsIn}
+use Rattle.reserve.specs.Packed.{slotsIn}
 use Rattle.machine.specs.State.{refusalOf}
 use Rattle.events.specs.Events.{eventOf, firstEvents}
 use Rattle.events.specs.declared.Event.{Event}

@@ -42,18 +42,18 @@ enum-told c = search needs
 smaller-requires : tie.Need-smaller-requires
 smaller-requires c κs = search needs
 
-lend-requires : tie.Need-lend-requires
-lend-requires c κs = search needs
+pack-requires : tie.Need-pack-requires
+pack-requires c κs = search needs
 
 perform-first-requires : tie.Need-perform-first-requires
 perform-first-requires c κs =
     let a = c .before .before .before .before .before .before .before .before .before .before .before .before .before .before .before .before .before .before .args in (
-      refused-same (a .base) (a .mem .now) (a .s) (c .before .before .before .before .lend .ensures) ∙ sym (c .before .before .before .before .before .before .before .before .before .before .refusal .ensures) ∙ c .before .before .before .before .before .before .before .before .before .if1 .left,
+      refused-same (a .base) (a .mem .now) (a .s) (c .before .before .before .before .pack .ensures) ∙ sym (c .before .before .before .before .before .before .before .before .before .before .refusal .ensures) ∙ c .before .before .before .before .before .before .before .before .before .if1 .left,
       omega (arith, c .before .before .before .before .before .smaller .ensures),
     )
 
-slots-requires : tie.Need-slots-requires
-slots-requires c κs = search needs
+unpack-requires : tie.Need-unpack-requires
+unpack-requires c κs = search needs
 
 returns-2 : tie.Need-returns-2
 unfolding resultOf
@@ -75,8 +75,8 @@ returns-3 c =
     let t = take-events n (length body / 24) body (omega (arith, c .before .before .before .before .before .before .before .before .before .before .smaller .ensures)) in
     let p = c .before .before .before .before .perform-first .ensures
     ∙ ap (λ (l : List Slot). runOf (a .base) (record { state = stateFrom (s .count) (s .x) (s .pc) l; mem = m }) (firstEvents n body))
-    (c .before .before .before .before .before .before .before .before .before .lend .ensures) in
-    let after = ap (λ (l : List Slot). stateFrom (s .count) (c .before .before .before .before .perform-first .last .0) (c .before .before .before .before .perform-first .last .1 .0) l) (c .slots .ensures) in
+    (c .before .before .before .before .before .before .before .before .before .pack .ensures) in
+    let after = ap (λ (l : List Slot). stateFrom (s .count) (c .before .before .before .before .perform-first .last .0) (c .before .before .before .before .perform-first .last .1 .0) l) (c .unpack .ensures) in
     rw (sym (c .before .before .before .before .before .before .before .before .before .before .before .before .before .before .before .refusal .ensures) ∙ c .before .before .before .before .before .before .before .before .before .before .before .before .before .before .if1 .left, sym (c .before .before .before .before .before .before .before .before .before .before .before .before .before .check .ensures .0) ∙ c .before .before .before .before .before .before .before .before .before .before .before .enum-told .given .1, ← c .before .before .before .before .before .before .before .before .before .before .smaller .ensures, t)
     (ap (λ (q : State). record { verdict = Performed; performed = n; state = q }) (after ∙ ap (λ (q : Machine). q .state) p), ap (λ (q : Machine). q .mem) p)
 
@@ -92,9 +92,9 @@ run-spec =
     refused-run-requires-2
     enum-told
     smaller-requires
-    lend-requires
+    pack-requires
     perform-first-requires
-    slots-requires
+    unpack-requires
     returns-2
     same-length
     returns-3)

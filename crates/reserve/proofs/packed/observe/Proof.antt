@@ -1,0 +1,103 @@
+use mathlib.Core.Path.{sym}
+use native.Mathlib.Omega.{arith}
+use Rattle.reserve.proofs.PackedLaws.{slots-length}
+use Rattle.reserve.proofs.NoticeLaws.{quiet-observed, reserved-observed, done-observed, failed-observed, write-observed}
+use Rattle.reserve.specs.Packed.{slotsIn}
+use borrow.Author.Needs.{needs}
+use Rattle.reserve.proofs.packed.observe.Statement.{statement}
+use Rattle.reserve.proofs.packed.observe.Tie as tie
+
+enum-told : tie.Need-enum-told
+enum-told c = search needs
+
+enum-known-n : tie.Need-enum-known-n
+enum-known-n c = search needs
+
+replace-requires : tie.Need-replace-requires
+replace-requires c κs = search needs
+
+enum-known-n-2 : tie.Need-enum-known-n-2
+enum-known-n-2 c = search needs
+
+break-all-requires : tie.Need-break-all-requires
+break-all-requires c κs = search needs
+
+replace-requires-2 : tie.Need-replace-requires-2
+replace-requires-2 c κs = search needs
+
+enum-known-n-3 : tie.Need-enum-known-n-3
+enum-known-n-3 c = search needs
+
+replace-requires-3 : tie.Need-replace-requires-3
+replace-requires-3 c κs = search needs
+
+enum-told-2 : tie.Need-enum-told-2
+enum-told-2 c = search needs
+
+break-all-requires-2 : tie.Need-break-all-requires-2
+break-all-requires-2 c κs = search needs
+
+enum-known-n-4 : tie.Need-enum-known-n-4
+enum-known-n-4 c = search needs
+
+device-write-requires : tie.Need-device-write-requires
+device-write-requires c κs = search needs
+
+enum-known-n-5 : tie.Need-enum-known-n-5
+enum-known-n-5 c = search needs
+
+release-requires : tie.Need-release-requires
+release-requires c κs = search needs
+
+returns : tie.Need-returns
+returns c = rw (c .enum-told .given .1) (sym (quiet-observed _ _ _))
+
+returns-2 : tie.Need-returns-2
+returns-2 c =
+    let l = slotsIn (c .before .before .before .before .before .args .t .now) in
+    rw (c .before .before .before .n .given .1, c .replace .ensures) (sym (reserved-observed _ _ l _ _ _ (omega (arith, slots-length (c .before .before .before .before .before .args .t .now)))))
+
+returns-3 : tie.Need-returns-3
+returns-3 c =
+    let l = slotsIn (c .before .before .before .before .before .before .before .args .t .now) in
+    rw (c .before .before .before .before .before .n2 .given .1, c .replace2 .ensures, c .before .before .break-all .ensures .0, c .before .before .break-all .ensures .1) (sym (done-observed _ _ l _ _ _ (omega (arith, slots-length (c .before .before .before .before .before .before .before .args .t .now)))))
+
+returns-4 : tie.Need-returns-4
+returns-4 c =
+    let l = slotsIn (c .before .before .before .before .before .args .t .now) in
+    rw (c .before .before .before .n3 .given .1, c .replace3 .ensures) (sym (failed-observed _ _ l _ (omega (arith, slots-length (c .before .before .before .before .before .args .t .now)))))
+
+returns-5 : tie.Need-returns-5
+returns-5 c = rw (c .break-all2 .ensures .0, c .break-all2 .ensures .1, c .before .before .enum-told2 .given .1) (sym (write-observed _ _ _ _ _ _))
+
+returns-6 : tie.Need-returns-6
+returns-6 c = rw (c .before .before .before .n4 .given .1) (c .device-write .ensures)
+
+returns-7 : tie.Need-returns-7
+returns-7 c = rw (c .before .before .before .n5 .given .1) (c .release .ensures _)
+
+pub observe-spec : {M : Type 1} → statement M
+observe-spec =
+    tie.close
+    (tie.spec
+    enum-told
+    enum-known-n
+    replace-requires
+    enum-known-n-2
+    break-all-requires
+    replace-requires-2
+    enum-known-n-3
+    replace-requires-3
+    enum-told-2
+    break-all-requires-2
+    enum-known-n-4
+    device-write-requires
+    enum-known-n-5
+    release-requires
+    returns
+    returns-2
+    returns-3
+    returns-4
+    returns-5
+    returns-6
+    returns-7)

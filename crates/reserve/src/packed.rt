@@ -1,0 +1,183 @@
+// What an event does to the reservations of all harts. They are kept as 24 numbers, so that they can be lent and changed in place: of hart k,
+// whether it holds one at k (0: none), the address of its LR at 8 + k and the width at 16 + k.
+use crate::Notice;
+use crate::Reservation;
+use crate::Slot;
+use crate::breaks;
+ghost use mathlib.Core.Path.{_≡_};
+ghost use mathlib.Core.Bool.{cond};
+ghost use Prim.Native.Nat.{ℕ, _<_, _≤_};
+ghost use lib.ListN.{length, set, getD};
+ghost use Rattle.word.specs.Each.{each};
+ghost use Rattle.reserve.specs.Reserve.{slot, breaksOf, brokenOf, observeAllOf};
+ghost use Rattle.reserve.specs.Packed.{slotsIn, breakSlot, replaced};
+
+// Hart k's reservation.
+pub fn reservation(t: &[u64; 24], k: usize) -> Reservation
+    requires { ⌜ k < 8 ⌝ }
+    ensures { λ r. ⌜ r ≡ getD (slotsIn (now (t .entry))) k (slot Reservation.None) .reservation ⌝ }
+{
+    if t[k] == 0 {
+        return Reservation::None;
+    }
+    Reservation::Held {
+        addr: t[8 + k],
+        width: t[16 + k],
+    }
+}
+
+// Hart h holds a reservation from now on. The numbers are lent as a slice, of which the length is known.
+fn hold(t: &mut [u64], h: usize, addr: u64, width: u64)
+    requires { ⌜ length (now t) ≡ 24 ⌝ }
+    requires { ⌜ h < 8 ⌝ }
+    ensures { λ _. ⌜ slotsIn (now (t .exit)) ≡ set (slotsIn (now (t .entry))) h (slot (Reservation.Held addr width)) ⌝ }
+{
+    t[h] = 1;
+    t[8 + h] = addr;
+    t[16 + h] = width;
+}
+
+// Hart h's reservation replaced, if h is below the count.
+fn replace(t: &mut [u64; 24], count: usize, h: usize, r: Reservation)
+    requires { ⌜ count ≤ 8 ⌝ }
+    ensures { λ _. ⌜ slotsIn (now (t .exit)) ≡ replaced count h r (slotsIn (now (t .entry))) ⌝ }
+{
+    if h < count {
+        match r {
+            Reservation::None => t[h] = 0,
+            Reservation::Held { addr, width } => hold(t, h, addr, width),
+        }
+    }
+}
+
+// Breaks hart k's reservation if the notice does, and tells so.
+fn break_one(t: &mut [u64; 24], size: u64, k: usize, n: Notice) -> bool
+    requires { ⌜ (0 < size) × (k < 8) ⌝ }
+    ensures { λ _. ⌜ slotsIn (now (t .exit)) ≡ set (slotsIn (now (t .entry))) k (breakSlot size n k (getD (slotsIn (now (t .entry))) k (slot Reservation.None))) ⌝ }
+    ensures { λ b. ⌜ b ≡ breaksOf size k n (getD (slotsIn (now (t .entry))) k (slot Reservation.None) .reservation) ⌝ }
+{
+    let b = breaks(size, k, n, reservation(t, k));
+    if b {
+        t[k] = 0;
+    }
+    b
+}
+
+// The number with one bit, or 0.
+fn weight(t: bool, bit: u64) -> u64
+    ensures { λ n. ⌜ (n ≡ cond t bit 0) × (n ≤ bit) ⌝ }
+{
+    if t { bit } else { 0 }
+}
+
+// Breaks the reservations of the first count harts that the notice breaks, and gives a bit for each.
+fn break_all(t: &mut [u64; 24], count: usize, size: u64, n: Notice) -> u64
+    requires { ⌜ (0 < size) × (count ≤ 8) ⌝ }
+    ensures { λ _. ⌜ slotsIn (now (t .exit)) ≡ each (breakSlot size n) count (slotsIn (now (t .entry))) ⌝ }
+    ensures { λ r. ⌜ r ≡ brokenOf size n count (slotsIn (now (t .entry))) ⌝ }
+{
+    let mut broken: u64 = 0;
+    let mut bit: u64 = 1;
+    let mut k: usize = 0;
+    while k < count {
+        let b = break_one(t, size, k, n);
+        broken = broken + weight(b, bit);
+        bit = bit * 2;
+        k += 1;
+    }
+    broken
+}
+
+// What a device write of len bytes at addr does.
+pub fn device_write(t: &mut [u64; 24], count: usize, size: u64, addr: u64, len: u64) -> u64
+    requires { ⌜ (0 < size) × (count ≤ 8) ⌝ }
+    ensures { λ b. ⌜ record { slots = slotsIn (now (t .exit)); broken = b } ≡ observeAllOf size count (Notice.DeviceWrite addr len) (slotsIn (now (t .entry))) ⌝ }
+{
+    break_all(t, count, size, Notice::DeviceWrite { addr, len })
+}
+
+// What a yield of hart h does, at any size of the set.
+pub fn release(t: &mut [u64; 24], count: usize, h: usize)
+    requires { ⌜ count ≤ 8 ⌝ }
+    ensures { λ _. ⌜ ((size : ℕ) → record { slots = slotsIn (now (t .exit)); broken = 0 } ≡ observeAllOf size count (Notice.Yield h) (slotsIn (now (t .entry)))) ⌝ }
+{
+    replace(t, count, h, Reservation::None);
+}
+
+// What a notice does to the reservations of the first count harts, and a bit for each hart whose reservation it broke. Only writes are
+// looked at hart by hart; the others concern one hart or none. A caller that knows the notice calls device_write or release instead, so that
+// this function has one caller: then it is compiled in line, and no notice is copied.
+pub fn observe(t: &mut [u64; 24], count: usize, size: u64, n: Notice) -> u64
+    requires { ⌜ (0 < size) × (count ≤ 8) ⌝ }
+    ensures { λ b. ⌜ record { slots = slotsIn (now (t .exit)); broken = b } ≡ observeAllOf size count n (slotsIn (now (t .entry))) ⌝ }
+{
+    match n {
+        Notice::Quiet => 0,
+        Notice::LoadReserved { hart, addr, width } => {
+            replace(t, count, hart, Reservation::Held { addr, width });
+            0
+        }
+        Notice::ScStored { hart, .. } => {
+            let b = break_all(t, count, size, n);
+            replace(t, count, hart, Reservation::None);
+            b
+        }
+        Notice::ScFailed { hart } => {
+            replace(t, count, hart, Reservation::None);
+            0
+        }
+        Notice::Write { .. } => break_all(t, count, size, n),
+        Notice::DeviceWrite { addr, len } => device_write(t, count, size, addr, len),
+        Notice::Yield { hart } => {
+            release(t, count, hart);
+            0
+        }
+    }
+}
+
+// The reservations as numbers.
+pub fn pack(res: [Slot; 8]) -> [u64; 24]
+    ensures { λ t. ⌜ slotsIn t ≡ res ⌝ }
+{
+    let mut t = [0u64; 24];
+    let mut k: usize = 0;
+    while k < 8 {
+        let s = res[k];
+        let r = s.reservation;
+        replace(&mut t, 8, k, r);
+        k += 1;
+    }
+    t
+}
+
+// The reservations that the numbers are.
+pub fn unpack(t: &[u64; 24]) -> [Slot; 8]
+    ensures { λ l. ⌜ l ≡ slotsIn (now (t .entry)) ⌝ }
+{
+    [
+        Slot {
+            reservation: reservation(t, 0),
+        },
+        Slot {
+            reservation: reservation(t, 1),
+        },
+        Slot {
+            reservation: reservation(t, 2),
+        },
+        Slot {
+            reservation: reservation(t, 3),
+        },
+        Slot {
+            reservation: reservation(t, 4),
+        },
+        Slot {
+            reservation: reservation(t, 5),
+        },
+        Slot {
+            reservation: reservation(t, 6),
+        },
+        Slot {
+            reservation: reservation(t, 7),
+        },
+    ]
+}
