@@ -20,7 +20,7 @@ use Rattle.model.specs.declared.Outcome.{Outcome}
 use Rattle.model.specs.declared.Outcome.the-variants.{Retired, ScStored, ScFailed, Trap, Refused}
 use Rattle.model.specs.Retired.{IsRetired}
 use Rattle.answers.specs.Answered.{Answered, refused, trapped, retired}
-use Rattle.answers.proofs.Answers.{outcomeAt}
+use Rattle.answers.proofs.Answers.{answered}
 use Rattle.capi.specs.Events.{stateIf, Small, isRetired, isPerformed, SmallVerdict}
 
 small-retired : (o : Outcome) → IsRetired o → Small o
@@ -37,7 +37,7 @@ small-answered o (retired r) = small-retired o r
 
 module _ (base : ℕ) (mem : List ℕ) (s : State) where
   pub small-answer : (e : Event) → Small (answerOf base mem s e .outcome)
-  small-answer e = small-answered (answerOf base mem s e .outcome) (outcomeAt base mem s e)
+  small-answer e = small-answered (answerOf base mem s e .outcome) (answered base mem s e)
 
   small-refusal : refusalOf base (length mem) s ≤ 2
   unfolding refusalOf

@@ -51,7 +51,7 @@ module _ (base : ℕ) (mem : List ℕ) (s : State) (P : Act → Type 0) (refused
 
   pub acts : (e : Event) → ((cause value : ℕ) → P (fault cause value))
       → ((h : ℕ) → e ≡ Step h → h < s .count → (ws : Writes) (to : ℕ) (t : Access) → P (change h ws to t))
-      → ((a : ℕ) (bs : List ℕ) → P (put a bs)) → ((h : ℕ) → e ≡ YieldOf h → h < s .count → P (release h))
+      → ((a n v : ℕ) → e ≡ Device a n v → P (put a (toLe n v))) → ((h : ℕ) → e ≡ YieldOf h → h < s .count → P (release h))
       → P (actOf base mem s e)
   unfolding actOf actOn deviceOf
   acts (Step h) trapped stepped device yields =
@@ -60,7 +60,7 @@ module _ (base : ℕ) (mem : List ℕ) (s : State) (P : Act → Type 0) (refused
       (λ z. refused _)
   acts (Device a n v) trapped stepped device yields =
       cond-cases P (eqb (refusalOf base (length mem) s) 0) _ _
-      (λ r. cond-cases P (leb 1 n && leb n 8) _ _ (λ i. cond-cases P (insideOf base (length mem) a n) _ _ (λ j. device a (toLe n v)) (λ z. refused 5)) (λ z. refused 4))
+      (λ r. cond-cases P (leb 1 n && leb n 8) _ _ (λ i. cond-cases P (insideOf base (length mem) a n) _ _ (λ j. device a n v refl) (λ z. refused 5)) (λ z. refused 4))
       (λ z. refused _)
   acts (YieldOf h) trapped stepped device yields =
       cond-cases P (eqb (refusalOf base (length mem) s) 0) _ _
@@ -222,13 +222,13 @@ module _ (base : ℕ) (m : Machine) (e : Event) where
   unfolding nextOf answerOf apply
   unused-reg k r u =
       acts base (m .mem) (m .state) (λ (a : Act). regAt (registersAfter a (m .state .x)) k r ≡ regAt (m .state .x) k r) (λ n. refl) e (λ c v. refl)
-      (λ h q l ws to t. reg-written h ws k r (m .state .x) (omega arith)) (λ a bs. refl) (λ h q l. refl)
+      (λ h q l ws to t. reg-written h ws k r (m .state .x) (omega arith)) (λ a n w d. refl) (λ h q l. refl)
 
   pub unused-pc : (k : ℕ) → m .state .count ≤ k → getD (nextOf base m e .state .pc) k 0 ≡ getD (m .state .pc) k 0
   unfolding nextOf answerOf apply
   unused-pc k u =
       acts base (m .mem) (m .state) (λ (a : Act). getD (pcsAfter a (m .state .pc)) k 0 ≡ getD (m .state .pc) k 0) (λ n. refl) e (λ c v. refl)
-      (λ h q l ws to t. getD-set-other (m .state .pc) h k to 0 (omega arith)) (λ a bs. refl) (λ h q l. refl)
+      (λ h q l ws to t. getD-set-other (m .state .pc) h k to 0 (omega arith)) (λ a n w d. refl) (λ h q l. refl)
 
   pub unused-res : (k : ℕ) → m .state .count ≤ k → getD (nextOf base m e .state .res) k (slot None) ≡ getD (m .state .res) k (slot None)
   unfolding nextOf answerOf
@@ -243,13 +243,13 @@ module _ (base : ℕ) (m : Machine) (e : Event) where
     unfolding nextOf answerOf apply
     other-reg r =
         acts base (m .mem) (m .state) (λ (a : Act). regAt (registersAfter a (m .state .x)) h r ≡ regAt (m .state .x) h r) (λ n. refl) e (λ c v. refl)
-        (λ g q l ws to t. reg-written g ws h r (m .state .x) (not-of g q)) (λ a bs. refl) (λ g q l. refl)
+        (λ g q l ws to t. reg-written g ws h r (m .state .x) (not-of g q)) (λ a n w d. refl) (λ g q l. refl)
 
     pub other-pc : getD (nextOf base m e .state .pc) h 0 ≡ getD (m .state .pc) h 0
     unfolding nextOf answerOf apply
     other-pc =
         acts base (m .mem) (m .state) (λ (a : Act). getD (pcsAfter a (m .state .pc)) h 0 ≡ getD (m .state .pc) h 0) (λ n. refl) e (λ c v. refl)
-        (λ g q l ws to t. getD-set-other (m .state .pc) g h to 0 (λ z. not-of g q (sym z))) (λ a bs. refl) (λ g q l. refl)
+        (λ g q l ws to t. getD-set-other (m .state .pc) g h to 0 (λ z. not-of g q (sym z))) (λ a n w d. refl) (λ g q l. refl)
 
     not-access : (g : ℕ) → g ≢ h → (t : Access) → NotBy h (noticeOf g t)
     not-access g d nothing = tt
@@ -261,7 +261,7 @@ module _ (base : ℕ) (m : Machine) (e : Event) where
     pub not-by : NotBy h (noticeAt base m e)
     not-by =
         acts base (m .mem) (m .state) (λ (a : Act). NotBy h (actNotice a)) (λ n. tt) e (λ c v. tt) (λ g q l ws to t. not-access g (not-of g q) t)
-        (λ a bs. tt) (λ g q l. tt)
+        (λ a n w d. tt) (λ g q l. tt)
 
   module _ (v : Valid base m) where
     -- a used hart's reservation follows the notice

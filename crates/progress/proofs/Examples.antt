@@ -134,10 +134,10 @@ starts-shortest v = meets shortest v refl (omega arith) refl (record { inBlock =
     placed (suc (suc k)) l = absurd (omega arith)
 
 -- so the claim holds of them
-pub leaving-finishes : (v : ℕ) → Finishes 1024 0 1024 1096 leaving lr (begin leaving v)
+pub leaving-finishes : (v : ℕ) → Finishes 1024 0 1024 1096 leaving lr (Harmless 1024 0 1024 1096 leaving lr) (begin leaving v)
 leaving-finishes v = retry 1024 0 1024 1096 leaving lr (begin leaving v) (starts-leaving v)
 
-pub waiting-finishes : (v : ℕ) → Finishes 1024 0 1024 1096 waiting lr (begin waiting v)
+pub waiting-finishes : (v : ℕ) → Finishes 1024 0 1024 1096 waiting lr (Harmless 1024 0 1024 1096 waiting lr) (begin waiting v)
 waiting-finishes v = retry 1024 0 1024 1096 waiting lr (begin waiting v) (starts-waiting v)
 
 -- ---- runs
@@ -155,12 +155,15 @@ unfolding toLe signExtend ofInt toInt low classOf branchOf sizedOf lrOf atomicOf
 by-sc =
     bySc
     (record {
-      sc = sc;
-      fetches = record { inside = inside-of 1024 128 1032 4 refl; decodes = refl };
-      isSc = refl;
-      answers = refl;
-      address = refl;
-      width = refl;
+      success =
+          record {
+            sc = sc;
+            retires = record { isStep = refl; fetches = record { inside = inside-of 1024 128 1032 4 refl; decodes = refl }; retired = tt };
+            isSc = refl;
+            stored = refl;
+            address = refl;
+            width = refl;
+          };
       bytes = refl;
     })
 
@@ -168,7 +171,7 @@ by-sc =
 untold : (m : Machine) (e : Event) → noticeAt 1024 m e ≡ N.Quiet → Harmless 1024 0 1024 1096 leaving lr m e
 untold m e q = record { block = rw q (λ t. t); reserved = rw q (λ t. t); stays = λ y. let z : _≡_ {A = ℕ} 0 1 = cc in omega arith }
 
-pub by-sc-calm : Calm 1024 0 1024 1096 leaving lr (begin leaving 0) mixed
+pub by-sc-calm : Calm 1024 0 1024 1096 leaving lr (Harmless 1024 0 1024 1096 leaving lr) (begin leaving 0) mixed
 unfolding toLe signExtend ofInt toInt low classOf branchOf sizedOf lrOf atomicOf decodeOf refusalOf memoryOk stateOk hartOk reservationOk insideOf allBelow valueAt le part splice regAt touches coversOf breaksOf ownOf observeOf observeAllOf holdsOf execBranch faultOf checked execLr execSc execAtomic execute executeWord setReg apply leaves fetchOf deviceOf actOn actOf answerOf memoryOf nextOf runOf Touch
 by-sc-calm = (
   λ q. contrary refl q,
@@ -190,12 +193,12 @@ by-sc-unfinished = (not-lr, (never, (never, (never, (never, (never, (never, (nev
     never q f = contrary refl (sym q)
 
     not-lr : true ≡ true → Finish 1024 0 1024 1096 leaving lr (begin leaving 0) (Step 0) → ⊥
-    not-lr t (bySc s) = let a : O.Retired ≡ O.ScStored = s .answers in let z : _≡_ {A = ℕ} 0 1 = cc in omega arith
+    not-lr t (bySc s) = let a : O.Retired ≡ O.ScStored = s .success .stored in let z : _≡_ {A = ℕ} 0 1 = cc in omega arith
     not-lr t (left d) = d 1 (omega arith) refl
     not-lr t (back q) = let z : _≡_ {A = ℕ} 1028 1024 = q in omega arith
 
     not-branch : true ≡ true → Finish 1024 0 1024 1096 leaving lr (runOf 1024 (begin leaving 0) so-far) (Step 0) → ⊥
-    not-branch t (bySc s) = let a : O.Retired ≡ O.ScStored = s .answers in let z : _≡_ {A = ℕ} 0 1 = cc in omega arith
+    not-branch t (bySc s) = let a : O.Retired ≡ O.ScStored = s .success .stored in let z : _≡_ {A = ℕ} 0 1 = cc in omega arith
     not-branch t (left d) = d 2 (omega arith) refl
     not-branch t (back q) = let z : _≡_ {A = ℕ} 1032 1024 = q in omega arith
 
@@ -210,12 +213,12 @@ by-coming-back = back refl
 
 -- ---- the bound can't be smaller
 
-pub tight : Safe 1024 0 1024 1096 shortest lr (length shortest - 1) (begin shortest 0) (Step 0 ∷ []) → ⊥
+pub tight : Safe 1024 0 1024 1096 shortest lr (Harmless 1024 0 1024 1096 shortest lr) (length shortest - 1) (begin shortest 0) (Step 0 ∷ []) → ⊥
 unfolding toLe signExtend ofInt toInt low classOf branchOf sizedOf lrOf atomicOf decodeOf refusalOf memoryOk stateOk hartOk reservationOk insideOf allBelow valueAt le part splice regAt touches coversOf breaksOf ownOf observeOf observeAllOf holdsOf execBranch faultOf checked execLr execSc execAtomic execute executeWord setReg apply leaves fetchOf deviceOf actOn actOf answerOf memoryOf nextOf runOf
 tight s = go (s .1)
   where
     unfinished : Finish 1024 0 1024 1096 shortest lr (begin shortest 0) (Step 0) → ⊥
-    unfinished (bySc f) = let a : O.Retired ≡ O.ScStored = f .answers in let z : _≡_ {A = ℕ} 0 1 = cc in omega arith
+    unfinished (bySc f) = let a : O.Retired ≡ O.ScStored = f .success .stored in let z : _≡_ {A = ℕ} 0 1 = cc in omega arith
     unfinished (left d) = d 1 (omega arith) refl
     unfinished (back q) = let z : _≡_ {A = ℕ} 1028 1024 = q in omega arith
 

@@ -40,6 +40,7 @@ use Rattle.model.specs.Perform.{Machine, reservationOf, ofExec, actOf, answerOf
 use Rattle.model.specs.Valid.{Valid}
 use Rattle.model.specs.Trace.{noticeAt, WritesInto, NotBy}
 use Rattle.model.specs.Fetch.{Fetches}
+use Rattle.model.specs.Retired.{IsRetired}
 use Rattle.model.specs.declared.Outcome.the-variants as O
 use Rattle.model.proofs.Valid.{valid-next, length-next}
 use Rattle.model.proofs.Frame.{count-next, shaped-next, other-reg, other-pc, not-by, res-next, observe-quiet, value-next, step-act}
@@ -52,7 +53,7 @@ use Rattle.retry.specs.declared.View.{View}
 use Rattle.retry.specs.declared.View.the-variants.{Lr, Sc, Plain, Jump, Branch, Other}
 use Rattle.retry.proofs.ViewLaws.{Seen, SeenLr, SeenSc, seen, lr-view}
 use Rattle.retry.proofs.Accepted.{Ahead, Home, Keeps, Before, After, Block, block}
-use Rattle.progress.specs.Claim.{hartPc, isStep, StoredSc, FineAs, Fine, Start, Harmless, Finish, bySc, left, back, Safe, Finishes, Calm, Unfinished, steps, NextStep}
+use Rattle.progress.specs.Claim.{hartPc, isStep, StoresAtLr, FineAs, Fine, Start, Harmless, Finish, bySc, left, back, Safe, Finishes, Calm, Unfinished, steps, NextStep}
 use Rattle.progress.proofs.Does.{Moves, Does, does, does-lr, does-sc}
 
 -- ---- notices
@@ -390,15 +391,19 @@ module _ (base h p addr : ℕ) (words : List ℕ) (lr : Atomic) (j : ℕ)
             (leaves-mem base m h (one (s .of .rd) 0) (nextPc 64 (hartPc m h)) (scStored addr new) act) (sym size)
             ∙ part-splice (m .mem) (addr - base) new (omega (arith, size, a .ground .reachable .0, a .ground .reachable .1))
 
-        kept : StoredSc base h p addr words lr m (Step h)
+        kept : StoresAtLr base h p addr words lr m (Step h)
         kept =
             record {
-              sc = s .of;
-              fetches = subst (Fetches base m h) (s .is) fetches;
-              isSc = s .kind;
-              answers = succeeds;
-              address = src;
-              width = s .width-is;
+              success =
+                  record {
+                    sc = s .of;
+                    retires =
+                        record { isStep = refl; fetches = subst (Fetches base m h) (s .is) fetches; retired = subst IsRetired (sym answers) tt };
+                    isSc = s .kind;
+                    stored = answers;
+                    address = sym src;
+                    width = sym (s .width-is);
+                  };
               bytes = bytes;
             }
 
@@ -433,16 +438,16 @@ module _ (base h p addr : ℕ) (words : List ℕ) (lr : Atomic) (j : ℕ)
         go (at-late z) = late z (viewAt words i) (after i z (a .inLoop)) d
 
   -- the claim, from any place at which enough steps are left
-  safe : (es : List Event) (m : Machine) (i k : ℕ) → At m i → length words ≤ k + i → Safe base h p addr words lr k m es
+  safe : (es : List Event) (m : Machine) (i k : ℕ) → At m i → length words ≤ k + i → Safe base h p addr words lr (Harmless base h p addr words lr) k m es
   unfolding Good Onward
   safe [] m i k a l = tt
   safe (e ∷ es) m i k a l = go (isStep h e) refl (λ i′ k′. safe es (nextOf base m e) i′ k′)
     where
       go : (t : Bool) → isStep h e ≡ t
-          → ((i′ k′ : ℕ) → At (nextOf base m e) i′ → length words ≤ k′ + i′ → Safe base h p addr words lr k′ (nextOf base m e) es)
+          → ((i′ k′ : ℕ) → At (nextOf base m e) i′ → length words ≤ k′ + i′ → Safe base h p addr words lr (Harmless base h p addr words lr) k′ (nextOf base m e) es)
           → cond t
-          (Fine base h p addr words lr m e × (Finish base h p addr words lr m e ⊎ ((1 < k) × Safe base h p addr words lr (k - 1) (nextOf base m e) es)))
-          (Harmless base h p addr words lr m e → Safe base h p addr words lr k (nextOf base m e) es)
+          (Fine base h p addr words lr m e × (Finish base h p addr words lr m e ⊎ ((1 < k) × Safe base h p addr words lr (Harmless base h p addr words lr) (k - 1) (nextOf base m e) es)))
+          (Harmless base h p addr words lr m e → Safe base h p addr words lr (Harmless base h p addr words lr) k (nextOf base m e) es)
       go false q ih = λ s. ih i k (stays m i e a (not-step h e q) s) l
       go true q ih = (g .0, on (g .1))
         where
@@ -452,7 +457,7 @@ module _ (base h p addr : ℕ) (words : List ℕ) (lr : Atomic) (j : ℕ)
               (sym (step-is h e q)) (own m i a)
 
           on : Finish base h p addr words lr m e ⊎ ((i′ : ℕ) × (i < i′) × At (nextOf base m e) i′)
-              → Finish base h p addr words lr m e ⊎ ((1 < k) × Safe base h p addr words lr (k - 1) (nextOf base m e) es)
+              → Finish base h p addr words lr m e ⊎ ((1 < k) × Safe base h p addr words lr (Harmless base h p addr words lr) (k - 1) (nextOf base m e) es)
           on (inl f) = inl f
           on (inr s) = let b : s .0 < length words = s .2 .inLoop in inr (omega arith, ih (s .0) (k - 1) (s .2) (omega arith))
 
@@ -481,7 +486,7 @@ module _ (base h p addr : ℕ) (words : List ℕ) (lr : Atomic) (m : Machine) (s
   width-same = cc same
 
   -- Demand 3: from a start, every list of events is safe for as many steps of the hart as the block has words.
-  pub retry : Finishes base h p addr words lr m
+  pub retry : Finishes base h p addr words lr (Harmless base h p addr words lr) m
   retry es =
       safe base h p addr words lr (b .sc) (st .aligned) (st .first .0 .decodes) (st .first .1)
       (λ q. let f : b .rs1 ≡ 0 = b .keeps (rs1-same ∙ q ∙ sym rd-same) in sym rs1-same ∙ f) (b .later) (b .inBlock)
@@ -500,14 +505,8 @@ module _ (base h p addr : ℕ) (words : List ℕ) (lr : Atomic) (m : Machine) (s
 -- ---- the claim without recursion
 
 module _ (base h p addr : ℕ) (words : List ℕ) (lr : Atomic) where
-  -- with k steps left
-  record Told (k : ℕ) (m : Machine) (so-far : List Event) : Type 0 where
-    fine : Fine base h p addr words lr (runOf base m so-far) (Step h)
-    bounded : steps h so-far < k
-    finishes : suc (steps h so-far) ≡ k → Finish base h p addr words lr (runOf base m so-far) (Step h)
-
-  flat : (so-far : List Event) (k : ℕ) (m : Machine) → 0 < k → Calm base h p addr words lr m so-far → Unfinished base h p addr words lr m so-far
-      → Safe base h p addr words lr k m (so-far ++ Step h ∷ []) → Told k m so-far
+  flat : (so-far : List Event) (k : ℕ) (m : Machine) → 0 < k → Calm base h p addr words lr (Harmless base h p addr words lr) m so-far → Unfinished base h p addr words lr m so-far
+      → Safe base h p addr words lr (Harmless base h p addr words lr) k m (so-far ++ Step h ∷ []) → NextStep base h p addr words lr k m so-far
   unfolding runOf
   flat [] k m z c u s = record { fine = g .0; bounded = z; finishes = last (g .1) }
     where
@@ -525,31 +524,30 @@ module _ (base h p addr : ℕ) (words : List ℕ) (lr : Atomic) where
       go : (t : Bool) → isStep h d ≡ t
           → cond t
           (Fine base h p addr words lr m d
-          × (Finish base h p addr words lr m d ⊎ ((1 < k) × Safe base h p addr words lr (k - 1) (nextOf base m d) (so-far ++ Step h ∷ []))))
-          (Harmless base h p addr words lr m d → Safe base h p addr words lr k (nextOf base m d) (so-far ++ Step h ∷ []))
-          → ((k′ : ℕ) → 0 < k′ → Safe base h p addr words lr k′ (nextOf base m d) (so-far ++ Step h ∷ []) → Told k′ (nextOf base m d) so-far)
-          → Told k m (d ∷ so-far)
+          × (Finish base h p addr words lr m d ⊎ ((1 < k) × Safe base h p addr words lr (Harmless base h p addr words lr) (k - 1) (nextOf base m d) (so-far ++ Step h ∷ []))))
+          (Harmless base h p addr words lr m d → Safe base h p addr words lr (Harmless base h p addr words lr) k (nextOf base m d) (so-far ++ Step h ∷ []))
+          → ((k′ : ℕ) → 0 < k′ → Safe base h p addr words lr (Harmless base h p addr words lr) k′ (nextOf base m d) (so-far ++ Step h ∷ []) → NextStep base h p addr words lr k′ (nextOf base m d) so-far)
+          → NextStep base h p addr words lr k m (d ∷ so-far)
       go false q x ih =
-          let y : Told k (nextOf base m d) so-far = ih k z (x (c .0 q)) in
+          let y : NextStep base h p addr words lr k (nextOf base m d) so-far = ih k z (x (c .0 q)) in
           let l : steps h (d ∷ so-far) ≡ steps h so-far = rw q in
           let b : steps h so-far < k = y .bounded in
           record { fine = y .fine; bounded = omega arith; finishes = λ r. y .finishes (omega arith) }
       go true q x ih = on (x .1)
         where
-          on : Finish base h p addr words lr m d ⊎ ((1 < k) × Safe base h p addr words lr (k - 1) (nextOf base m d) (so-far ++ Step h ∷ []))
-              → Told k m (d ∷ so-far)
+          on : Finish base h p addr words lr m d ⊎ ((1 < k) × Safe base h p addr words lr (Harmless base h p addr words lr) (k - 1) (nextOf base m d) (so-far ++ Step h ∷ []))
+              → NextStep base h p addr words lr k m (d ∷ so-far)
           on (inl f) = absurd (u .0 q f)
           on (inr f) =
               let o : 1 < k = f .0 in
-              let y : Told (k - 1) (nextOf base m d) so-far = ih (k - 1) (omega arith) (f .1) in
+              let y : NextStep base h p addr words lr (k - 1) (nextOf base m d) so-far = ih (k - 1) (omega arith) (f .1) in
               let l : steps h (d ∷ so-far) ≡ suc (steps h so-far) = rw q in
               let b : steps h so-far < k - 1 = y .bounded in
               record { fine = y .fine; bounded = omega arith; finishes = λ r. y .finishes (omega arith) }
 
   -- Demand 3 without recursion.
-  pub next-step : (m : Machine) → Start base h p addr words lr m → (so-far : List Event) → Calm base h p addr words lr m so-far
-      → Unfinished base h p addr words lr m so-far → NextStep base h p addr words lr m so-far
+  pub next-step : (m : Machine) → Start base h p addr words lr m → (so-far : List Event)
+      → Calm base h p addr words lr (Harmless base h p addr words lr) m so-far → Unfinished base h p addr words lr m so-far
+      → NextStep base h p addr words lr (length words) m so-far
   next-step m st so-far c u =
-      let r : Told (length words) m so-far =
-      flat so-far (length words) m (omega (arith, st .first .0 .inBlock)) c u (retry base h p addr words lr m st (so-far ++ Step h ∷ [])) in
-      record { fine = r .fine; bounded = r .bounded; finishes = r .finishes }
+      flat so-far (length words) m (omega (arith, st .first .0 .inBlock)) c u (retry base h p addr words lr m st (so-far ++ Step h ∷ []))

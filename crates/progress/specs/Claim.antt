@@ -9,12 +9,10 @@ use lib.Dec.{eqb}
 use lib.ListN.{length, getD}
 use Rattle.word.specs.Bytes.{toLe}
 use Rattle.word.specs.Memory.{part}
-use Rattle.reserve.specs.Range.{Inside, setOf}
+use Rattle.reserve.specs.Range.{Touch, Inside, setOf}
 use Rattle.reserve.specs.declared.Notice.the-variants as N
 use Rattle.isa.specs.Width.{bytesOf}
 use Rattle.isa.specs.declared.Atomic.{Atomic}
-use Rattle.isa.specs.declared.AtomicOp.the-variants.{Sc}
-use Rattle.isa.specs.declared.Instr.the-variants.{Amo}
 use Rattle.machine.specs.Rules.{Shaped}
 use Rattle.effect.specs.Execute.{regAt}
 use Rattle.effect.specs.Memory.{valueAt}
@@ -23,9 +21,9 @@ use Rattle.events.specs.declared.Event.the-variants.{Step, Device, Yield}
 use Rattle.model.specs.Perform.{Machine, nextOf, runOf, outcomeAt}
 use Rattle.model.specs.Valid.{Valid}
 use Rattle.model.specs.Trace.{noticeAt, WritesInto}
-use Rattle.model.specs.Fetch.{Fetches}
 use Rattle.model.specs.declared.Outcome.{Outcome}
 use Rattle.model.specs.declared.Outcome.the-variants as O
+use Rattle.notices.specs.Happened.{StoredSc, WritesBytes}
 use Rattle.retry.specs.Loop.{checkOf}
 use Rattle.retry.specs.Reasons.{LrAt}
 use Rattle.retry.specs.declared.LoopAnswer.the-variants.{Accepted}
@@ -70,8 +68,15 @@ module _ (base h p addr : ℕ) (words : List ℕ) (lr : Atomic) where
     -- "its 4 or 8 bytes inside memory"
     pub reachable : Inside base (length (m .mem)) addr (bytesOf (lr .width))
 
-  -- The event leaves the loop alone: it is no write into the loop's words, nor into the reserved set, "the set around it, from the first event on",
-  -- and no yield of the hart. A refused event and a trap do none of these.
+  -- The event leaves the loop alone: it writes into neither the loop's words nor the reserved set, "the set around it, from the first event on", and is
+  -- no yield of the hart. "Something writes into bytes if it touches at least one of them, even with the same bytes, and is a retired store, AMO, equal
+  -- AMOCAS or successful SC, or a device write that isn't refused": that is `WritesBytes`, of n bytes at b.
+  pub record LeftAlone (m : Machine) (e : Event) : Type 0 where
+    pub noWord : (b n : ℕ) → WritesBytes base m e b n → Touch b n p (4 * length words) → ⊥
+    pub noSet : (b n : ℕ) → WritesBytes base m e b n → Touch b n (setOf 64 addr) 64 → ⊥
+    pub noYield : e ≢ Yield h
+
+  -- The same in terms of what reservations learn of the event. A refused event and a trap do none of these.
   pub record Harmless (m : Machine) (e : Event) : Type 0 where
     pub block : WritesInto (noticeAt base m e) p (4 * length words) → ⊥
     pub reserved : WritesInto (noticeAt base m e) (setOf 64 addr) 64 → ⊥
@@ -79,19 +84,15 @@ module _ (base h p addr : ℕ) (words : List ℕ) (lr : Atomic) where
 
   -- With the event hart h makes an SC that succeeds at the LR's address: "An SC succeeds or fails by the rule above, also where its rd is x0; the
   -- successful one leaves the low 4 or 8 bytes of rs2 at the LR's address."
-  pub record StoredSc (m : Machine) (e : Event) : Type 0 where
-    pub sc : Atomic
-    pub fetches : Fetches base m h (Amo sc)
-    pub isSc : sc .op ≡ Sc
-    pub answers : outcomeAt base m e ≡ O.ScStored
-    pub address : regAt (m .state .x) h (sc .rs1) ≡ addr
-    pub width : bytesOf (sc .width) ≡ bytesOf (lr .width)
-    pub bytes : part (nextOf base m e .mem) (addr - base) (bytesOf (lr .width)) ≡ toLe (bytesOf (lr .width)) (regAt (m .state .x) h (sc .rs2))
+  pub record StoresAtLr (m : Machine) (e : Event) : Type 0 where
+    pub success : StoredSc base m e h addr (bytesOf (lr .width))
+    pub bytes : part (nextOf base m e .mem) (addr - base) (bytesOf (lr .width))
+        ≡ toLe (bytesOf (lr .width)) (regAt (m .state .x) h (success .sc .rs2))
 
   -- "without a refusal, a trap or a failed SC"; and where an SC of the hart succeeds, it does so at the LR's address and leaves rs2 there
   abbrev pub FineAs : Machine → Event → Outcome → Type 0
   FineAs m e O.Retired = Unit {0}
-  FineAs m e O.ScStored = StoredSc m e
+  FineAs m e O.ScStored = StoresAtLr m e
   FineAs m e O.ScFailed = ⊥
   FineAs m e (O.Trap cause value) = ⊥
   FineAs m e (O.Refused number) = ⊥
@@ -102,39 +103,38 @@ module _ (base h p addr : ℕ) (words : List ℕ) (lr : Atomic) where
   -- "The hart has left the loop when its pc is the address of none of the block's words, and has come back when, after a step, its pc is that of
   -- place 0."
   pub data Finish (m : Machine) (e : Event) : Type 0 where
-    bySc : StoredSc m e → Finish m e
+    bySc : StoresAtLr m e → Finish m e
     left : ((k : ℕ) → k < length words → hartPc (nextOf base m e) h ≢ p + 4 * k) → Finish m e
     back : hartPc (nextOf base m e) h ≡ p → Finish m e
 
-  -- From m on, hart h makes no step but fine ones up to its finish, which is at most its k-th, as long as all other events leave the loop alone:
-  -- "a single claim about the whole list of events"; "Each event gets the state and the memory as the event before returned or left them";
-  -- "Refused events and traps stay in the list"; "What comes after the finish is free".
-  abbrev pub Safe : ℕ → Machine → List Event → Type 0
-  Safe k m [] = Unit {0}
-  Safe k m (e ∷ es) =
+  -- From m on, hart h makes no step but fine ones up to its finish, which is at most its k-th, as long as all other events leave the loop alone, in the
+  -- words of Alone: "a single claim about the whole list of events"; "Each event gets the state and the memory as the event before returned or left
+  -- them"; "Refused events and traps stay in the list"; "What comes after the finish is free".
+  abbrev pub Safe : (Machine → Event → Type 0) → ℕ → Machine → List Event → Type 0
+  Safe Alone k m [] = Unit {0}
+  Safe Alone k m (e ∷ es) =
       cond (isStep h e)
-      (Fine m e × (Finish m e ⊎ ((1 < k) × Safe (k - 1) (nextOf base m e) es)))
-      (Harmless m e → Safe k (nextOf base m e) es)
+      (Fine m e × (Finish m e ⊎ ((1 < k) × Safe Alone (k - 1) (nextOf base m e) es)))
+      (Alone m e → Safe Alone k (nextOf base m e) es)
 
   -- "within as many steps of its hart as it has words", for every list of events
-  abbrev pub Finishes : Machine → Type 0
-  Finishes m = (es : List Event) → Safe (length words) m es
+  abbrev pub Finishes : (Machine → Event → Type 0) → Machine → Type 0
+  Finishes Alone m = (es : List Event) → Safe Alone (length words) m es
 
   -- ---- the same without recursion
 
   -- the other events so far left the loop alone
-  abbrev pub Calm : Machine → List Event → Type 0
-  Calm m [] = Unit {0}
-  Calm m (e ∷ es) = (isStep h e ≡ false → Harmless m e) × Calm (nextOf base m e) es
+  abbrev pub Calm : (Machine → Event → Type 0) → Machine → List Event → Type 0
+  Calm Alone m [] = Unit {0}
+  Calm Alone m (e ∷ es) = (isStep h e ≡ false → Alone m e) × Calm Alone (nextOf base m e) es
 
   -- none of the hart's steps so far was its finish
   abbrev pub Unfinished : Machine → List Event → Type 0
   Unfinished m [] = Unit {0}
   Unfinished m (e ∷ es) = (isStep h e ≡ true → Finish m e → ⊥) × Unfinished (nextOf base m e) es
 
-  -- After any events so far, of which the others left the loop alone and none was the finish: if the hart steps next, the step is fine and at most the
-  -- hart's n-th, where the block has n words, and the n-th is the finish.
-  pub record NextStep (m : Machine) (so-far : List Event) : Type 0 where
+  -- If the hart steps next after these events, the step is fine and at most its k-th, and the k-th is the finish.
+  pub record NextStep (k : ℕ) (m : Machine) (so-far : List Event) : Type 0 where
     pub fine : Fine (runOf base m so-far) (Step h)
-    pub bounded : steps h so-far < length words
-    pub finishes : suc (steps h so-far) ≡ length words → Finish (runOf base m so-far) (Step h)
+    pub bounded : steps h so-far < k
+    pub finishes : suc (steps h so-far) ≡ k → Finish (runOf base m so-far) (Step h)

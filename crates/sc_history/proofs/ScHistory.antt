@@ -30,9 +30,10 @@ use Rattle.model.specs.Trace.{traceOf}
 use Rattle.model.specs.declared.Outcome.the-variants.{ScStored, ScFailed, Trap}
 use Rattle.model.proofs.Valid.{valid-next, valid-run}
 use Rattle.model.proofs.Frame.{count-next, count-run, shaped-next, res-next, step-act}
+use Rattle.notices.specs.Happened.{atomicAddress, atomicSize}
 use Rattle.history.specs.History.{observes, Reserved, Since}
 use Rattle.history.proofs.History.{history, sc-exact}
-use Rattle.sc_history.specs.Sc.{Reservationless, FetchesSc, atomicAddress, atomicSize, StoredLeaves, FailedLeaves}
+use Rattle.sc_history.specs.Sc.{Reservationless, FetchesSc, StoredLeaves, FailedLeaves}
 
 -- a register that was set
 set-own : (h r v : ℕ) (x : List ℕ) → h < 8 → length x ≡ 256 → r % 32 ≢ 0 → regAt (setReg h r v x) h r ≡ v

@@ -1,3 +1,3 @@
--- The words of demand 2's sentence on SC, and what the notices of a run say.
+-- The words of demand 2's sentence on SC.
 pub mod Sc
-pub mod Told
+pub mod Since

@@ -6,7 +6,6 @@ use Prim.Native.Nat.{ℕ, _-_, _%_, _<_}
 use Rattle.word.specs.Bytes.{toLe}
 use Rattle.word.specs.Memory.{splice}
 use Rattle.reserve.specs.declared.Reservation.the-variants.{None}
-use Rattle.isa.specs.Width.{bytesOf}
 use Rattle.isa.specs.declared.AtomicOp.the-variants.{Sc}
 use Rattle.isa.specs.declared.Atomic.{Atomic}
 use Rattle.isa.specs.declared.Instr.the-variants.{Amo}
@@ -15,6 +14,7 @@ use Rattle.effect.specs.Execute.{regAt}
 use Rattle.events.specs.declared.Event.the-variants.{Step}
 use Rattle.model.specs.Perform.{Machine, reservationOf, nextOf}
 use Rattle.model.specs.Fetch.{Fetches}
+use Rattle.notices.specs.Happened.{atomicAddress, atomicSize}
 
 -- "a start without reservations": no used hart holds one
 abbrev pub Reservationless : State → Type 0
@@ -24,13 +24,6 @@ Reservationless s = (k : ℕ) → k < s .count → reservationOf s k ≡ None
 pub record FetchesSc (base : ℕ) (m : Machine) (h : ℕ) (sc : Atomic) : Type 0 where
   pub fetches : Fetches base m h (Amo sc)
   pub isSc : sc .op ≡ Sc
-
--- an atomic instruction's address and bytes, for hart h
-abbrev pub atomicAddress : Machine → ℕ → Atomic → ℕ
-atomicAddress m h i = regAt (m .state .x) h (i .rs1)
-
-abbrev pub atomicSize : Atomic → ℕ
-atomicSize i = bytesOf (i .width)
 
 -- 01: "Success writes memory and puts 0 in rd": the low bytes of rs2 stand at the SC's address, the rest of memory is as it was, and rd is 0, unless it
 -- is x0

@@ -1,0 +1,3 @@
+-- What reservations learn of each event.
+pub mod Notices
+pub mod Exact

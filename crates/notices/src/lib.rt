@@ -1,0 +1,1 @@
+// Theorems only: from which events alone each notice comes.

@@ -1,0 +1,195 @@
+-- Demand 2's sentence on SC over events. The history in terms of events is the history of their notices. Assumes nothing.
+use Prim.Native.Nat.{ℕ, _<_}
+use native.Mathlib.Omega.{arith}
+use mathlib.Core.Path.{_≡_, refl, sym, _∙_, ap, subst}
+use mathlib.Core.Logic.{_↔_, _≢_, inl, inr, ⊎-elim}
+use mathlib.Core.List.{List, [], _∷_, _++_}
+use Rattle.reserve.specs.Range.{Touch, setOf}
+use Rattle.reserve.specs.declared.Reservation.the-variants.{Held}
+use Rattle.reserve.specs.declared.Notice.{Notice}
+use Rattle.reserve.specs.declared.Notice.the-variants as N
+use Rattle.isa.specs.declared.Atomic.{Atomic}
+use Rattle.machine.specs.Rules.{Shaped}
+use Rattle.events.specs.declared.Event.{Event}
+use Rattle.events.specs.declared.Event.the-variants.{Step, Yield}
+use Rattle.model.specs.Perform.{Machine, reservationOf, nextOf, runOf, outcomeAt}
+use Rattle.model.specs.Valid.{Valid}
+use Rattle.model.specs.Trace.{noticeAt, traceOf}
+use Rattle.model.specs.Retired.{Traps}
+use Rattle.model.specs.declared.Outcome.the-variants.{ScStored, ScFailed}
+use Rattle.model.proofs.Valid.{valid-next, valid-run}
+use Rattle.model.proofs.Frame.{count-next, count-run}
+use Rattle.history.specs.History.{Spares, AllSpare, Reserved, Since}
+use Rattle.notices.specs.Happened.{atomicAddress, atomicSize, RetiredLr, RetiredSc, StoredSc, FailedSc, HartWrites}
+use Rattle.notices.specs.Notices.{ComesFrom}
+use Rattle.notices.proofs.Notices.{notice-yield}
+use Rattle.notices.proofs.Exact.{notice-exact, sc-either}
+use Rattle.sc_history.specs.Sc.{Reservationless, FetchesSc}
+use Rattle.sc_history.specs.Since.{LeavesReserved, AllLeave, ReservedSince, Allows}
+use Rattle.sc_history.proofs.ScHistory.{held-exact, sc-stored-run, sc-failed-run}
+
+-- ---- one event
+
+module _ (base h : ℕ) (m : Machine) (v : Valid base m) (u : h < m .state .count) (e : Event) (a w : ℕ) where
+  spared : LeavesReserved base h m e a w → (n : Notice) → ComesFrom base m e n → Spares 64 h a w n
+  unfolding Spares
+  spared l N.Quiet c = tt
+  spared l (N.LoadReserved g b k) c = λ s. l .noLr b k (subst (λ (i : ℕ). RetiredLr base m e i b k) s c)
+  spared l (N.ScStored g b n) c = (own, λ t. l .noWrite g b n own (inr c) t)
+    where
+      own : g ≢ h
+      own s = l .noSc (subst (RetiredSc base m e) s (record { sc = c .sc; retires = c .retires; isSc = c .isSc }))
+  spared l (N.ScFailed g) c = λ s. l .noSc (subst (RetiredSc base m e) s (record { sc = c .sc; retires = c .retires; isSc = c .isSc }))
+  spared l (N.Write g b n) c = λ d t. l .noWrite g b n d (inl c) t
+  spared l (N.DeviceWrite b n) c = λ t. l .noDevice b n c t
+  spared l (N.Yield g) c = λ s. l .noYield (c .isYield ∙ ap Yield s)
+
+  module _ (s : Spares 64 h a w (noticeAt base m e)) where
+    spare : (n : Notice) → ComesFrom base m e n → Spares 64 h a w n
+    spare n c = subst (Spares 64 h a w) (notice-exact base m v e n .1 c) s
+
+    leaves : LeavesReserved base h m e a w
+    unfolding Spares
+    leaves =
+        record {
+          noLr = λ b n r. spare (N.LoadReserved h b n) r refl;
+          noSc = λ r. ⊎-elim (λ (c : (b : ℕ) × (n : ℕ) × StoredSc base m e h b n). spare (N.ScStored h (c .0) (c .1)) (c .2) .0 refl)
+              (λ (c : FailedSc base m e h). spare (N.ScFailed h) c refl) (sc-either base m v e h r);
+          noYield = λ q. subst (Spares 64 h a w) (ap (noticeAt base m) q ∙ notice-yield base m v h u) s refl;
+          noWrite = λ g b n d o t. go g b n d o t;
+          noDevice = λ b n c t. spare (N.DeviceWrite b n) c t;
+        }
+      where
+        go : (g b n : ℕ) → g ≢ h → HartWrites base m e g b n → Touch b n (setOf 64 a) 64 → ⊥
+        go g b n d (inl c) t = spare (N.Write g b n) c d t
+        go g b n d (inr c) t = spare (N.ScStored g b n) c .1 t
+
+  pub leaves-exact : LeavesReserved base h m e a w ↔ Spares 64 h a w (noticeAt base m e)
+  leaves-exact = (λ l. spared l (noticeAt base m e) (notice-exact base m v e (noticeAt base m e) .0 refl), leaves)
+
+-- ---- events one after another
+
+module _ (base h : ℕ) where
+  used-next : (m : Machine) (e : Event) → h < m .state .count → h < nextOf base m e .state .count
+  used-next m e u = subst (λ (k : ℕ). h < k) (sym (count-next base m e)) u
+
+  all-exact : (es : List Event) (m : Machine) → Valid base m → h < m .state .count → (a w : ℕ)
+      → AllLeave base h m es a w ↔ AllSpare 64 h a w (traceOf base m es)
+  unfolding traceOf
+  all-exact [] m v u a w = (λ x. x, λ x. x)
+  all-exact (e ∷ es) m v u a w =
+      let one = leaves-exact base h m v u e a w in
+      let more = all-exact es (nextOf base m e) (valid-next base m v e) (used-next m e u) a w in
+      (λ x. (one .0 (x .0), more .0 (x .1)), λ x. (one .1 (x .0), more .1 (x .1)))
+
+  trace-split : (before : List Event) (m : Machine) (e : Event) (since : List Event)
+      → traceOf base m (before ++ e ∷ since)
+      ≡ traceOf base m before ++ noticeAt base (runOf base m before) e ∷ traceOf base (nextOf base (runOf base m before) e) since
+  unfolding traceOf runOf
+  trace-split [] m e since = refl
+  trace-split (d ∷ before) m e since = ap (λ (l : List Notice). noticeAt base m d ∷ l) (trace-split before (nextOf base m d) e since)
+
+  -- where a trace is split, its events are
+  record Split (m : Machine) (es : List Event) (n : Notice) (rest : List Notice) : Type 0 where
+    before : List Event
+    event : Event
+    since : List Event
+    split : es ≡ before ++ event ∷ since
+    notice : noticeAt base (runOf base m before) event ≡ n
+    others : traceOf base (nextOf base (runOf base m before) event) since ≡ rest
+
+  split-of : (es : List Event) (m : Machine) (before : List Notice) (n : Notice) (rest : List Notice) → traceOf base m es ≡ before ++ n ∷ rest
+      → Split m es n rest
+  unfolding traceOf runOf
+  split-of [] m [] n rest q = absurd (let z : _≡_ {A = ℕ} 0 1 = cc in omega arith)
+  split-of [] m (b ∷ before) n rest q = absurd (let z : _≡_ {A = ℕ} 0 1 = cc in omega arith)
+  split-of (e ∷ es) m [] n rest q =
+      let first : noticeAt base m e ≡ n = cc in
+      let others : traceOf base (nextOf base m e) es ≡ rest = cc in
+      record { before = []; event = e; since = es; split = refl; notice = first; others = others }
+  split-of (e ∷ es) m (b ∷ before) n rest q =
+      let later : traceOf base (nextOf base m e) es ≡ before ++ n ∷ rest = cc in
+      let s : Split (nextOf base m e) es n rest = split-of es (nextOf base m e) before n rest later in
+      record {
+        before = e ∷ s .before;
+        event = s .event;
+        since = s .since;
+        split = ap (λ (l : List Event). e ∷ l) (s .split);
+        notice = s .notice;
+        others = s .others;
+      }
+
+module _ (base : ℕ) (m : Machine) (v : Valid base m) (h : ℕ) (u : h < m .state .count) (es : List Event) where
+  -- the machine after the event that the history is split at
+  module _ (before : List Event) (e : Event) where
+    valid-after : Valid base (nextOf base (runOf base m before) e)
+    valid-after = valid-next base (runOf base m before) (valid-run base m v before) e
+
+    used-after : h < nextOf base (runOf base m before) e .state .count
+    used-after = used-next base h (runOf base m before) e (subst (λ (k : ℕ). h < k) (sym (count-run base m before)) u)
+
+  -- Of a used hart: its history in terms of events is that of their notices.
+  pub reserved-exact : (a w : ℕ) → ReservedSince base h m es a w ↔ Reserved 64 h a w (traceOf base m es)
+  reserved-exact a w = (given, taken)
+    where
+      given : ReservedSince base h m es a w → Reserved 64 h a w (traceOf base m es)
+      given r =
+          let b = r .before in
+          let n = notice-exact base (runOf base m b) (valid-run base m v b) (r .event) (N.LoadReserved h a w) .1 (r .reserves) in
+          record {
+            before = traceOf base m b;
+            since = traceOf base (nextOf base (runOf base m b) (r .event)) (r .since);
+            split =
+                ap (traceOf base m) (r .split)
+                ∙ trace-split base h b m (r .event) (r .since)
+                ∙ ap (λ (k : Notice). traceOf base m b ++ k ∷ traceOf base (nextOf base (runOf base m b) (r .event)) (r .since)) n;
+            spared = all-exact base h (r .since) _ (valid-after b (r .event)) (used-after b (r .event)) a w .0 (r .kept);
+          }
+
+      taken : Reserved 64 h a w (traceOf base m es) → ReservedSince base h m es a w
+      taken r =
+          let s = split-of base h es m (r .before) (N.LoadReserved h a w) (r .since) (r .split) in
+          record {
+            before = s .before;
+            event = s .event;
+            since = s .since;
+            split = s .split;
+            reserves = notice-exact base (runOf base m (s .before)) (valid-run base m v (s .before)) (s .event) (N.LoadReserved h a w) .0 (s .notice);
+            kept = all-exact base h (s .since) _ (valid-after (s .before) (s .event)) (used-after (s .before) (s .event)) a w .1
+                (subst (AllSpare 64 h a w) (sym (s .others)) (r .spared));
+          }
+
+  pub allows-exact : (b n : ℕ) → Allows base h m es b n ↔ Since 64 h b n (traceOf base m es)
+  allows-exact b n = (
+    λ (s : Allows base h m es b n).
+        record { addr = s .addr; width = s .width; reserved = reserved-exact (s .addr) (s .width) .0 (s .reserved); inside = s .inside },
+    λ (s : Since 64 h b n (traceOf base m es)).
+        record { addr = s .addr; width = s .width; reserved = reserved-exact (s .addr) (s .width) .1 (s .reserved); inside = s .inside },
+  )
+
+-- Demand 2's sentence. A machine that 1 and 2 don't refuse, whose used harts hold no reservation; a used hart; any events.
+module _ (base : ℕ) (m : Machine) (v : Valid base m) (s : Shaped (m .state)) (free : Reservationless (m .state)) (h : ℕ) (u : h < m .state .count)
+    (es : List Event) where
+  -- The hart holds the reservation of w bytes at a exactly if its latest retired LR was of these and no event since then broke it.
+  pub held-since : (a w : ℕ) → (reservationOf (runOf base m es .state) h ≡ Held a w) ↔ ReservedSince base h m es a w
+  held-since a w =
+      let p = held-exact base m v s free h u es a w in
+      let q = reserved-exact base m v h u es a w in
+      (λ x. q .1 (p .0 x), λ x. p .1 (q .0 x))
+
+  module _ (sc : Atomic) (f : FetchesSc base (runOf base m es) h sc) (d : Traps (outcomeAt base (runOf base m es) (Step h)) → ⊥) where
+    -- An SC that doesn't trap succeeds exactly if the history since its hart's latest retired LR allows it,
+    pub stored-since : (outcomeAt base (runOf base m es) (Step h) ≡ ScStored)
+        ↔ Allows base h m es (atomicAddress (runOf base m es) h sc) (atomicSize sc)
+    stored-since =
+        let p = sc-stored-run base m v s free h u es sc f d in
+        let q = allows-exact base m v h u es (atomicAddress (runOf base m es) h sc) (atomicSize sc) in
+        (λ x. q .1 (p .0 x), λ x. p .1 (q .0 x))
+
+    -- and fails exactly if it doesn't.
+    pub failed-since : (outcomeAt base (runOf base m es) (Step h) ≡ ScFailed)
+        ↔ (Allows base h m es (atomicAddress (runOf base m es) h sc) (atomicSize sc) → ⊥)
+    failed-since =
+        let p = sc-failed-run base m v s free h u es sc f d in
+        let q = allows-exact base m v h u es (atomicAddress (runOf base m es) h sc) (atomicSize sc) in
+        (λ x y. p .0 x (q .0 y), λ x. p .1 (λ y. x (q .1 y)))
