@@ -36,7 +36,7 @@ atomicReach Cas w a = writes a (bytesOf w)
 atomicReach CasPair w a = writes a 16
 atomicReach (Rmw op) w a = writes a (bytesOf w)
 
--- x gives the hart's registers; holdsOf says whether a branch is taken, and even clears the lowest bit of JALR's target
+-- x gives the hart's registers; holdsOf says whether a branch is taken, and clearBit0 clears the lowest bit of JALR's target
 abbrev pub reachOf : Instr → (ℕ → ℕ) → ℕ → Reach
 reachOf (Jal rd imm) x pc = jumps (offset 64 pc imm)
 reachOf (Jalr rd rs1 imm) x pc = jumps (clearBit0 (offset 64 (x rs1) imm))

@@ -8,7 +8,7 @@ use Rattle.machine.specs.Rules.{MemoryRules, StateRules}
 use Rattle.machine.specs.declared.State.{State}
 use Rattle.events.specs.Rules.{WrongEvents}
 
--- The row of this number applies, at this place. 1 and 2 are outcomeOf with the place 0.
+-- The row of this number applies, at this place. 1 and 2 are told with the place 0.
 pub data RunRow (base : ℕ) (mem : List ℕ) (s : State) (body : List ℕ) (number place : ℕ) : Type 0 where
   wrongMemory : number ≡ 1 → place ≡ 0 → (MemoryRules base (length mem) → ⊥) → RunRow base mem s body number place
   wrongState : number ≡ 2 → place ≡ 0 → (StateRules base (length mem) s → ⊥) → RunRow base mem s body number place

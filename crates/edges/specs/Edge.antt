@@ -28,11 +28,11 @@ pub data Register : Type 0 where
   x_is_ : ℕ → ℕ → Register
 
 pub data Edge : Type 0 where
-  -- a block of words is outcomeAt so by the loop checker
+  -- a block of words is answered so by the loop checker
   checks : List ℕ → LoopAnswer → Edge
   -- a word is this instruction
   decodes : ℕ → Instr → Edge
-  -- a hart with these words from address 0 on, these registers and these bytes in memory, and no reservation: the events are outcomeAt so, and
+  -- a hart with these words from address 0 on, these registers and these bytes in memory, and no reservation: the events are answered so, and
   -- leave these registers and these bytes
   runs : List ℕ → List Register → List Bytes → List Event → List Outcome → List Register → List Bytes → Edge
 

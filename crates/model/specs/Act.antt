@@ -1,4 +1,4 @@
--- What an event comes to: decided once, and then outcomeOf and applied. Both what is outcomeOf and what changes are read off the decision.
+-- What an event comes to: decided once, and then told and applied. Both the answer and what changes are read off the decision.
 use Prim.Native.Nat.{ℕ, _+_, _-_, _*_, _%_}
 use mathlib.Core.Bool.{cond}
 use mathlib.Core.List.{List}

@@ -45,7 +45,7 @@ use Rattle.notices.specs.Notices.{scNotice, atomicNotice, noticeBy}
 -- ---- the notice of each instruction
 
 module _ (h : ℕ) where
-  -- if it retires, the notice is what is outcomeOf of it, by its answer
+  -- if it retires, the notice is what is told of it, by its answer
   Tells : (Outcome → Notice) → Exec → Type 0
   Tells n e = (Traps (outcomeOf (ofExec h e)) → ⊥) → actNotice (ofExec h e) ≡ n (outcomeOf (ofExec h e))
 
