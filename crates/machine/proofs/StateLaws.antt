@@ -71,7 +71,20 @@ module _ (base len : ℕ) where
           rw (le-leb 1 (s .count) (r .0), le-leb (s .count) 8 (r .1), all-intro (hartAt base len s) (s .count) (λ k h. hart-exact k .1 (r .2 k h))),
     )
 
-    -- refusal 1 is given exactly when the memory breaks its rules, 2 when the state does and the memory doesn't, and none otherwise
+    -- no refusal is given exactly when memory and state keep their rules, refusal 1 when the memory breaks its own, and 2 when the state does and the
+    -- memory doesn't
+    pub refusal-0 : (refusalOf base len s ≡ 0) ↔ (MemoryRules base len × StateRules base len s)
+    unfolding refusalOf
+    refusal-0 = (
+      λ e.
+          bool-cases (memoryOk base len)
+          (λ m.
+          bool-cases (stateOk base len s) (λ t. (memory-exact .0 m, state-exact .0 t))
+          (λ t. let z : _≡_ {A = ℕ} 2 0 = rw (m, t) at e in absurd (omega arith)))
+          (λ m. let z : _≡_ {A = ℕ} 1 0 = rw m at e in absurd (omega arith)),
+      λ r. rw (memory-exact .1 (r .0), state-exact .1 (r .1)) refl,
+    )
+
     pub refusal-1 : (refusalOf base len s ≡ 1) ↔ (MemoryRules base len → ⊥)
     unfolding refusalOf
     refusal-1 = (λ e r. absurd (go (stateOk base len s) (memory-exact .1 r) e), λ n. bool-cases (memoryOk base len) (λ t. absurd (n (memory-exact .0 t))) (λ f. rw f))
@@ -88,16 +101,4 @@ module _ (base len : ℕ) where
           (λ m. (memory-exact .0 m, λ r. let z : _≡_ {A = ℕ} 0 2 = rw (m, state-exact .1 r) at e in omega arith))
           (λ m. let z : _≡_ {A = ℕ} 1 2 = rw m at e in absurd (omega arith)),
       λ r. rw (memory-exact .1 (r .0)) (bool-cases (stateOk base len s) (λ t. absurd (r .1 (state-exact .0 t))) (λ f. rw f)),
-    )
-
-    pub refusal-0 : (refusalOf base len s ≡ 0) ↔ (MemoryRules base len × StateRules base len s)
-    unfolding refusalOf
-    refusal-0 = (
-      λ e.
-          bool-cases (memoryOk base len)
-          (λ m.
-          bool-cases (stateOk base len s) (λ t. (memory-exact .0 m, state-exact .0 t))
-          (λ t. let z : _≡_ {A = ℕ} 2 0 = rw (m, t) at e in absurd (omega arith)))
-          (λ m. let z : _≡_ {A = ℕ} 1 0 = rw m at e in absurd (omega arith)),
-      λ r. rw (memory-exact .1 (r .0), state-exact .1 (r .1)),
     )
