@@ -201,7 +201,7 @@ module _ (base : ℕ) (mem : List ℕ) (s : State) where
         ap outcomeOf q ∙ ap O.Refused (first-same (RefusalRow base mem s e) m n (f .applies) (f .first) (g .applies) (g .first))
     taken (passes q f) n g = absurd (f n (g .applies))
 
-    -- 01: each number is "given exactly when" its row applies, "in the order they are tried"; no other number is given
+    -- 01: each number is "Given exactly when" its row applies, "in the order they are tried"; no other number is given
     pub refused-exact : (number : ℕ) → (answerOf base mem s e .outcome ≡ O.Refused number) ↔ FirstRefusal base mem s e number
     refused-exact n = (given (decided e) n, taken (decided e) n)
 

@@ -62,7 +62,7 @@ module _ (i : Instr) (word : ℕ) (x : ℕ → ℕ) (pc base : ℕ) (mem : List 
     unfetched : place ≡ 1 → cause ≡ 1 → value ≡ pc → (Inside base (length mem) pc 4 → ⊥) → TrapRow place cause value
     -- "2 | the word is none of the words below | the word"
     unknown : place ≡ 2 → cause ≡ 2 → value ≡ word → i ≡ Illegal → TrapRow place cause value
-    -- "8, 3 | ECALL, EBREAK | 0"
+    -- "8, 3 | ECALL (0x00000073), EBREAK (0x00100073) | 0"
     called : place ≡ 3 → cause ≡ 8 → value ≡ 0 → i ≡ Ecall → TrapRow place cause value
     halted : place ≡ 3 → cause ≡ 3 → value ≡ 0 → i ≡ Ebreak → TrapRow place cause value
     -- "0 | JAL, JALR or a taken branch to a target that isn't a multiple of 4 | target"

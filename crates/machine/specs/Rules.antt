@@ -18,7 +18,7 @@ abbrev pub ReservationRules : ℕ → ℕ → Reservation → Type 0
 ReservationRules base len None = Unit {0}
 ReservationRules base len (Held a w) = ((w ≡ 4) ⊎ (w ≡ 8)) × (a % w ≡ 0) × Inside base len a w
 
--- "x0 zero, a pc that is a multiple of 4": hart k
+-- "x0 zero .. a pc that is a multiple of 4": hart k
 abbrev pub HartRules : ℕ → ℕ → State → ℕ → Type 0
 HartRules base len s k =
     (getD (s .x) (k * 32) 0 ≡ 0) × (getD (s .pc) k 0 % 4 ≡ 0) × ReservationRules base len (getD (s .res) k (slot None) .reservation)

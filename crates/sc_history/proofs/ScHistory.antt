@@ -156,7 +156,7 @@ module _ (base : ℕ) (m : Machine) (v : Valid base m) (s : Shaped (m .state)) (
   covered-exact a n =
       subst (λ (r : Reservation). (coversOf 64 r a n ≡ true) ↔ Since 64 h a n (traceOf base m es)) (sym after) (sc-exact 64 h a n (traceOf base m es))
 
-  -- 01: "from a start without reservations an SC that doesn't trap succeeds exactly if the history since its hart's latest retired LR allows it":
+  -- Demand 2: "from a start without reservations an SC that doesn't trap succeeds exactly if the history since its hart's latest retired LR allows it":
   -- it stores, or it fails, exactly if the set around that LR's address has all its bytes and nothing since then broke the reservation, or not.
   module _ (sc : Atomic) (f : FetchesSc base (runOf base m es) h sc) (d : Traps (outcomeAt base (runOf base m es) (Step h)) → ⊥) where
     used : h < runOf base m es .state .count
