@@ -68,7 +68,7 @@ module _ (base : ℕ) (mem : List ℕ) (s : State) (P : Act → Type 0) (refused
 
 -- ---- the arrays of a state
 
-length-setReg : (h r v : ℕ) (x : List ℕ) → length (setReg h r v x) ≡ length x
+pub length-setReg : (h r v : ℕ) (x : List ℕ) → length (setReg h r v x) ≡ length x
 unfolding setReg
 length-setReg h r v x = bool-cases (eqb (r % 32) 0) (λ t. rw t) (λ f. rw (f, length-set))
 

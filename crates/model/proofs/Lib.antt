@@ -2,3 +2,4 @@
 pub mod Valid
 pub mod AdvanceLaws
 pub mod Frame
+pub mod Agree

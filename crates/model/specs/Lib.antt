@@ -7,3 +7,4 @@ pub mod Advance
 pub mod Trace
 pub mod Fetch
 pub mod Retired
+pub mod Agree
