@@ -15,7 +15,8 @@ whoOf (Step h) = ascii "h" ++ decimalOf h
 whoOf (Device a n v) = ascii "d"
 whoOf (Yield h) = ascii "y" ++ decimalOf h
 
--- what came of it. 01: "The line of a trap ends in `trap`, the cause, and the value in 16 lower-case hex digits"
+-- what came of it. 01: "The line of a trap ends in `trap`, the cause, and the value in 16 lower-case hex digits". The form ` refused N` never shows in a
+-- report: no event of a case that is read is refused (report/proofs/NoRefusal: no-refused-line).
 abbrev pub saidOf : Outcome → List ℕ
 saidOf Retired = ascii " ok"
 saidOf ScStored = ascii " sc 0"

@@ -1,2 +1,3 @@
 -- The report of a case.
 pub mod Report
+pub mod NoRefusal
