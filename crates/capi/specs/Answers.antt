@@ -5,7 +5,7 @@ use mathlib.Core.List.{List}
 use Prim.Native.Nat.{ℕ, _+_, _*_, _/_, _%_, _≤_, _<_}
 use lib.Dec.{eqb}
 use lib.ListN.{length, take, drop}
-use Rattle.retry.specs.Loop.{checkOf, wordsOf}
+use Rattle.retry.specs.Loop.{loopRefusal, checkOf, wordsOf}
 use Rattle.retry.specs.declared.LoopAnswer.{LoopAnswer}
 use Rattle.retry.specs.declared.LoopAnswer.the-variants.{Accepted, Rejected, Refused}
 use Rattle.report.specs.Report.{reportOf}
@@ -25,11 +25,12 @@ pub record Reported (file before after : List ℕ) (r : ℕ) : Type 0 where
   pub large : room ≤ length before
       → (r ≡ length (reportOf file)) × (r ≤ room) × (take r after ≡ reportOf file) × (drop room after ≡ drop room before)
 
--- an answer of the checker of retry loops as a number
+-- An answer of the checker of retry loops as a number. 01: "If the answer is an enum, a definition provides this paper's number and values for each of
+-- its cases. The promises use that definition." The numbers are those of loopRefusal, and a rejection's place and reason are put into one number.
 abbrev pub loopNumber : LoopAnswer → ℕ
-loopNumber Accepted = 0
+loopNumber Accepted = loopRefusal Accepted
 loopNumber (Rejected place reason) = 256 * (place + 1) + reason
-loopNumber Refused = 6
+loopNumber Refused = loopRefusal Refused
 
 -- what floecavern_check_loop answers to the bytes of a block's words
 unfoldable pub loopAnswer : List ℕ → ℕ
