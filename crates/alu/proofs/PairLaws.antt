@@ -12,15 +12,15 @@ use Rattle.word.specs.Memory.{part, splice}
 use Rattle.word.proofs.MemoryLaws.{length-splice}
 use Rattle.word.proofs.BytesLaws.{le-append, toLe-append, length-toLe}
 
--- the halves a and b of a number, each below m
+-- the halves a and b of a number, a below m
 module _ (m a b : ℕ) (h : a < m) where
   turned : a + m * b ≡ b * m + a
   turned = add-comm a (m * b) ∙ ap (λ (x : ℕ). x + a) (mul-comm m b)
 
-  low-half : (a + m * b) % m ≡ a
+  pub low-half : (a + m * b) % m ≡ a
   low-half = ap (λ (x : ℕ). x % m) turned ∙ digits-mod b h
 
-  high-half : (a + m * b) / m ≡ b
+  pub high-half : (a + m * b) / m ≡ b
   high-half = ap (λ (x : ℕ). x / m) turned ∙ digits-div b h
 
 -- one number has one pair of halves

@@ -1,6 +1,6 @@
 -- A run is refused exactly by the rows of 01, the first that applies, at the lowest place where it does. Assumes nothing.
 use Prim.Native.Nat.{ℕ, _≤_, _<_}
-use mathlib.Core.Path.{_≡_, refl, sym, _∙_, ap, ap₂}
+use mathlib.Core.Path.{_≡_, refl, ap, subst}
 use mathlib.Core.Logic.{_↔_}
 use mathlib.Core.List.{List}
 use native.Mathlib.Omega.{arith}
@@ -16,6 +16,7 @@ use Rattle.events.specs.Rules.{WrongEvents, NoneWrong}
 use Rattle.events.specs.declared.Checked.{Checked}
 use Rattle.events.specs.declared.Checked.the-variants.{Good, Bad}
 use Rattle.events.proofs.RuleLaws as E
+use Rattle.events.proofs.RowLaws as R
 use Rattle.model.specs.Perform.{runOf}
 use Rattle.model.specs.Run.{Result, refusedRun, performedRun, performedCount, resultOf}
 use Rattle.model.specs.declared.Verdict.{Verdict}
@@ -61,19 +62,20 @@ module _ (base : ℕ) (mem : List ℕ) (s : State) (body : List ℕ) where
 
   -- one number and one place
   pub run-refused-one : (m p n q : ℕ) → RunRefused base mem s body m p → RunRefused base mem s body n q → (m ≡ n) × (p ≡ q)
-  run-refused-one m p n q a b =
-      E.one-row (RunRow base mem s body) m p n q (a .applies) (a .first) (a .lowest) (b .applies) (b .first) (b .lowest)
+  run-refused-one = R.one-row (RunRow base mem s body)
 
   module _ (budget : ℕ) where
-    -- what a run gives that is performed
+    -- what a run gives that is performed, and one that is refused
     abbrev pub performs : Result
     performs =
         performedRun (performedCount body budget) (runOf base (record { state = s; mem = mem }) (take (performedCount body budget) (eventsOf body)))
 
+    abbrev refused : ℕ → ℕ → Result
+    refused number place = refusedRun number place s mem
+
     -- refused by the first row that applies, at the lowest place, or performed
-    data Decided : Type 0 where
-      refuses : (n p : ℕ) → resultOf base mem s body budget ≡ refusedRun n p s mem → RunRefused base mem s body n p → Decided
-      passes : resultOf base mem s body budget ≡ performs → RunUnrefused base mem s body → Decided
+    abbrev Decided : Type 0
+    Decided = R.Decided (RunRow base mem s body) (resultOf base mem s body budget) refused performs
 
     early : (n : ℕ) → 0 < n → refusalOf base (length mem) s ≡ n → resultOf base mem s body budget ≡ refusedRun n 0 s mem
     unfolding resultOf
@@ -84,7 +86,7 @@ module _ (base : ℕ) (mem : List ℕ) (s : State) (body : List ℕ) where
     unfolding resultOf
     by-body m r (Bad p) e =
         let w = E.bad-exact (s .count) base (length mem) body p .0 e in
-        refuses 11 p (rw (refusal-0 base (length mem) s .1 (m, r), e))
+        R.refuses 11 p (rw (refusal-0 base (length mem) s .1 (m, r), e))
         (record {
           applies = wrongBody refl (w .wrong);
           first = none-below 11 (λ l. m) (λ l. r) (λ l. absurd (omega arith));
@@ -92,7 +94,7 @@ module _ (base : ℕ) (mem : List ℕ) (s : State) (body : List ℕ) where
         })
     by-body m r Good e =
         let w = E.good-exact (s .count) base (length mem) body .0 e in
-        passes (rw (refusal-0 base (length mem) s .1 (m, r), e))
+        R.accepts (rw (refusal-0 base (length mem) s .1 (m, r), e))
         (λ k p v. none-below 12 (λ l. m) (λ l. r) (λ l. w) k p (omega (arith, most k p v)) v)
 
     decided : Decided
@@ -104,7 +106,7 @@ module _ (base : ℕ) (mem : List ℕ) (s : State) (body : List ℕ) where
         (λ u. by-body m (state-exact base (length mem) s .0 u) (checkedOf (s .count) base (length mem) body) refl)
         (λ u.
         let bad : StateRules base (length mem) s → ⊥ = λ r. contrary (state-exact base (length mem) s .1 r) u in
-        refuses 2 0 (early 2 (omega arith) (refusal-2 base (length mem) s .1 (m, bad)))
+        R.refuses 2 0 (early 2 (omega arith) (refusal-2 base (length mem) s .1 (m, bad)))
         (record {
           applies = wrongState refl refl bad;
           first = none-below 2 (λ l. m) (λ l. absurd (omega arith)) (λ l. absurd (omega arith));
@@ -112,7 +114,7 @@ module _ (base : ℕ) (mem : List ℕ) (s : State) (body : List ℕ) where
         })))
         (λ t.
         let bad : MemoryRules base (length mem) → ⊥ = λ r. contrary (memory-exact base (length mem) .1 r) t in
-        refuses 1 0 (early 1 (omega arith) (refusal-1 base (length mem) s .1 bad))
+        R.refuses 1 0 (early 1 (omega arith) (refusal-1 base (length mem) s .1 bad))
         (record {
           applies = wrongMemory refl refl bad;
           first = none-below 1 (λ l. absurd (omega arith)) (λ l. absurd (omega arith)) (λ l. absurd (omega arith));
@@ -121,46 +123,36 @@ module _ (base : ℕ) (mem : List ℕ) (s : State) (body : List ℕ) where
 
     -- ---- both ways
 
-    refused-given : Decided → (n p : ℕ) → resultOf base mem s body budget .ran .verdict ≡ Refused n p → RunRefused base mem s body n p
-    refused-given (refuses m q c r) n p o =
-        let e : Refused m q ≡ Refused n p = ap verdictIn (sym c) ∙ o in
-        let a : m ≡ n = ap numberIn e in
-        let b : q ≡ p = ap placeIn e in
-        rw (← a, ← b) r
-    refused-given (passes c u) n p o =
-        let z : _≡_ {A = ℕ} 0 1 = ap refusals (ap verdictIn (sym c) ∙ o) in
-        absurd (omega (arith, z))
+    -- 01: "a refused run reports 0 performed"; the state and the memory are as given
+    pub run-refused-keeps : (number place : ℕ) → RunRefused base mem s body number place
+        → resultOf base mem s body budget ≡ refusedRun number place s mem
+    run-refused-keeps = R.refused-by (RunRow base mem s body) (resultOf base mem s body budget) refused performs decided
 
-    refused-taken : Decided → (n p : ℕ) → RunRefused base mem s body n p → resultOf base mem s body budget ≡ refusedRun n p s mem
-    refused-taken (refuses m q c r) n p g =
-        let one = run-refused-one m q n p r g in
-        c ∙ ap₂ (λ (i j : ℕ). refusedRun i j s mem) (one .0) (one .1)
-    refused-taken (passes c u) n p g = absurd (u n p (g .applies))
+    -- 01: "the smaller of the budget and the number of events; the state is the one after exactly that many"
+    pub run-performed-gives : RunUnrefused base mem s body → resultOf base mem s body budget ≡ performs
+    run-performed-gives = R.accepted-by (RunRow base mem s body) (resultOf base mem s body budget) refused performs decided
 
-    performed-given : Decided → resultOf base mem s body budget .ran .verdict ≡ Performed → RunUnrefused base mem s body
-    performed-given (refuses m q c r) o =
-        let z : _≡_ {A = ℕ} 1 0 = ap refusals (ap verdictIn (sym c) ∙ o) in
-        absurd (omega (arith, z))
-    performed-given (passes c u) o = u
+    row-of : refusals (verdictIn (resultOf base mem s body budget)) ≡ 1
+        → RunRefused base mem s body (numberIn (verdictIn (resultOf base mem s body budget))) (placeIn (verdictIn (resultOf base mem s body budget)))
+    row-of =
+        R.row-of (RunRow base mem s body) (resultOf base mem s body budget) refused performs (λ (r : Result). refusals (verdictIn r))
+        (λ (r : Result). numberIn (verdictIn r)) (λ (r : Result). placeIn (verdictIn r)) (λ n p. refl) refl (λ n p. refl) (λ n p. refl) decided
 
-    performed-taken : Decided → RunUnrefused base mem s body → resultOf base mem s body budget ≡ performs
-    performed-taken (refuses m q c r) u = absurd (u m q (r .applies))
-    performed-taken (passes c _) u = c
+    no-row-of : refusals (verdictIn (resultOf base mem s body budget)) ≡ 0 → RunUnrefused base mem s body
+    no-row-of =
+        R.no-row-of (RunRow base mem s body) (resultOf base mem s body budget) refused performs (λ (r : Result). refusals (verdictIn r))
+        (λ (r : Result). numberIn (verdictIn r)) (λ (r : Result). placeIn (verdictIn r)) (λ n p. refl) refl (λ n p. refl) (λ n p. refl) decided
 
     -- 01: a run is refused by this number at this place exactly if its row is the first that applies, and this the lowest place where it does
     pub run-refused-exact : (number place : ℕ)
         → (resultOf base mem s body budget .ran .verdict ≡ Refused number place) ↔ RunRefused base mem s body number place
-    run-refused-exact n p = (refused-given decided n p, λ r. ap verdictIn (refused-taken decided n p r))
+    run-refused-exact n p = (
+      λ o.
+          subst (RunRefused base mem s body n) (ap placeIn o)
+          (subst (λ (k : ℕ). RunRefused base mem s body k (placeIn (verdictIn (resultOf base mem s body budget)))) (ap numberIn o) (row-of (ap refusals o))),
+      λ r. ap verdictIn (run-refused-keeps n p r),
+    )
 
     -- and is performed exactly if none applies
     pub run-performed-exact : (resultOf base mem s body budget .ran .verdict ≡ Performed) ↔ RunUnrefused base mem s body
-    run-performed-exact = (performed-given decided, λ u. ap verdictIn (performed-taken decided u))
-
-    -- 01: "a refused run reports 0 performed"; the state and the memory are as given
-    pub run-refused-keeps : (number place : ℕ) → RunRefused base mem s body number place
-        → resultOf base mem s body budget ≡ refusedRun number place s mem
-    run-refused-keeps n p r = refused-taken decided n p r
-
-    -- 01: "the smaller of the budget and the number of events; the state is the one after exactly that many"
-    pub run-performed-gives : RunUnrefused base mem s body → resultOf base mem s body budget ≡ performs
-    run-performed-gives u = performed-taken decided u
+    run-performed-exact = (λ o. no-row-of (ap refusals o), λ u. ap verdictIn (run-performed-gives u))

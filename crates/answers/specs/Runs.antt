@@ -6,6 +6,7 @@ use mathlib.Core.List.{List}
 use lib.ListN.{length}
 use Rattle.machine.specs.Rules.{MemoryRules, StateRules}
 use Rattle.machine.specs.declared.State.{State}
+use Rattle.events.specs.Rows.{FirstRow, NoRow}
 use Rattle.events.specs.Rules.{WrongEvents}
 
 -- The row of this number applies, at this place. 1 and 2 are told with the place 0.
@@ -15,11 +16,9 @@ pub data RunRow (base : ℕ) (mem : List ℕ) (s : State) (body : List ℕ) (num
   wrongBody : number ≡ 11 → WrongEvents (s .count) base (length mem) body place → RunRow base mem s body number place
 
 -- the row applies at this place, no earlier row applies anywhere, and it applies at no lower place
-pub record RunRefused (base : ℕ) (mem : List ℕ) (s : State) (body : List ℕ) (number place : ℕ) : Type 0 where
-  pub applies : RunRow base mem s body number place
-  pub first : (k p : ℕ) → k < number → RunRow base mem s body k p → ⊥
-  pub lowest : (p : ℕ) → p < place → RunRow base mem s body number p → ⊥
+abbrev pub RunRefused : ℕ → List ℕ → State → List ℕ → ℕ → ℕ → Type 0
+RunRefused base mem s body = FirstRow (RunRow base mem s body)
 
 -- no row applies
 abbrev pub RunUnrefused : ℕ → List ℕ → State → List ℕ → Type 0
-RunUnrefused base mem s body = (number place : ℕ) → RunRow base mem s body number place → ⊥
+RunUnrefused base mem s body = NoRow (RunRow base mem s body)

@@ -1,5 +1,5 @@
 -- A file is refused exactly by the rows of 01, the first that applies, at the lowest place where it does. Assumes nothing.
-use mathlib.Core.Path.{_≡_, refl, sym, ap, ap₂, _∙_}
+use mathlib.Core.Path.{_≡_, refl, sym, ap, ap₂, _∙_, subst}
 use mathlib.Core.Logic.{_↔_}
 use mathlib.Core.Bool.{true, false}
 use mathlib.Core.List.{List}
@@ -16,6 +16,7 @@ use Rattle.events.specs.Rules.{WrongEvents}
 use Rattle.events.specs.declared.Checked.{Checked}
 use Rattle.events.specs.declared.Checked.the-variants.{Good, Bad}
 use Rattle.events.proofs.RuleLaws as E
+use Rattle.events.proofs.RowLaws as R
 use Rattle.casefile.specs.Table.{fieldAt, entryOf, tableOf}
 use Rattle.casefile.specs.Harts.{baseOf, countOf, hartsOk, HartsRules}
 use Rattle.casefile.specs.Case.{refusedCase, lengthOk, bodiesOf, partsOf, caseOf}
@@ -226,15 +227,14 @@ module _ (file : List ℕ) where
   not-below n p f q l r = omega (arith, f q r, l)
 
   -- refused by the first row that applies, at the lowest place, or read
-  data Decided : Type 0 where
-    refuses : (n p : ℕ) → caseOf file ≡ refusedCase n p → RefusedBy file n p → Decided
-    accepts : caseOf file ≡ caseIn file → UnrefusedFile file → Decided
+  abbrev Decided : Type 0
+  Decided = R.Decided (FileRow file) (caseOf file) refusedCase (caseIn file)
 
   module _ (sized : FileRules (length file)) where
     refused-8 : (p : ℕ) → tableOf file ≡ Refused 8 p → WrongField file p → ((q : ℕ) → WrongField file q → p ≤ q) → Decided
     unfolding caseOf
     refused-8 p t w f =
-        refuses 8 p (ap (partsOf file) t)
+        R.refuses 8 p (ap (partsOf file) t)
         (record {
           applies = badTable refl w;
           first = none-below 8 (λ l. sized) (λ l. absurd (omega arith)) (λ l. absurd (omega arith)) (λ l. absurd (omega arith)) (λ l. absurd (omega arith));
@@ -268,7 +268,7 @@ module _ (file : List ℕ) where
       unfolding bodiesOf
       refused-9 h =
           let e : refusedCase 9 40 ≡ refusedCase 9 (fieldAt file 8) = ap (refusedCase 9) (sym (r .start)) in
-          refuses 9 (fieldAt file 8) (case-bodies ∙ rw h e)
+          R.refuses 9 (fieldAt file 8) (case-bodies ∙ rw h e)
           (record {
             applies = badHarts refl refl (λ ok. contrary (harts-exact (hartsIn file) .1 ok) h);
             first = none-below 9 (λ l. sized) (λ l. r .none) (λ l. absurd (omega arith)) (λ l. absurd (omega arith)) (λ l. absurd (omega arith));
@@ -278,7 +278,7 @@ module _ (file : List ℕ) where
       refused-10 : hartsOk (hartsIn file) ≡ true → lengthOk (length (memoryIn file)) ≡ false → Decided
       unfolding bodiesOf
       refused-10 h l =
-          refuses 10 (fieldAt file 20) (case-bodies ∙ rw (h, l))
+          R.refuses 10 (fieldAt file 20) (case-bodies ∙ rw (h, l))
           (record {
             applies = badMemoryLength refl refl (λ ok. contrary (length-exact (length (memoryIn file)) .1 ok) l);
             first = none-below 10 (λ l. sized) (λ l. r .none) (λ l. harts-exact (hartsIn file) .0 h) (λ l. absurd (omega arith)) (λ l. absurd (omega arith));
@@ -290,7 +290,7 @@ module _ (file : List ℕ) where
       unfolding bodiesOf
       by-events h l (Bad p) e =
           let w = E.bad-exact (countOf (hartsIn file)) (baseOf (hartsIn file)) (length (memoryIn file)) (eventsIn file) p .0 e in
-          refuses 11 (fieldAt file 32 + p) (case-bodies ∙ rw (h, l, e) refl)
+          R.refuses 11 (fieldAt file 32 + p) (case-bodies ∙ rw (h, l, e) refl)
           (record {
             applies = badEvents refl p refl (w .wrong);
             first = none-below 11 (λ z. sized) (λ z. r .none) (λ z. harts-exact (hartsIn file) .0 h) (λ z. length-exact (length (memoryIn file)) .0 l) (λ z. absurd (omega arith));
@@ -298,7 +298,7 @@ module _ (file : List ℕ) where
           })
       by-events h l Good e =
           let f = E.good-exact (countOf (hartsIn file)) (baseOf (hartsIn file)) (length (memoryIn file)) (eventsIn file) .0 e in
-          accepts (case-bodies ∙ rw (h, l, e))
+          R.accepts (case-bodies ∙ rw (h, l, e))
           (λ k q row.
           none-below 12 (λ z. sized) (λ z. r .none) (λ z. harts-exact (hartsIn file) .0 h) (λ z. length-exact (length (memoryIn file)) .0 l) (λ z. f) k q
           (omega (arith, numbered k q row .1)) row)
@@ -315,7 +315,7 @@ module _ (file : List ℕ) where
   by-table : Listed file → Decided
   unfolding caseOf
   by-table (unsized t w) =
-      refuses 7 0 (ap (partsOf file) t)
+      R.refuses 7 0 (ap (partsOf file) t)
       (record {
         applies = badLength refl refl w;
         first = none-below 7 (λ l. absurd (omega arith)) (λ l. absurd (omega arith)) (λ l. absurd (omega arith)) (λ l. absurd (omega arith)) (λ l. absurd (omega arith));
@@ -327,7 +327,7 @@ module _ (file : List ℕ) where
   decided : Decided
   decided = by-table (listed file)
 
--- ---- a refusal has one number and one place
+-- ---- both ways
 
 abbrev refusals : Found → ℕ
 refusals (Refused number place) = 1
@@ -348,52 +348,39 @@ lastIn (Bodies m e) = e
 
 module _ (file : List ℕ) where
   pub refused-one : (m p n q : ℕ) → RefusedBy file m p → RefusedBy file n q → (m ≡ n) × (p ≡ q)
-  refused-one m p n q a b =
-      E.one-row (FileRow file) m p n q (a .applies) (a .first) (a .lowest) (b .applies) (b .first) (b .lowest)
+  refused-one = R.one-row (FileRow file)
 
-  given : Decided file → (n p : ℕ) → caseOf file .found ≡ Refused n p → RefusedBy file n p
-  given (refuses m q c r) n p o =
-      let e : Refused m q ≡ Refused n p = ap (λ (k : Case). k .found) (sym c) ∙ o in
-      let a : m ≡ n = ap numberIn e in
-      let b : q ≡ p = ap firstIn e in
-      rw (← a, ← b) r
-  given (accepts c u) n p o =
-      let z : _≡_ {A = ℕ} 0 1 = ap refusals (ap (λ (k : Case). k .found) (sym c) ∙ o) in
-      absurd (omega (arith, z))
+  -- base and state are zero of a refused file, and else what the harts body says
+  pub refused-case : (number place : ℕ) → RefusedBy file number place → caseOf file ≡ refusedCase number place
+  refused-case = R.refused-by (FileRow file) (caseOf file) refusedCase (caseIn file) (decided file)
 
-  taken : Decided file → (n p : ℕ) → RefusedBy file n p → caseOf file ≡ refusedCase n p
-  taken (refuses m q c r) n p g =
-      let one = refused-one m q n p r g in
-      c ∙ ap₂ refusedCase (one .0) (one .1)
-  taken (accepts c u) n p g = absurd (u n p (g .applies))
+  pub accepted-case : UnrefusedFile file → caseOf file ≡ caseIn file
+  accepted-case = R.accepted-by (FileRow file) (caseOf file) refusedCase (caseIn file) (decided file)
 
-  read : Decided file → (m e : ℕ) → caseOf file .found ≡ Bodies m e → (m ≡ fieldAt file 20) × (e ≡ fieldAt file 32) × UnrefusedFile file
-  read (refuses n q c r) m e o =
-      let z : _≡_ {A = ℕ} 1 0 = ap refusals (ap (λ (k : Case). k .found) (sym c) ∙ o) in
-      absurd (omega (arith, z))
-  read (accepts c u) m e o =
-      let f : Bodies (fieldAt file 20) (fieldAt file 32) ≡ Bodies m e = ap (λ (k : Case). k .found) (sym c) ∙ o in
-      (sym (ap firstIn f), sym (ap lastIn f), u)
+  row-of : refusals (caseOf file .found) ≡ 1 → RefusedBy file (numberIn (caseOf file .found)) (firstIn (caseOf file .found))
+  row-of =
+      R.row-of (FileRow file) (caseOf file) refusedCase (caseIn file) (λ (c : Case). refusals (c .found)) (λ (c : Case). numberIn (c .found))
+      (λ (c : Case). firstIn (c .found)) (λ n p. refl) refl (λ n p. refl) (λ n p. refl) (decided file)
 
-  kept : Decided file → UnrefusedFile file → caseOf file ≡ caseIn file
-  kept (refuses n q c r) u = absurd (u n q (r .applies))
-  kept (accepts c _) u = c
+  no-row-of : refusals (caseOf file .found) ≡ 0 → UnrefusedFile file
+  no-row-of =
+      R.no-row-of (FileRow file) (caseOf file) refusedCase (caseIn file) (λ (c : Case). refusals (c .found)) (λ (c : Case). numberIn (c .found))
+      (λ (c : Case). firstIn (c .found)) (λ n p. refl) refl (λ n p. refl) (λ n p. refl) (decided file)
 
   -- 01: a file is refused by this number at this place exactly if its row is the first that applies, and this the lowest place where it does
   pub refused-exact : (number place : ℕ) → (caseOf file .found ≡ Refused number place) ↔ RefusedBy file number place
-  refused-exact n p = (given (decided file) n p, λ r. ap (λ (k : Case). k .found) (taken (decided file) n p r))
+  refused-exact n p = (
+    λ o. subst (RefusedBy file n) (ap firstIn o) (subst (λ (k : ℕ). RefusedBy file k (firstIn (caseOf file .found))) (ap numberIn o) (row-of (ap refusals o))),
+    λ r. ap (λ (c : Case). c .found) (refused-case n p r),
+  )
+
+  read : (m e : ℕ) → caseOf file .found ≡ Bodies m e → (m ≡ fieldAt file 20) × (e ≡ fieldAt file 32) × UnrefusedFile file
+  read m e o =
+      let u = no-row-of (ap refusals o) in
+      let f : Bodies (fieldAt file 20) (fieldAt file 32) ≡ Bodies m e = ap (λ (c : Case). c .found) (sym (accepted-case u)) ∙ o in
+      (sym (ap firstIn f), sym (ap lastIn f), u)
 
   -- and is a case, with its bodies at these places, exactly if no row applies and the table says so
   pub accepted-exact : (memory events : ℕ)
       → (caseOf file .found ≡ Bodies memory events) ↔ ((memory ≡ fieldAt file 20) × (events ≡ fieldAt file 32) × UnrefusedFile file)
-  accepted-exact m e = (
-    read (decided file) m e,
-    λ (a, b, u). ap (λ (k : Case). k .found) (kept (decided file) u) ∙ ap₂ Bodies (sym a) (sym b),
-  )
-
-  -- base and state are zero of a refused file, and else what the harts body says
-  pub refused-case : (number place : ℕ) → RefusedBy file number place → caseOf file ≡ refusedCase number place
-  refused-case n p r = taken (decided file) n p r
-
-  pub accepted-case : UnrefusedFile file → caseOf file ≡ caseIn file
-  accepted-case u = kept (decided file) u
+  accepted-exact m e = (read m e, λ (a, b, u). ap (λ (c : Case). c .found) (accepted-case u) ∙ ap₂ Bodies (sym a) (sym b))

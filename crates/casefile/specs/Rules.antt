@@ -4,6 +4,7 @@ use Prim.Native.Nat.{ℕ, _+_, _%_, _≤_, _<_}
 use mathlib.Core.List.{List}
 use lib.ListN.{length}
 use Rattle.word.specs.Memory.{part}
+use Rattle.events.specs.Rows.{FirstRow, NoRow}
 use Rattle.events.specs.Rules.{WrongEvents}
 use Rattle.casefile.specs.Table.{fieldAt}
 use Rattle.casefile.specs.Harts.{baseOf, countOf, HartsRules, stateOf}
@@ -51,15 +52,13 @@ pub data FileRow (file : List ℕ) (number place : ℕ) : Type 0 where
   badEvents : number ≡ 11 → (p : ℕ) → place ≡ fieldAt file 32 + p
       → WrongEvents (countOf (hartsIn file)) (baseOf (hartsIn file)) (length (memoryIn file)) (eventsIn file) p → FileRow file number place
 
--- "Tried in this order.": the row applies at this place, no earlier row applies anywhere, and it applies at no lower place
-pub record RefusedBy (file : List ℕ) (number place : ℕ) : Type 0 where
-  pub applies : FileRow file number place
-  pub first : (k p : ℕ) → k < number → FileRow file k p → ⊥
-  pub lowest : (p : ℕ) → p < place → FileRow file number p → ⊥
+-- "Tried in this order.": the first row that applies, at the lowest place where it does
+abbrev pub RefusedBy : List ℕ → ℕ → ℕ → Type 0
+RefusedBy file = FirstRow (FileRow file)
 
 -- no row applies
 abbrev pub UnrefusedFile : List ℕ → Type 0
-UnrefusedFile file = (number place : ℕ) → FileRow file number place → ⊥
+UnrefusedFile file = NoRow (FileRow file)
 
 -- the case that a file is where no row applies
 abbrev pub caseIn : List ℕ → Case

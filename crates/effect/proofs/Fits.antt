@@ -13,7 +13,7 @@ use Rattle.word.specs.Bytes.{toLe, IsBytes}
 use Rattle.word.specs.Memory.{part}
 use Rattle.word.proofs.BytesLaws.{bytes-toLe}
 use Rattle.word.proofs.WordLaws.{signExtend-lt}
-use Rattle.word.proofs.MemoryLaws.{part-lt, length-splice, bytes-splice}
+use Rattle.word.proofs.MemoryLaws.{part-lt, length-splice}
 use Rattle.word.proofs.ChooseLaws.{cond-all}
 use Rattle.isa.specs.Width.{bitsOf, bytesOf}
 use Rattle.isa.specs.Wf.{Imms}
@@ -28,12 +28,12 @@ use Rattle.isa.specs.declared.AtomicOp.the-variants.{Lr, Sc, Cas, CasPair, Rmw}
 use Rattle.isa.specs.declared.Atomic.{Atomic}
 use Rattle.isa.specs.declared.Instr.{Instr}
 use Rattle.isa.specs.declared.Instr.the-variants.{Illegal, Lui, Auipc, Jal, Jalr, Branch, Load, Store, OpImm, OpImm32, Op, Op32, Fence, Ecall, Ebreak, Amo}
-use Rattle.effect.specs.Effect.{none, pair, nothing, reserve, store, scStored, scFailed, Exec, trap, effect, offset, nextPc, memoryBy}
+use Rattle.effect.specs.Effect.{none, pair, Access, nothing, reserve, store, scStored, scFailed, Exec, trap, effect, offset, nextPc, stored}
 use Rattle.effect.specs.Integer.{computed, execJump, clearBit0, holdsOf, execBranch}
 use Rattle.effect.specs.Memory.{faultOf, checked, valueAt, loadBytes, extended, storeBytes, execLoad, execStore}
 use Rattle.effect.specs.Atomic.{swapped, pairWrites, execLr, execSc, execAmo, execCas, execCasPair}
 use Rattle.effect.specs.Execute.{pairAt, atomicBy, execAtomic, execute, executeWord}
-use Rattle.effect.specs.Sound.{Sound, AccessFits, WritesFit, Fits}
+use Rattle.effect.specs.Sound.{AccessOk, AccessFits, WritesFit, Fits}
 
 -- ---- values
 
@@ -151,19 +151,9 @@ fits word x pc base mem covered bytes = fits-execute pc base mem bytes covered (
 -- ---- memory
 
 -- what a store inside memory leaves is as long
-pub length-memoryBy : (base : ℕ) (mem : List ℕ) (e : Exec) → Sound base (length mem) e → length (memoryBy base mem e) ≡ length mem
-length-memoryBy base mem (trap cause value) s = refl
-length-memoryBy base mem (effect ws to nothing) s = refl
-length-memoryBy base mem (effect ws to (reserve a w)) s = refl
-length-memoryBy base mem (effect ws to (store a bs)) s = length-splice mem (a - base) bs (omega arith)
-length-memoryBy base mem (effect ws to (scStored a bs)) s = length-splice mem (a - base) bs (omega arith)
-length-memoryBy base mem (effect ws to scFailed) s = refl
-
--- and bytes
-pub bytes-memoryBy : (base : ℕ) (mem : List ℕ) (e : Exec) → IsBytes mem → Sound base (length mem) e → Fits 64 e → IsBytes (memoryBy base mem e)
-bytes-memoryBy base mem (trap cause value) h s f = h
-bytes-memoryBy base mem (effect ws to nothing) h s f = h
-bytes-memoryBy base mem (effect ws to (reserve a w)) h s f = h
-bytes-memoryBy base mem (effect ws to (store a bs)) h s f = bytes-splice mem (a - base) bs (omega arith) h (f .1 .1)
-bytes-memoryBy base mem (effect ws to (scStored a bs)) h s f = bytes-splice mem (a - base) bs (omega arith) h (f .1 .1)
-bytes-memoryBy base mem (effect ws to scFailed) h s f = h
+pub length-stored : (base : ℕ) (mem : List ℕ) (t : Access) → AccessOk base (length mem) t → length (stored base mem t) ≡ length mem
+length-stored base mem nothing o = refl
+length-stored base mem (reserve a w) o = refl
+length-stored base mem (store a bs) o = length-splice mem (a - base) bs (omega arith)
+length-stored base mem (scStored a bs) o = length-splice mem (a - base) bs (omega arith)
+length-stored base mem scFailed o = refl

@@ -285,16 +285,3 @@ module _ (count base len : ℕ) where
 
 pub not-lower : (m n : ℕ) → (m < n → ⊥) → n ≤ m
 not-lower m n f = bool-cases (ltb m n) (λ t. absurd (f (ltb-true m n t))) (λ t. ltb-false m n t)
-
--- Where a row applies, no earlier one does and it does at no lower place, and the same of another, they are one: of any rows with a number and a place.
-pub one-row : (Row : ℕ → ℕ → Type 0) (m p n q : ℕ)
-    → Row m p → ((k r : ℕ) → k < m → Row k r → ⊥) → ((r : ℕ) → r < p → Row m r → ⊥)
-    → Row n q → ((k r : ℕ) → k < n → Row k r → ⊥) → ((r : ℕ) → r < q → Row n r → ⊥)
-    → (m ≡ n) × (p ≡ q)
-one-row Row m p n q a first lowest b first′ lowest′ =
-    let up : n ≤ m = not-lower m n (λ l. first′ m p l a) in
-    let down : m ≤ n = not-lower n m (λ l. first n q l b) in
-    let e : m ≡ n = omega (arith, up, down) in
-    let right : q ≤ p = not-lower p q (λ l. lowest′ p l (rw (← e) a)) in
-    let left : p ≤ q = not-lower q p (λ l. lowest q l (rw e b)) in
-    (e, omega (arith, left, right))

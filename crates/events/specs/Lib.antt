@@ -1,3 +1,4 @@
 -- The events of a case.
 pub mod Events
 pub mod Rules
+pub mod Rows

@@ -72,10 +72,3 @@ met-swap h ws to a n old want new base mem after r p q =
     left-of : (t : Bool) → cond t (splice mem (a - base) (toLe n new)) mem ≡ stored base mem (cond t (store a (toLe n new)) nothing)
     left-of true = refl
     left-of false = refl
-
--- the halves of a pair
-pub low-half : (a b : ℕ) → a < 2 ^ 64 → (a + 2 ^ 64 * b) % 2 ^ 64 ≡ a
-low-half a b h = omega arith
-
-pub high-half : (a b : ℕ) → a < 2 ^ 64 → (a + 2 ^ 64 * b) / 2 ^ 64 ≡ b
-high-half a b h = omega arith

@@ -36,6 +36,7 @@ use Rattle.effect.specs.Execute.{regAt}
 use Rattle.effect.specs.Memory.{valueAt}
 use Rattle.effect.specs.Sound.{AccessOk, Sound}
 use Rattle.effect.proofs.Sound.{sound}
+use Rattle.effect.proofs.Fits.{length-stored}
 use Rattle.events.specs.declared.Event.{Event}
 use Rattle.events.specs.declared.Event.the-variants.{Step, Device, Yield as YieldOf}
 use Rattle.model.specs.Act.{Act, refuse, fault, change, put, release, setReg, written, slotsAfter, apply, leaves}
@@ -124,18 +125,11 @@ module _ (base len : ℕ) where
   apply-rules size s (release h) o r = (r .0, r .1, λ k l. (r .2 k l .0, r .2 k l .1, noticed-ok size s (Yield h) k tt l (r .2 k l .2)))
 
 -- and the memory's length
-stored-length : (base : ℕ) (mem : List ℕ) (t : Access) → AccessOk base (length mem) t → length (stored base mem t) ≡ length mem
-stored-length base mem nothing o = refl
-stored-length base mem (reserve a w) o = refl
-stored-length base mem (store a bs) o = length-splice mem (a - base) bs (omega arith)
-stored-length base mem (scStored a bs) o = length-splice mem (a - base) bs (omega arith)
-stored-length base mem scFailed o = refl
-
 pub length-leaves : (base : ℕ) (mem : List ℕ) (act : Act) → ActOk base (length mem) act → length (leaves base mem act) ≡ length mem
 unfolding leaves
 length-leaves base mem (refuse number) o = refl
 length-leaves base mem (fault cause value) o = refl
-length-leaves base mem (change h ws to t) o = stored-length base mem t (o .1)
+length-leaves base mem (change h ws to t) o = length-stored base mem t (o .1)
 length-leaves base mem (put a bs) o = length-splice mem (a - base) bs (omega arith)
 length-leaves base mem (release h) o = refl
 

@@ -2,7 +2,7 @@ use mathlib.Core.Path.{_≡_}
 use native.Mathlib.Omega.{arith}
 use Prim.Native.Nat.{_+_, _*_, _^_, _%_, _/_}
 use borrow.Author.Tests.{eq-eqb, ne-eqb}
-use Rattle.exec.proofs.AccessLaws.{low-half, high-half}
+use Rattle.alu.proofs.PairLaws.{low-half, high-half}
 use borrow.Author.Needs.{needs}
 use Rattle.exec.proofs.atomic.retire_pair.Statement.{statement}
 use Rattle.exec.proofs.atomic.retire_pair.Tie as tie
@@ -22,8 +22,8 @@ wrapping-add-u64-requires c κs = search needs
 returns-2 : tie.Need-returns-2
 returns-2 c =
     let p = c .before .before .args .old in
-    let lo : (p .low + 2 ^ 64 * p .high) % 2 ^ 64 ≡ p .low = low-half (p .low) (p .high) (omega arith) in
-    let hi : (p .low + 2 ^ 64 * p .high) / 2 ^ 64 ≡ p .high = high-half (p .low) (p .high) (omega arith) in
+    let lo : (p .low + 2 ^ 64 * p .high) % 2 ^ 64 ≡ p .low = low-half (2 ^ 64) (p .low) (p .high) (omega arith) in
+    let hi : (p .low + 2 ^ 64 * p .high) / 2 ^ 64 ≡ p .high = high-half (2 ^ 64) (p .low) (p .high) (omega arith) in
     simp (ne-eqb _ _ (c .before .if1 .left), lo, hi, c .wrapping-add-u64 .ensures)
 
 pub retire-pair-spec : {M : Type 1} → statement M
