@@ -120,10 +120,6 @@ module _ (base : ℕ) (mem : List ℕ) (s : State) where
     free : (e : Event) → (NoHart s e → ⊥) → (BadSize e → ⊥) → (Beyond base (length mem) e → ⊥) → Unrefused base mem s e
     free e a b c k q = let l = numbered e k q in clear e 6 (λ z. a) (λ z. b) (λ z. c) k (omega arith) q
 
-    -- of a hart below the count
-    pub step-unrefused : (h : ℕ) → h < s .count → Unrefused base mem s (Step h)
-    step-unrefused h l = free (Step h) (λ z. z l) (λ z. z) (λ z. z)
-
     good : (e : Event) → actOf base mem s e ≡ actOn base mem s e
     unfolding actOf
     good e = rw (refusal-0 base (length mem) s .1 (m, r))

@@ -320,21 +320,3 @@ module _ (x : ℕ → ℕ) (pc base : ℕ) (mem : List ℕ) (covered : ℕ → �
       let away : Inside base (length mem) pc 4 → ⊥ = λ j. contrary (of-inside base (length mem) pc 4 j) t in
       traps 1 pc (rw t)
       (record { place = 1; applies = unfetched refl refl refl away; first = none-below word x pc base mem i 1 (λ l. absurd (omega arith)) (λ l. absurd (omega arith)) (λ l. absurd (omega arith)) (λ l. absurd (omega arith)) (λ l. absurd (omega arith)) (λ l. absurd (omega arith)) }))
-
-  given : (e : Exec) → Decided (valueAt base mem pc 4) x pc base mem (decodeOf (valueAt base mem pc 4)) e → (cause value : ℕ)
-      → e ≡ trap cause value → FirstTrap (StepRow x pc base mem) cause value
-  given e (traps c v q f) d w o =
-      subst (λ (k : ℕ). FirstTrap (StepRow x pc base mem) k w) (ap causeIn (sym q ∙ o))
-      (subst (λ (k : ℕ). FirstTrap (StepRow x pc base mem) c k) (ap valueIn (sym q ∙ o)) f)
-  given e (retires ws to t q f) d w o = absurd (omega (arith, ap isTrap (sym q ∙ o)))
-
-  taken : (e : Exec) → Decided (valueAt base mem pc 4) x pc base mem (decodeOf (valueAt base mem pc 4)) e → (cause value : ℕ)
-      → FirstTrap (StepRow x pc base mem) cause value → e ≡ trap cause value
-  taken e (traps c v q f) d w g =
-      let s = first-equal (valueAt base mem pc 4) x pc base mem (decodeOf (valueAt base mem pc 4)) c v d w f g in
-      q ∙ ap (λ (k : ℕ). trap k v) (s .0) ∙ ap (λ (k : ℕ). trap d k) (s .1)
-  taken e (retires ws to t q f) d w g = absurd (f (g .place) d w (g .applies))
-
-  -- the word at pc traps exactly by the first row that applies
-  pub fetch-exact : (cause value : ℕ) → (fetchOf x pc base mem covered ≡ trap cause value) ↔ FirstTrap (StepRow x pc base mem) cause value
-  fetch-exact c v = (given _ decided c v, taken _ decided c v)

@@ -78,17 +78,3 @@ module _ (xlen pc : ℕ) where
         → execSc xlen w rd a v pc covered ≡ effect (one rd 1) (nextPc xlen pc) scFailed
     unfolding execSc
     exec-sc-failed al c = rw (eq-eqb (a % bytesOf w) 0 al, c)
-
--- causes 2, 8 and 3
-module _ (xlen word : ℕ) (x : ℕ → ℕ) (pc base : ℕ) (mem : List ℕ) (covered : ℕ → ℕ → Bool) where
-  pub illegal-traps : decodeOf word ≡ Illegal → executeWord xlen word x pc base mem covered ≡ trap 2 word
-  unfolding executeWord execute
-  illegal-traps e = rw e
-
-  pub ecall-traps : decodeOf word ≡ Ecall → executeWord xlen word x pc base mem covered ≡ trap 8 0
-  unfolding executeWord execute
-  ecall-traps e = rw e
-
-  pub ebreak-traps : decodeOf word ≡ Ebreak → executeWord xlen word x pc base mem covered ≡ trap 3 0
-  unfolding executeWord execute
-  ebreak-traps e = rw e

@@ -18,6 +18,3 @@ module _ (k x : ℕ) (most : k ≤ 64) where
   unfolding low
   lowest j some h =
       sym (low-low k j h (signExtend 64 k x)) ∙ ap (low j) (low-signExtend 64 k most some x) ∙ low-low k j h x
-
-  pub quarter : 2 ≤ k → signExtend 64 k x % 4 ≡ x % 4
-  quarter h = lowest 2 (omega arith) h

@@ -198,10 +198,6 @@ module _ (bytes : List ℕ) (whole : length bytes ≡ 2312) (s : State) (shaped 
       before-slots b n (omega arith)
       ∙ part-splice-before (one bytes s) 2056 (wordBytes (s .pc)) (omega (arith, size-pc, length-one)) b n h
 
-  pub length-over : length (stateOver bytes s) ≡ 2312
-  unfolding stateOver
-  length-over = length-splice (two bytes s) 2120 (slotBytes s) (omega (arith, size-slots, length-two)) ∙ length-two
-
   -- the count keeps its bytes
   pub count-kept : part (stateOver bytes s) 0 8 ≡ part bytes 0 8
   count-kept =

@@ -171,10 +171,6 @@ decimal-back n h = decimal-numeral 20 n (omega arith)
 pub decimal-first : (n : ℕ) → 0 < n → n < 2 ^ 64 → 48 < getD (decimalOf n) 0 0
 decimal-first n some h = decimal-front 20 n some (omega arith)
 
-pub decimal-zero : decimalOf 0 ≡ 48 ∷ []
-unfolding decimalFrom
-decimal-zero = refl
-
 -- hexOf n is n written in hexadecimal, with 16 digits
 pub hex-back : (n : ℕ) → n < 2 ^ 64 → Numeral 16 n (hexOf n)
 hex-back n h = hex-numeral 16 n (omega arith)
