@@ -18,7 +18,8 @@ use Rattle.machine.specs.Rules.{Shaped}
 use Rattle.machine.specs.State.{refusalOf}
 use Rattle.machine.specs.declared.State.{State}
 use Rattle.layout.specs.Layout.{stateIn, stateOver}
-use Rattle.layout.proofs.Back.{count-in, count-kept, register-in, pc-in, reservation-in, shaped-in, ranged-in, register-kept, pc-kept, reservation-kept, read-back}
+use Rattle.layout.proofs.Back.{count-in, register-in, pc-in, reservation-in, shaped-in, ranged-in}
+use Rattle.layout.proofs.Back.{count-kept, register-kept, pc-kept, reservation-kept, read-back}
 use Rattle.effect.specs.Execute.{regAt}
 use Rattle.events.specs.Events.{checkedOf, eventsOf}
 use Rattle.events.specs.declared.Event.{Event}

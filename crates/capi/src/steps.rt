@@ -67,7 +67,10 @@ fn write_if(t: bool, state: &mut [u8], s: State)
 
 // An event on the machine that the bytes are.
 fn perform(state: &mut [u8], base: u64, mem: &mut [u8], e: Event, value: &mut [u8]) -> u64
-    ensures { λ r. ⌜ PerformedOn e base (now (state .entry)) (now (mem .entry)) (now (value .entry)) r (now (state .exit)) (now (mem .exit)) (now (value .exit)) ⌝ }
+    ensures { λ r. ⌜
+        PerformedOn e base (now (state .entry)) (now (mem .entry)) (now (value .entry))
+        r (now (state .exit)) (now (mem .exit)) (now (value .exit))
+        ⌝ }
 {
     if state.len() != 2312 {
         return BAD_SIZE;
@@ -93,7 +96,10 @@ pub extern "C" fn floecavern_step(
     hart: usize,
     value: &mut [u8],
 ) -> u64
-    ensures { λ r. ⌜ PerformedOn (Step hart) base (now (state .entry)) (now (mem .entry)) (now (value .entry)) r (now (state .exit)) (now (mem .exit)) (now (value .exit)) ⌝ }
+    ensures { λ r. ⌜
+        PerformedOn (Step hart) base (now (state .entry)) (now (mem .entry)) (now (value .entry))
+        r (now (state .exit)) (now (mem .exit)) (now (value .exit))
+        ⌝ }
 {
     perform(state, base, mem, Event::Step { hart }, value)
 }
@@ -109,7 +115,10 @@ pub extern "C" fn floecavern_device_write(
     data: u64,
     value: &mut [u8],
 ) -> u64
-    ensures { λ r. ⌜ PerformedOn (Device addr size «data») base (now (state .entry)) (now (mem .entry)) (now (value .entry)) r (now (state .exit)) (now (mem .exit)) (now (value .exit)) ⌝ }
+    ensures { λ r. ⌜
+        PerformedOn (Device addr size «data») base (now (state .entry)) (now (mem .entry)) (now (value .entry))
+        r (now (state .exit)) (now (mem .exit)) (now (value .exit))
+        ⌝ }
 {
     perform(state, base, mem, Event::Device { addr, size, data }, value)
 }
@@ -123,7 +132,10 @@ pub extern "C" fn floecavern_yield(
     hart: usize,
     value: &mut [u8],
 ) -> u64
-    ensures { λ r. ⌜ PerformedOn (Yield hart) base (now (state .entry)) (now (mem .entry)) (now (value .entry)) r (now (state .exit)) (now (mem .exit)) (now (value .exit)) ⌝ }
+    ensures { λ r. ⌜
+        PerformedOn (Yield hart) base (now (state .entry)) (now (mem .entry)) (now (value .entry))
+        r (now (state .exit)) (now (mem .exit)) (now (value .exit))
+        ⌝ }
 {
     perform(state, base, mem, Event::Yield { hart }, value)
 }
@@ -178,7 +190,10 @@ pub extern "C" fn floecavern_run(
     budget: usize,
     ran: &mut [u8],
 ) -> u64
-    ensures { λ r. ⌜ RanOn (now (events .entry)) budget base (now (state .entry)) (now (mem .entry)) (now (ran .entry)) r (now (state .exit)) (now (mem .exit)) (now (ran .exit)) ⌝ }
+    ensures { λ r. ⌜
+        RanOn (now (events .entry)) budget base (now (state .entry)) (now (mem .entry)) (now (ran .entry))
+        r (now (state .exit)) (now (mem .exit)) (now (ran .exit))
+        ⌝ }
 {
     if state.len() != 2312 {
         return BAD_SIZE;

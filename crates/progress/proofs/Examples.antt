@@ -82,6 +82,22 @@ begin words v =
       mem = code words ++ (replicate (32 - 4 * length words) 0 ++ (toLe 4 0x0082A423 ++ (replicate 36 0 ++ (toLe 4 v ++ replicate 52 0))));
     }
 
+-- What is computed with. To name one of these on an `unfolding` line is to name all that its own line does: reading a word of memory and its instruction,
+reading : Unit {0}
+unfolding valueAt le toLe part signExtend ofInt toInt low classOf branchOf sizedOf lrOf atomicOf decodeOf
+reading = tt
+
+-- checking a loop,
+checking : Unit {0}
+unfolding viewOf pastSc wrongOffset clobbers lowestOf scanOf startOf checkOf
+checking = tt
+
+-- and running events
+running : Unit {0}
+unfolding reading splice regAt setReg insideOf allBelow memoryOk reservationOk hartOk stateOk refusalOf touches coversOf breaksOf ownOf observeOf observeAllOf
+    holdsOf execBranch faultOf checked execLr execSc execAtomic execute executeWord apply leaves fetchOf deviceOf actOn actOf answerOf memoryOf nextOf runOf
+running = tt
+
 -- They meet the start, whatever the word at 1096.
 meets : (words : List ℕ) (v : ℕ) → length (begin words v .mem) ≡ 128 → length words ≤ 8 → checkOf words ≡ Accepted → LrAt words 0 lr
     → ((k : ℕ) → k < length words → valueAt 1024 (begin words v .mem) (1024 + 4 * k) 4 ≡ getD words k 0)
@@ -103,7 +119,7 @@ meets words v len few accepted first placed =
     }
 
 pub starts-leaving : (v : ℕ) → Start 1024 0 1024 1096 leaving lr (begin leaving v)
-unfolding toLe signExtend ofInt toInt low classOf branchOf sizedOf lrOf atomicOf decodeOf viewOf pastSc wrongOffset clobbers lowestOf scanOf startOf checkOf valueAt le part
+unfolding reading checking
 starts-leaving v = meets leaving v refl (omega arith) refl (record { inBlock = omega arith; decodes = refl }, refl) placed
   where
     placed : (k : ℕ) → k < 4 → valueAt 1024 (begin leaving v .mem) (1024 + 4 * k) 4 ≡ getD leaving k 0
@@ -114,7 +130,7 @@ starts-leaving v = meets leaving v refl (omega arith) refl (record { inBlock = o
     placed (suc (suc (suc (suc k)))) l = absurd (omega arith)
 
 pub starts-waiting : (v : ℕ) → Start 1024 0 1024 1096 waiting lr (begin waiting v)
-unfolding toLe signExtend ofInt toInt low classOf branchOf sizedOf lrOf atomicOf decodeOf viewOf pastSc wrongOffset clobbers lowestOf scanOf startOf checkOf valueAt le part
+unfolding reading checking
 starts-waiting v = meets waiting v refl (omega arith) refl (record { inBlock = omega arith; decodes = refl }, refl) placed
   where
     placed : (k : ℕ) → k < 4 → valueAt 1024 (begin waiting v .mem) (1024 + 4 * k) 4 ≡ getD waiting k 0
@@ -125,7 +141,7 @@ starts-waiting v = meets waiting v refl (omega arith) refl (record { inBlock = o
     placed (suc (suc (suc (suc k)))) l = absurd (omega arith)
 
 pub starts-shortest : (v : ℕ) → Start 1024 0 1024 1096 shortest lr (begin shortest v)
-unfolding toLe signExtend ofInt toInt low classOf branchOf sizedOf lrOf atomicOf decodeOf viewOf pastSc wrongOffset clobbers lowestOf scanOf startOf checkOf valueAt le part
+unfolding reading checking
 starts-shortest v = meets shortest v refl (omega arith) refl (record { inBlock = omega arith; decodes = refl }, refl) placed
   where
     placed : (k : ℕ) → k < 2 → valueAt 1024 (begin shortest v .mem) (1024 + 4 * k) 4 ≡ getD shortest k 0
@@ -151,7 +167,7 @@ mixed = so-far ++ Step 0 ∷ []
 
 -- the loop finishes by its SC
 pub by-sc : Finish 1024 0 1024 1096 leaving lr (runOf 1024 (begin leaving 0) mixed) (Step 0)
-unfolding toLe signExtend ofInt toInt low classOf branchOf sizedOf lrOf atomicOf decodeOf refusalOf memoryOk stateOk hartOk reservationOk insideOf allBelow valueAt le part splice regAt touches coversOf breaksOf ownOf observeOf observeAllOf holdsOf execBranch faultOf checked execLr execSc execAtomic execute executeWord setReg apply leaves fetchOf deviceOf actOn actOf answerOf memoryOf nextOf runOf
+unfolding running
 by-sc =
     bySc
     (record {
@@ -172,7 +188,7 @@ untold : (m : Machine) (e : Event) → noticeAt 1024 m e ≡ N.Quiet → Harmles
 untold m e q = record { block = rw q (λ t. t); reserved = rw q (λ t. t); stays = λ y. let z : _≡_ {A = ℕ} 0 1 = cc in omega arith }
 
 pub by-sc-calm : Calm 1024 0 1024 1096 leaving lr (Harmless 1024 0 1024 1096 leaving lr) (begin leaving 0) mixed
-unfolding toLe signExtend ofInt toInt low classOf branchOf sizedOf lrOf atomicOf decodeOf refusalOf memoryOk stateOk hartOk reservationOk insideOf allBelow valueAt le part splice regAt touches coversOf breaksOf ownOf observeOf observeAllOf holdsOf execBranch faultOf checked execLr execSc execAtomic execute executeWord setReg apply leaves fetchOf deviceOf actOn actOf answerOf memoryOf nextOf runOf Touch
+unfolding running Touch
 by-sc-calm = (
   λ q. contrary refl q,
   (
@@ -186,7 +202,7 @@ by-sc-calm = (
 
 -- and neither the LR nor the branch was the finish
 pub by-sc-unfinished : Unfinished 1024 0 1024 1096 leaving lr (begin leaving 0) mixed
-unfolding toLe signExtend ofInt toInt low classOf branchOf sizedOf lrOf atomicOf decodeOf refusalOf memoryOk stateOk hartOk reservationOk insideOf allBelow valueAt le part splice regAt touches coversOf breaksOf ownOf observeOf observeAllOf holdsOf execBranch faultOf checked execLr execSc execAtomic execute executeWord setReg apply leaves fetchOf deviceOf actOn actOf answerOf memoryOf nextOf runOf
+unfolding running
 by-sc-unfinished = (not-lr, (never, (never, (never, (never, (never, (never, (never, (not-branch, tt)))))))))
   where
     never : {P : Type 0} → false ≡ true → P → ⊥
@@ -204,17 +220,17 @@ by-sc-unfinished = (not-lr, (never, (never, (never, (never, (never, (never, (nev
 
 -- where the word isn't 0, edge 12's loop is left by its first branch, and the other comes back to place 0 by its last
 pub by-leaving : Finish 1024 0 1024 1096 leaving lr (runOf 1024 (begin leaving 5) (Step 0 ∷ [])) (Step 0)
-unfolding toLe signExtend ofInt toInt low classOf branchOf sizedOf lrOf atomicOf decodeOf refusalOf memoryOk stateOk hartOk reservationOk insideOf allBelow valueAt le part splice regAt touches coversOf breaksOf ownOf observeOf observeAllOf holdsOf execBranch faultOf checked execLr execSc execAtomic execute executeWord setReg apply leaves fetchOf deviceOf actOn actOf answerOf memoryOf nextOf runOf
+unfolding running
 by-leaving = left (λ k l q. let z : 1040 ≡ 1024 + 4 * k = q in omega arith)
 
 pub by-coming-back : Finish 1024 0 1024 1096 waiting lr (runOf 1024 (begin waiting 5) (Step 0 ∷ Step 0 ∷ [])) (Step 0)
-unfolding toLe signExtend ofInt toInt low classOf branchOf sizedOf lrOf atomicOf decodeOf refusalOf memoryOk stateOk hartOk reservationOk insideOf allBelow valueAt le part splice regAt touches coversOf breaksOf ownOf observeOf observeAllOf holdsOf execBranch faultOf checked execLr execSc execAtomic execute executeWord setReg apply leaves fetchOf deviceOf actOn actOf answerOf memoryOf nextOf runOf
+unfolding running
 by-coming-back = back refl
 
 -- ---- the bound can't be smaller
 
 pub tight : Safe 1024 0 1024 1096 shortest lr (Harmless 1024 0 1024 1096 shortest lr) (length shortest - 1) (begin shortest 0) (Step 0 ∷ []) → ⊥
-unfolding toLe signExtend ofInt toInt low classOf branchOf sizedOf lrOf atomicOf decodeOf refusalOf memoryOk stateOk hartOk reservationOk insideOf allBelow valueAt le part splice regAt touches coversOf breaksOf ownOf observeOf observeAllOf holdsOf execBranch faultOf checked execLr execSc execAtomic execute executeWord setReg apply leaves fetchOf deviceOf actOn actOf answerOf memoryOf nextOf runOf
+unfolding running
 tight s = go (s .1)
   where
     unfinished : Finish 1024 0 1024 1096 shortest lr (begin shortest 0) (Step 0) → ⊥
@@ -241,7 +257,7 @@ pub record Disturbed : Type 0 where
   pub fails : next (Step 0 ∷ Step 1 ∷ Step 0 ∷ []) ≡ O.ScFailed
 
 pub disturbed : Disturbed
-unfolding toLe signExtend ofInt toInt low classOf branchOf storeOf sizedOf lrOf atomicOf decodeOf refusalOf memoryOk stateOk hartOk reservationOk insideOf allBelow valueAt le part splice regAt touches coversOf breaksOf ownOf observeOf observeAllOf holdsOf execBranch faultOf checked execStore execLr execSc execAtomic execute executeWord setReg apply leaves fetchOf deviceOf actOn actOf answerOf memoryOf nextOf runOf Touch
+unfolding running storeOf execStore Touch
 disturbed =
     record {
       noticed = refl;
@@ -258,5 +274,5 @@ pub record Broken : Type 0 where
   pub code-changes : next (Step 0 ∷ Device 1028 4 0x73 ∷ []) ≡ O.Trap 8 0
 
 pub broken : Broken
-unfolding toLe signExtend ofInt toInt low classOf branchOf systemOf sizedOf lrOf atomicOf decodeOf refusalOf memoryOk stateOk hartOk reservationOk insideOf allBelow valueAt le part splice regAt touches coversOf breaksOf ownOf observeOf observeAllOf holdsOf execBranch faultOf checked execLr execSc execAtomic execute executeWord setReg apply leaves fetchOf deviceOf actOn actOf answerOf memoryOf nextOf runOf
+unfolding running systemOf
 broken = record { yields = refl; device = refl; code-changes = refl }

@@ -53,7 +53,8 @@ use Rattle.retry.specs.declared.View.{View}
 use Rattle.retry.specs.declared.View.the-variants.{Lr, Sc, Plain, Jump, Branch, Other}
 use Rattle.retry.proofs.ViewLaws.{Seen, SeenLr, SeenSc, seen, lr-view}
 use Rattle.retry.proofs.Accepted.{Ahead, Home, Keeps, Before, After, Block, block}
-use Rattle.progress.specs.Claim.{hartPc, isStep, StoresAtLr, FineAs, Fine, Start, Harmless, Finish, bySc, left, back, Safe, Finishes, Calm, Unfinished, steps, NextStep}
+use Rattle.progress.specs.Claim.{hartPc, isStep, StoresAtLr, FineAs, Fine, Start, Harmless, Finish, bySc, left, back}
+use Rattle.progress.specs.Claim.{Safe, Finishes, Calm, Unfinished, steps, NextStep}
 use Rattle.progress.proofs.Does.{Moves, Does, does, does-lr, does-sc}
 
 -- ---- notices
@@ -122,6 +123,10 @@ module _ (base : ℕ) (m : Machine) (h : ℕ) (ws : Writes) (to : ℕ) (t : Acce
   leaves-mem : nextOf base m (Step h) .mem ≡ leaves base (m .mem) (change h ws to t)
   unfolding nextOf memoryOf
   leaves-mem = ap (leaves base (m .mem)) q
+
+-- Safe as long as all other events are harmless.
+abbrev SafeAlone : (base h p addr : ℕ) (words : List ℕ) (lr : Atomic) → ℕ → Machine → List Event → Type 0
+SafeAlone base h p addr words lr = Safe base h p addr words lr (Harmless base h p addr words lr)
 
 -- ---- the loop: an LR at place 0, the first SC at place j
 
@@ -281,9 +286,10 @@ module _ (base h p addr : ℕ) (words : List ℕ) (lr : Atomic) (j : ℕ)
     home : (rd off : ℕ) → Moves exec rd ((hartPc m h + off) % 2 ^ 64) nothing → Home i off → Good m i
     unfolding Good Onward
     home rd off mv f =
-        let q : actOf base (m .mem) (m .state) (Step h) ≡ change h (mv .ws) ((hartPc m h + off) % 2 ^ 64) nothing = act-is ∙ ap (ofExec h) (mv .is) in (
-          subst (FineAs base h p addr words lr m (Step h)) (sym (said base m h (mv .ws) ((hartPc m h + off) % 2 ^ 64) nothing q)) tt,
-          inl (back (goes base m h (mv .ws) ((hartPc m h + off) % 2 ^ 64) nothing q (omega (arith, hart-8, a .ground .shaped .pcs)) ∙ omega (arith, low, a .here))),
+        let to : ℕ = (hartPc m h + off) % 2 ^ 64 in
+        let q : actOf base (m .mem) (m .state) (Step h) ≡ change h (mv .ws) to nothing = act-is ∙ ap (ofExec h) (mv .is) in (
+          subst (FineAs base h p addr words lr m (Step h)) (sym (said base m h (mv .ws) to nothing q)) tt,
+          inl (back (goes base m h (mv .ws) to nothing q (omega (arith, hart-8, a .ground .shaped .pcs)) ∙ omega (arith, low, a .here))),
         )
 
     -- between the LR and the first SC
@@ -438,16 +444,16 @@ module _ (base h p addr : ℕ) (words : List ℕ) (lr : Atomic) (j : ℕ)
         go (at-late z) = late z (viewAt words i) (after i z (a .inLoop)) d
 
   -- the claim, from any place at which enough steps are left
-  safe : (es : List Event) (m : Machine) (i k : ℕ) → At m i → length words ≤ k + i → Safe base h p addr words lr (Harmless base h p addr words lr) k m es
+  safe : (es : List Event) (m : Machine) (i k : ℕ) → At m i → length words ≤ k + i → SafeAlone base h p addr words lr k m es
   unfolding Good Onward
   safe [] m i k a l = tt
   safe (e ∷ es) m i k a l = go (isStep h e) refl (λ i′ k′. safe es (nextOf base m e) i′ k′)
     where
       go : (t : Bool) → isStep h e ≡ t
-          → ((i′ k′ : ℕ) → At (nextOf base m e) i′ → length words ≤ k′ + i′ → Safe base h p addr words lr (Harmless base h p addr words lr) k′ (nextOf base m e) es)
+          → ((i′ k′ : ℕ) → At (nextOf base m e) i′ → length words ≤ k′ + i′ → SafeAlone base h p addr words lr k′ (nextOf base m e) es)
           → cond t
-          (Fine base h p addr words lr m e × (Finish base h p addr words lr m e ⊎ ((1 < k) × Safe base h p addr words lr (Harmless base h p addr words lr) (k - 1) (nextOf base m e) es)))
-          (Harmless base h p addr words lr m e → Safe base h p addr words lr (Harmless base h p addr words lr) k (nextOf base m e) es)
+          (Fine base h p addr words lr m e × (Finish base h p addr words lr m e ⊎ ((1 < k) × SafeAlone base h p addr words lr (k - 1) (nextOf base m e) es)))
+          (Harmless base h p addr words lr m e → SafeAlone base h p addr words lr k (nextOf base m e) es)
       go false q ih = λ s. ih i k (stays m i e a (not-step h e q) s) l
       go true q ih = (g .0, on (g .1))
         where
@@ -457,7 +463,7 @@ module _ (base h p addr : ℕ) (words : List ℕ) (lr : Atomic) (j : ℕ)
               (sym (step-is h e q)) (own m i a)
 
           on : Finish base h p addr words lr m e ⊎ ((i′ : ℕ) × (i < i′) × At (nextOf base m e) i′)
-              → Finish base h p addr words lr m e ⊎ ((1 < k) × Safe base h p addr words lr (Harmless base h p addr words lr) (k - 1) (nextOf base m e) es)
+              → Finish base h p addr words lr m e ⊎ ((1 < k) × SafeAlone base h p addr words lr (k - 1) (nextOf base m e) es)
           on (inl f) = inl f
           on (inr s) = let b : s .0 < length words = s .2 .inLoop in inr (omega arith, ih (s .0) (k - 1) (s .2) (omega arith))
 
@@ -465,7 +471,8 @@ module _ (base h p addr : ℕ) (words : List ℕ) (lr : Atomic) (j : ℕ)
 pub has-lr : (words : List ℕ) → checkOf words ≡ Accepted → (lr : Atomic) × LrAt words 0 lr
 has-lr words q =
     let b : Block words = block words q in
-    let s : SeenLr (decodeOf (getD words 0 0)) (b .rd) (b .rs1) (b .width) = subst (Seen (decodeOf (getD words 0 0))) (b .lr-is) (seen (decodeOf (getD words 0 0))) in
+    let i = decodeOf (getD words 0 0) in
+    let s : SeenLr i (b .rd) (b .rs1) (b .width) = subst (Seen i) (b .lr-is) (seen i) in
     (s .of, (record { inBlock = omega (arith, b .inBlock); decodes = s .is }, s .kind))
 
 module _ (base h p addr : ℕ) (words : List ℕ) (lr : Atomic) (m : Machine) (st : Start base h p addr words lr m) where
@@ -505,8 +512,9 @@ module _ (base h p addr : ℕ) (words : List ℕ) (lr : Atomic) (m : Machine) (s
 -- ---- the claim without recursion
 
 module _ (base h p addr : ℕ) (words : List ℕ) (lr : Atomic) where
-  flat : (so-far : List Event) (k : ℕ) (m : Machine) → 0 < k → Calm base h p addr words lr (Harmless base h p addr words lr) m so-far → Unfinished base h p addr words lr m so-far
-      → Safe base h p addr words lr (Harmless base h p addr words lr) k m (so-far ++ Step h ∷ []) → NextStep base h p addr words lr k m so-far
+  flat : (so-far : List Event) (k : ℕ) (m : Machine) → 0 < k → Calm base h p addr words lr (Harmless base h p addr words lr) m so-far
+      → Unfinished base h p addr words lr m so-far
+      → SafeAlone base h p addr words lr k m (so-far ++ Step h ∷ []) → NextStep base h p addr words lr k m so-far
   unfolding runOf
   flat [] k m z c u s = record { fine = g .0; bounded = z; finishes = last (g .1) }
     where
@@ -524,9 +532,10 @@ module _ (base h p addr : ℕ) (words : List ℕ) (lr : Atomic) where
       go : (t : Bool) → isStep h d ≡ t
           → cond t
           (Fine base h p addr words lr m d
-          × (Finish base h p addr words lr m d ⊎ ((1 < k) × Safe base h p addr words lr (Harmless base h p addr words lr) (k - 1) (nextOf base m d) (so-far ++ Step h ∷ []))))
-          (Harmless base h p addr words lr m d → Safe base h p addr words lr (Harmless base h p addr words lr) k (nextOf base m d) (so-far ++ Step h ∷ []))
-          → ((k′ : ℕ) → 0 < k′ → Safe base h p addr words lr (Harmless base h p addr words lr) k′ (nextOf base m d) (so-far ++ Step h ∷ []) → NextStep base h p addr words lr k′ (nextOf base m d) so-far)
+          × (Finish base h p addr words lr m d ⊎ ((1 < k) × SafeAlone base h p addr words lr (k - 1) (nextOf base m d) (so-far ++ Step h ∷ []))))
+          (Harmless base h p addr words lr m d → SafeAlone base h p addr words lr k (nextOf base m d) (so-far ++ Step h ∷ []))
+          → ((k′ : ℕ) → 0 < k′ → SafeAlone base h p addr words lr k′ (nextOf base m d) (so-far ++ Step h ∷ [])
+          → NextStep base h p addr words lr k′ (nextOf base m d) so-far)
           → NextStep base h p addr words lr k m (d ∷ so-far)
       go false q x ih =
           let y : NextStep base h p addr words lr k (nextOf base m d) so-far = ih k z (x (c .0 q)) in
@@ -535,7 +544,7 @@ module _ (base h p addr : ℕ) (words : List ℕ) (lr : Atomic) where
           record { fine = y .fine; bounded = omega arith; finishes = λ r. y .finishes (omega arith) }
       go true q x ih = on (x .1)
         where
-          on : Finish base h p addr words lr m d ⊎ ((1 < k) × Safe base h p addr words lr (Harmless base h p addr words lr) (k - 1) (nextOf base m d) (so-far ++ Step h ∷ []))
+          on : Finish base h p addr words lr m d ⊎ ((1 < k) × SafeAlone base h p addr words lr (k - 1) (nextOf base m d) (so-far ++ Step h ∷ []))
               → NextStep base h p addr words lr k m (d ∷ so-far)
           on (inl f) = absurd (u .0 q f)
           on (inr f) =

@@ -37,8 +37,9 @@ tell-requires c κs = search needs
 
 verdict-code-requires : tie.Need-verdict-code-requires
 verdict-code-requires c κs =
-    let x = c .before .before .before .before .before .before .before .before .before .before .before .before .before .before .before .before .before .before .before .before .before .before .before .args in
-    subst (λ (a : Ran). SmallVerdict (a .verdict)) (sym (c .before .before .before .before .before .before .before .before .before .before .before .before .before .run .ensures .0)) (small-result (x .base) (x .mem .now) _ (x .events .now) (x .budget))
+    let done = c .before .before .before .before .before .before .before .before .before .before .before .before .before in
+    let x = done .before .before .before .before .before .before .before .before .before .before .args in
+    subst (λ (a : Ran). SmallVerdict (a .verdict)) (sym (done .run .ensures .0)) (small-result (x .base) (x .mem .now) _ (x .events .now) (x .budget))
 
 same-length : tie.Need-same-length
 same-length c = search needs
@@ -51,18 +52,22 @@ same-length-3 c = search needs
 
 returns-3 : tie.Need-returns-3
 returns-3 c =
-    let x = c .before .before .before .before .before .before .before .before .before .before .before .before .before .before .before .before .before .before .before .before .before .before .before .before .args in
-    let read = c .before .before .before .before .before .before .before .before .before .before .before .before .before .before .before .before .read-state .ensures in
-    let p = c .before .before .before .before .before .before .before .before .before .before .before .before .before .before .run .ensures .0 ∙ ap (λ (s : State). resultOf (x .base) (x .mem .now) s (x .events .now) (x .budget) .ran) read in
+    let written = c .before .before .before .before .before .before .before .before in
+    let done = written .before .before .before .before .before .before in
+    let sized = done .before .before .before .before in
+    let x = sized .before .before .before .before .before .before .args in
+    let read = done .before .before .read-state .ensures in
+    let p = done .run .ensures .0 ∙ ap (λ (s : State). resultOf (x .base) (x .mem .now) s (x .events .now) (x .budget) .ran) read in
     record {
-      wrong = λ h. absurd (h (c .before .before .before .before .before .before .before .before .before .before .before .before .before .before .before .before .before .before .before .if1 .left, c .before .before .before .before .before .before .before .before .before .before .before .before .before .before .before .before .before .before .if2 .left));
+      wrong = λ h. absurd (h (sized .before .if1 .left, sized .if2 .left));
       right = λ _ _. record {
         answer = c .verdict-code .ensures ∙ ap (λ (a : Ran). verdictCode (a .verdict)) p;
         numbers =
             c .before .before .before .tell .ensures
-            ∙ ap₂ (λ (n m : ℕ). wordBytes (n ∷ m ∷ [])) (ap (λ (a : Ran). a .performed) p) (c .before .before .before .before .place-of .ensures ∙ ap (λ (a : Ran). placeOf (a .verdict)) p);
-        bytes = run-written (x .state .now) _ _ p _ (c .before .before .before .before .before .before .before .before .before .before .is-performed .ensures) _ (c .before .before .before .before .before .before .before .before .write-if .ensures);
-        memory = c .before .before .before .before .before .before .before .before .before .before .before .before .before .before .run .ensures .1 ∙ ap (λ (s : State). resultOf (x .base) (x .mem .now) s (x .events .now) (x .budget) .mem) read;
+            ∙ ap₂ (λ (n m : ℕ). wordBytes (n ∷ m ∷ [])) (ap (λ (a : Ran). a .performed) p)
+            (c .before .before .before .before .place-of .ensures ∙ ap (λ (a : Ran). placeOf (a .verdict)) p);
+        bytes = run-written (x .state .now) _ _ p _ (written .before .before .is-performed .ensures) _ (written .write-if .ensures);
+        memory = done .run .ensures .1 ∙ ap (λ (s : State). resultOf (x .base) (x .mem .now) s (x .events .now) (x .budget) .mem) read;
       };
     }
 

@@ -35,8 +35,9 @@ store-le-requires c κs = search needs
 
 code-of-requires : tie.Need-code-of-requires
 code-of-requires c κs =
-    let x = c .before .before .before .before .before .before .before .before .before .before .before .before .before .before .before .before .before .before .before .before .before .before .args in
-    subst (λ (a : Answer). Small (a .outcome)) (sym (c .before .before .before .before .before .before .before .before .before .before .before .before .before .perform .ensures .0)) (small-answer (x .base) (x .mem .now) _ (x .e))
+    let done = c .before .before .before .before .before .before .before .before .before .before .before .before .before in
+    let x = done .before .before .before .before .before .before .before .before .before .args in
+    subst (λ (a : Answer). Small (a .outcome)) (sym (done .perform .ensures .0)) (small-answer (x .base) (x .mem .now) _ (x .e))
 
 same-length : tie.Need-same-length
 same-length c = search needs
@@ -49,18 +50,21 @@ same-length-3 c = search needs
 
 returns-3 : tie.Need-returns-3
 returns-3 c =
-    let x = c .before .before .before .before .before .before .before .before .before .before .before .before .before .before .before .before .before .before .before .before .before .before .before .args in
-    let read = c .before .before .before .before .before .before .before .before .before .before .before .before .before .before .before .before .read-state .ensures in
-    let p = c .before .before .before .before .before .before .before .before .before .before .before .before .before .before .perform .ensures .0 ∙ ap (λ (s : State). answerOf (x .base) (x .mem .now) s (x .e)) read in
+    let written = c .before .before .before .before .before .before .before .before in
+    let done = written .before .before .before .before .before .before in
+    let sized = done .before .before .before .before in
+    let x = sized .before .before .before .before .before .args in
+    let read = done .before .before .read-state .ensures in
+    let p = done .perform .ensures .0 ∙ ap (λ (s : State). answerOf (x .base) (x .mem .now) s (x .e)) read in
     record {
-      wrong = λ h. absurd (h (c .before .before .before .before .before .before .before .before .before .before .before .before .before .before .before .before .before .before .before .if1 .left, c .before .before .before .before .before .before .before .before .before .before .before .before .before .before .before .before .before .before .if2 .left));
+      wrong = λ h. absurd (h (sized .before .if1 .left, sized .if2 .left));
       right = λ _ _. record {
         answer = c .code-of .ensures ∙ ap (λ (a : Answer). codeOf (a .outcome)) p;
         value =
             c .before .before .before .store-le .ensures
-            ∙ ap₂ toLe (c .before .before .before .before .before .before .before .before .before .before .before .before .before .before .before .before .before .before .if2 .left) (c .before .before .before .before .value-of .ensures ∙ ap (λ (a : Answer). valueOf (a .outcome)) p);
-        bytes = event-written (x .state .now) _ _ p _ (c .before .before .before .before .before .before .before .before .before .before .is-retired .ensures) _ (c .before .before .before .before .before .before .before .before .write-if .ensures);
-        memory = c .before .before .before .before .before .before .before .before .before .before .before .before .before .before .perform .ensures .1 ∙ ap (λ (s : State). memoryOf (x .base) (x .mem .now) s (x .e)) read;
+            ∙ ap₂ toLe (sized .if2 .left) (c .before .before .before .before .value-of .ensures ∙ ap (λ (a : Answer). valueOf (a .outcome)) p);
+        bytes = event-written (x .state .now) _ _ p _ (written .before .before .is-retired .ensures) _ (written .write-if .ensures);
+        memory = done .perform .ensures .1 ∙ ap (λ (s : State). memoryOf (x .base) (x .mem .now) s (x .e)) read;
       };
     }
 

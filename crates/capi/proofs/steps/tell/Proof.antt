@@ -16,8 +16,9 @@ same-length c = search needs
 
 returns : tie.Need-returns
 returns c =
-    let a = c .before .before .before .before .before .before .args in
-    c .before .before .store-words .ensures ∙ splice-whole (a .told .now) _ (length-wordBytes (a .first ∷ a .second ∷ []) ∙ sym (c .before .before .before .before .before .before .pre))
+    let begun = c .before .before .before .before .before .before in
+    let a = begun .args in
+    c .before .before .store-words .ensures ∙ splice-whole (a .told .now) _ (length-wordBytes (a .first ∷ a .second ∷ []) ∙ sym (begun .pre))
 
 pub tell-spec : {M : Type 1} → statement M
 tell-spec =
