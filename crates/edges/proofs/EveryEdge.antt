@@ -25,7 +25,12 @@ _also_ : {A B : Type 0} → A → B → A × B
 p also q = (p, q)
 
 pub every-edge : All edges
-unfolding le toLe part splice low toInt ofInt signExtend allBelow D.classOf D.storeOf D.branchOf D.atomicOf D.sizedOf D.lrOf D.casOf D.casPairOf D.decodeOf aluOf minOf maxOf amoOf touches insideOf coversOf breaksOf ownOf observeOf brokenOf observeAllOf memoryOk reservationOk hartOk stateOk refusalOf faultOf checked valueAt execStore execLr execSc execAmo execCas execCasPair regAt pairAt execAtomic execute executeWord setReg leaves apply fetchOf deviceOf actOn actOf answerOf memoryOf nextOf runOf viewOf pastSc wrongOffset clobbers lowestOf scanOf startOf checkOf
+unfolding le toLe part splice low toInt ofInt signExtend allBelow
+    D.classOf D.storeOf D.branchOf D.atomicOf D.sizedOf D.lrOf D.casOf D.casPairOf D.decodeOf aluOf minOf maxOf amoOf
+    touches insideOf coversOf breaksOf ownOf observeOf brokenOf observeAllOf memoryOk reservationOk hartOk stateOk refusalOf
+    faultOf checked valueAt execStore execLr execSc execAmo execCas execCasPair regAt pairAt execAtomic execute executeWord
+    setReg leaves apply fetchOf deviceOf actOn actOf answerOf memoryOf nextOf runOf
+    viewOf pastSc wrongOffset clobbers lowestOf scanOf startOf checkOf
 every-edge =
     refl
     also refl

@@ -80,7 +80,11 @@ fn put_bodies(
     requires { ⌜ length (now out) ≡ 262144 ⌝ }
     requires { ⌜ (40 ≤ memory) × (memory ≤ events) × (events ≤ length (now file)) × (length (now file) ≤ 65536) ⌝ }
     requires { ⌜ refusalOf base (events - memory) s ≡ 0 ⌝ }
-    ensures { λ r. ⌜ Put (now (out .entry)) 0 (linesOfCase base s (part (now (file .entry)) memory (events - memory)) (drop events (now (file .entry)))) (now (out .exit)) r ⌝ }
+    ensures { λ r. ⌜
+        Put (now (out .entry)) 0
+        (linesOfCase base s (part (now (file .entry)) memory (events - memory)) (drop events (now (file .entry))))
+        (now (out .exit)) r
+        ⌝ }
     ensures { λ r. ⌜ r ≤ 262144 ⌝ }
 {
     let from = out.len() - (events - memory);

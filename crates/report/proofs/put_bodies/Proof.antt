@@ -63,7 +63,8 @@ returns c =
     let r = c .before .before .put-lines-of-case in
     let l : length (take (a .events - a .memory) (drop (a .memory) f)) ≡ a .events - a .memory = simp (length-take, length-drop) (omega (arith, h)) in
     let m = put-last (omega arith) (omega (arith, p .ensures .end, p .kept .0, l, h)) (p .ensures) in
-    let b : take (length f - a .events) (drop (a .events) f) ≡ drop (a .events) f = take-all (length f - a .events) (drop (a .events) f) (rw length-drop (omega arith)) in
+    let rest = drop (a .events) f in
+    let b : take (length f - a .events) rest ≡ rest = take-all (length f - a .events) rest (rw length-drop (omega arith)) in
     let x = as-text (ap₂ (linesOfCase (a .base) (a .s)) m b) (r .ensures .0) in
     (record { end = x .end; holds = x .holds }, omega (arith, r .ensures .1, h))
 

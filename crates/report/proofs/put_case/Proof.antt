@@ -43,11 +43,28 @@ same-length c = search needs
 
 returns : tie.Need-returns
 unfolding caseLine
-returns c = (
-  then (c .before .before .before .before .before .before .before .before .before .before .before .before .before .before .before .before .before .before .before .before .before .before .before .before .before .before .before .before .before .put-bytes .ensures) (then (c .before .before .before .before .before .before .before .before .before .before .before .before .before .before .before .before .before .before .before .before .before .before .before .before .before .put-decimal .ensures .0) (then (c .before .before .before .before .before .before .before .before .before .before .before .before .before .before .before .before .before .before .before .before .put-bytes2 .ensures) (then (c .before .before .before .before .before .before .before .before .before .before .before .before .before .before .before .before .put-decimal2 .ensures .0)
-      (then (c .before .before .before .before .before .before .before .before .before .before .before .put-bytes3 .ensures) (then (c .before .before .before .before .before .before .before .put-decimal3 .ensures .0) (c .before .before .put-bytes4 .ensures)))))),
-  omega (arith, c .before .before .before .before .before .before .before .before .before .before .before .before .before .before .before .before .before .before .before .before .before .before .before .before .before .before .before .before .before .put-bytes .ensures .end, c .before .before .before .before .before .before .before .before .before .before .before .before .before .before .before .before .before .before .before .before .before .before .before .before .before .put-decimal .ensures .1, c .before .before .before .before .before .before .before .before .before .before .before .before .before .before .before .before .before .before .before .before .put-bytes2 .ensures .end, c .before .before .before .before .before .before .before .before .before .before .before .before .before .before .before .before .put-decimal2 .ensures .1, c .before .before .before .before .before .before .before .before .before .before .before .put-bytes3 .ensures .end, c .before .before .before .before .before .before .before .put-decimal3 .ensures .1, c .before .before .put-bytes4 .ensures .end),
-)
+returns c =
+    let seventh = c .before .before in
+    let sixth = seventh .before .before .before .before .before in
+    let fifth = sixth .before .before .before .before in
+    let fourth = fifth .before .before .before .before .before in
+    let third = fourth .before .before .before .before in
+    let second = third .before .before .before .before .before in
+    let first = second .before .before .before .before in (
+      then (first .put-bytes .ensures) (then (second .put-decimal .ensures .0)
+          (then (third .put-bytes2 .ensures) (then (fourth .put-decimal2 .ensures .0)
+          (then (fifth .put-bytes3 .ensures) (then (sixth .put-decimal3 .ensures .0) (seventh .put-bytes4 .ensures)))))),
+      omega (
+        arith,
+        first .put-bytes .ensures .end,
+        second .put-decimal .ensures .1,
+        third .put-bytes2 .ensures .end,
+        fourth .put-decimal2 .ensures .1,
+        fifth .put-bytes3 .ensures .end,
+        sixth .put-decimal3 .ensures .1,
+        seventh .put-bytes4 .ensures .end,
+      ),
+    )
 
 pub put-case-spec : {M : Type 1} → statement M
 put-case-spec =

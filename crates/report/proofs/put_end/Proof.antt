@@ -22,10 +22,13 @@ same-length c = search needs
 
 returns : tie.Need-returns
 unfolding endLine
-returns c = (
-  then (c .before .before .before .before .before .before .before .before .before .before .put-bytes .ensures) (then (c .before .before .before .before .before .before .put-decimal .ensures .0) (c .before .before .put-byte .ensures)),
-  omega (arith, c .before .before .before .before .before .before .before .before .before .before .put-bytes .ensures .end, c .before .before .before .before .before .before .put-decimal .ensures .1, c .before .before .put-byte .ensures .end),
-)
+returns c =
+    let third = c .before .before in
+    let second = third .before .before .before .before in
+    let first = second .before .before .before .before in (
+      then (first .put-bytes .ensures) (then (second .put-decimal .ensures .0) (third .put-byte .ensures)),
+      omega (arith, first .put-bytes .ensures .end, second .put-decimal .ensures .1, third .put-byte .ensures .end),
+    )
 
 pub put-end-spec : {M : Type 1} → statement M
 put-end-spec =

@@ -21,12 +21,14 @@ slice-relend-prefix-put-case : tie.Need-slice-relend-prefix-put-case
 slice-relend-prefix-put-case c = c .before .before .pre .0 .1
 
 slice-aggregate-put-case : tie.Need-slice-aggregate-put-case
-slice-aggregate-put-case c = sym (length-take-le (c .before .before .before .args .from) (c .before .before .before .args .out .now) (c .before .before .before .pre .0 .1))
+slice-aggregate-put-case c =
+    let begun = c .before .before .before in
+    sym (length-take-le (begun .args .from) (begun .args .out .now) (begun .pre .0 .1))
 
 put-case-requires : tie.Need-put-case-requires
 put-case-requires c κs =
-    let front = length-take-le (c .before .before .before .args .from) (c .before .before .before .args .out .now) (c .before .before .before .pre .0 .1) in
-    omega (arith, front, c .before .before .before .pre)
+    let begun = c .before .before .before in
+    omega (arith, length-take-le (begun .args .from) (begun .args .out .now) (begun .pre .0 .1), begun .pre)
 
 put-lines-requires : tie.Need-put-lines-requires
 put-lines-requires c κs =
@@ -50,10 +52,11 @@ put-end-requires c κs =
 same-length : tie.Need-same-length
 same-length c =
     let a = c .before .before .before .before .before .before .before .before .before .before .before .before .before .before .args in
+    let pre = c .before .before .before .before .before .before .before .before .before .before .before .before .before .before .pre in
     let h = c .before .before .before .before .before .before .before .before .before .before .put-case in
     c .before .before .put-end .kept .0
     ∙ c .before .before .before .before .before .before .put-lines .kept .0
-    ∙ front-length (a .out .now) (h .last .0) (a .from) (c .before .before .before .before .before .before .before .before .before .before .before .before .before .before .pre .0 .1) (h .kept .0)
+    ∙ front-length (a .out .now) (h .last .0) (a .from) (pre .0 .1) (h .kept .0)
 
 returns : tie.Need-returns
 unfolding linesOfCase

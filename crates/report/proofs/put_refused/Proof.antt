@@ -28,10 +28,23 @@ same-length c = search needs
 
 returns : tie.Need-returns
 unfolding refusedLine
-returns c = (
-  then (c .before .before .before .before .before .before .before .before .before .before .before .before .before .before .before .before .before .before .put-bytes .ensures) (then (c .before .before .before .before .before .before .before .before .before .before .before .before .before .before .put-decimal .ensures .0) (then (c .before .before .before .before .before .before .before .before .before .before .put-byte .ensures) (then (c .before .before .before .before .before .before .put-decimal2 .ensures .0) (c .before .before .put-byte2 .ensures)))),
-  omega (arith, c .before .before .before .before .before .before .before .before .before .before .before .before .before .before .before .before .before .before .put-bytes .ensures .end, c .before .before .before .before .before .before .before .before .before .before .before .before .before .before .put-decimal .ensures .1, c .before .before .before .before .before .before .before .before .before .before .put-byte .ensures .end, c .before .before .before .before .before .before .put-decimal2 .ensures .1, c .before .before .put-byte2 .ensures .end),
-)
+returns c =
+    let fifth = c .before .before in
+    let fourth = fifth .before .before .before .before in
+    let third = fourth .before .before .before .before in
+    let second = third .before .before .before .before in
+    let first = second .before .before .before .before in (
+      then (first .put-bytes .ensures) (then (second .put-decimal .ensures .0)
+          (then (third .put-byte .ensures) (then (fourth .put-decimal2 .ensures .0) (fifth .put-byte2 .ensures)))),
+      omega (
+        arith,
+        first .put-bytes .ensures .end,
+        second .put-decimal .ensures .1,
+        third .put-byte .ensures .end,
+        fourth .put-decimal2 .ensures .1,
+        fifth .put-byte2 .ensures .end,
+      ),
+    )
 
 pub put-refused-spec : {M : Type 1} → statement M
 put-refused-spec =

@@ -21,9 +21,11 @@ enum-known-found-2 c = search needs
 
 put-bodies-requires : tie.Need-put-bodies-requires
 put-bodies-requires c κs =
+    let begun = c .before .before .before .before .before .before .before .before in
     let k = c .before .before .before .before .before .read-case in
-    let t = subst (λ (f : Found). SoundCaseAs (c .before .before .before .before .before .before .before .before .args .file .now) (k .result .base) (k .result .state) f) (c .before .before .found2 .given .1) (k .ensures .1) in
-    (c .before .before .before .before .before .before .before .before .pre, ((t .0, t .1, t .2, t .3), t .4))
+    let sound : Found → Type 0 = SoundCaseAs (begun .args .file .now) (k .result .base) (k .result .state) in
+    let t = subst sound (c .before .before .found2 .given .1) (k .ensures .1) in
+    (begun .pre, ((t .0, t .1, t .2, t .3), t .4))
 
 same-length : tie.Need-same-length
 same-length c = search needs
@@ -31,14 +33,19 @@ same-length c = search needs
 returns : tie.Need-returns
 unfolding reportOf
 returns c =
-    (rw (← c .before .before .before .before .before .before .before .before .read-case .ensures .0, c .before .before .before .before .before .found .given .1) (c .before .before .put-refused .ensures .0), omega (arith, c .before .before .put-refused .ensures .1))
+    let put = c .before .before .put-refused in
+    let told = c .before .before .before .before .before in
+    (rw (← told .before .before .before .read-case .ensures .0, told .found .given .1) (put .ensures .0), omega (arith, put .ensures .1))
 
 same-length-2 : tie.Need-same-length-2
 same-length-2 c = search needs
 
 returns-2 : tie.Need-returns-2
 unfolding reportOf
-returns-2 c = (rw (← c .before .before .before .before .before .before .before .before .read-case .ensures .0, c .before .before .before .before .before .found2 .given .1) (c .before .before .put-bodies .ensures .0), c .before .before .put-bodies .ensures .1)
+returns-2 c =
+    let put = c .before .before .put-bodies in
+    let told = c .before .before .before .before .before in
+    (rw (← told .before .before .before .read-case .ensures .0, told .found2 .given .1) (put .ensures .0), put .ensures .1)
 
 pub put-report-spec : {M : Type 1} → statement M
 put-report-spec =
