@@ -20,7 +20,9 @@ use Rattle.events.proofs.RowLaws as R
 use Rattle.casefile.specs.Table.{fieldAt, entryOf, tableOf}
 use Rattle.casefile.specs.Harts.{baseOf, countOf, hartsOk, HartsRules}
 use Rattle.casefile.specs.Case.{refusedCase, lengthOk, bodiesOf, partsOf, caseOf}
-use Rattle.casefile.specs.Rules.{FileRules, WrongField, entries, kind1, offset1, kind2, offset2, kind3, offset3, end3, hartsIn, memoryIn, eventsIn, LengthRules, FileRow, badLength, badTable, badHarts, badMemoryLength, badEvents, RefusedBy, UnrefusedFile, caseIn}
+use Rattle.casefile.specs.Rules.{FileRules, WrongField, entries, kind1, offset1, kind2, offset2, kind3, offset3, end3}
+use Rattle.casefile.specs.Rules.{hartsIn, memoryIn, eventsIn, LengthRules, FileRow, badLength, badTable, badHarts, badMemoryLength, badEvents}
+use Rattle.casefile.specs.Rules.{RefusedBy, UnrefusedFile, caseIn}
 use Rattle.casefile.specs.declared.Found.{Found}
 use Rattle.casefile.specs.declared.Found.the-variants.{Refused, Bodies}
 use Rattle.casefile.specs.declared.Case.{Case}
@@ -30,6 +32,9 @@ use Rattle.casefile.proofs.HartsLaws.{harts-exact}
 
 eq-cases : {P : Type 0} (a b : ℕ) → (a ≡ b → eqb a b ≡ true → P) → ((a ≡ b → ⊥) → eqb a b ≡ false → P) → P
 eq-cases a b f g = bool-cases (eqb a b) (λ t. f (eqb-true a b t) t) (λ t. g (eqb-false a b t) t)
+
+never : {P : Type 0} {k n : ℕ} → ltb k n ≡ false → k < n → P
+never {k = k} {n = n} e l = absurd (omega (arith, ltb-false k n e, l))
 
 -- a row that is wrong at a place stands at p or later, if it is right where its place is below p
 from-place : {A : Type 0} (p q k : ℕ) → q ≡ k → (A → ⊥) → (k < p → A) → p ≤ q
@@ -121,13 +126,13 @@ module _ (file : List ℕ) where
             }))
             (λ h h′.
             wrong 36 (rw (lo, hi, a′, b′, c′, d′, e′, f′, g′, h′)) (least, most) (end3 refl (λ z. h (omega arith)))
-            (wrong-from 36 (λ z. a) (λ z. b) (λ z. c) (λ z. d) (λ z. omega arith) (λ z. f) (λ z. omega arith) (λ z. absurd (omega arith)))))
+            (wrong-from 36 (λ z. a) (λ z. b) (λ z. c) (λ z. d) (λ z. omega arith) (λ z. f) (λ z. omega arith) (never refl))))
             (λ g g′.
             wrong 32 (rw (lo, hi, a′, b′, c′, d′, e′, f′, g′)) (least, most) (offset3 refl (λ z. g (omega arith)))
-            (wrong-from 32 (λ z. a) (λ z. b) (λ z. c) (λ z. d) (λ z. omega arith) (λ z. f) (λ z. absurd (omega arith)) (λ z. absurd (omega arith)))))
+            (wrong-from 32 (λ z. a) (λ z. b) (λ z. c) (λ z. d) (λ z. omega arith) (λ z. f) (never refl) (never refl))))
             (λ f f′.
             wrong 28 (rw (lo, hi, a′, b′, c′, d′, e′, f′)) (least, most) (kind3 refl f)
-            (wrong-from 28 (λ z. a) (λ z. b) (λ z. c) (λ z. d) (λ z. omega arith) (λ z. absurd (omega arith)) (λ z. absurd (omega arith)) (λ z. absurd (omega arith))))
+            (wrong-from 28 (λ z. a) (λ z. b) (λ z. c) (λ z. d) (λ z. omega arith) (never refl) (never refl) (never refl)))
 
       second : Listed
       unfolding tableOf entryOf
@@ -140,10 +145,10 @@ module _ (file : List ℕ) where
           eq-cases (fieldAt file 20) (40 + fieldAt file 12) (λ e e′. third d e)
           (λ e e′.
           wrong 20 (rw (lo, hi, a′, b′, c′, d′, e′)) (least, most) (offset2 refl (λ z. e (omega arith)))
-          (wrong-from 20 (λ z. a) (λ z. b) (λ z. c) (λ z. d) (λ z. absurd (omega arith)) (λ z. absurd (omega arith)) (λ z. absurd (omega arith)) (λ z. absurd (omega arith)))))
+          (wrong-from 20 (λ z. a) (λ z. b) (λ z. c) (λ z. d) (never refl) (never refl) (never refl) (never refl))))
           (λ d d′.
           wrong 16 (rw (lo, hi, a′, b′, c′, d′)) (least, most) (kind2 refl d)
-          (wrong-from 16 (λ z. a) (λ z. b) (λ z. c) (λ z. absurd (omega arith)) (λ z. absurd (omega arith)) (λ z. absurd (omega arith)) (λ z. absurd (omega arith)) (λ z. absurd (omega arith))))
+          (wrong-from 16 (λ z. a) (λ z. b) (λ z. c) (never refl) (never refl) (never refl) (never refl) (never refl)))
 
     listed-fields : Listed
     unfolding tableOf entryOf
@@ -155,10 +160,10 @@ module _ (file : List ℕ) where
         eq-cases (fieldAt file 8) 40 (λ c c′. second a b c)
         (λ c c′.
         wrong 8 (rw (lo, hi, a′, b′, c′)) (least, most) (offset1 refl c)
-        (wrong-from 8 (λ z. a) (λ z. b) (λ z. absurd (omega arith)) (λ z. absurd (omega arith)) (λ z. absurd (omega arith)) (λ z. absurd (omega arith)) (λ z. absurd (omega arith)) (λ z. absurd (omega arith)))))
+        (wrong-from 8 (λ z. a) (λ z. b) (never refl) (never refl) (never refl) (never refl) (never refl) (never refl))))
         (λ b b′.
         wrong 4 (rw (lo, hi, a′, b′)) (least, most) (kind1 refl b)
-        (wrong-from 4 (λ z. a) (λ z. absurd (omega arith)) (λ z. absurd (omega arith)) (λ z. absurd (omega arith)) (λ z. absurd (omega arith)) (λ z. absurd (omega arith)) (λ z. absurd (omega arith)) (λ z. absurd (omega arith)))))
+        (wrong-from 4 (λ z. a) (never refl) (never refl) (never refl) (never refl) (never refl) (never refl) (never refl))))
         (λ a a′. wrong 0 (rw (lo, hi, a′)) (least, most) (entries refl a) (λ q w. omega arith))
 
   listed : Listed
@@ -237,7 +242,7 @@ module _ (file : List ℕ) where
         R.refuses 8 p (ap (partsOf file) t)
         (record {
           applies = badTable refl w;
-          first = none-below 8 (λ l. sized) (λ l. absurd (omega arith)) (λ l. absurd (omega arith)) (λ l. absurd (omega arith)) (λ l. absurd (omega arith));
+          first = none-below 8 (λ l. sized) (never refl) (never refl) (never refl) (never refl);
           lowest = not-below 8 p (table-from p f);
         })
 
@@ -271,7 +276,7 @@ module _ (file : List ℕ) where
           R.refuses 9 (fieldAt file 8) (case-bodies ∙ rw h e)
           (record {
             applies = badHarts refl refl (λ ok. contrary (harts-exact (hartsIn file) .1 ok) h);
-            first = none-below 9 (λ l. sized) (λ l. r .none) (λ l. absurd (omega arith)) (λ l. absurd (omega arith)) (λ l. absurd (omega arith));
+            first = none-below 9 (λ l. sized) (λ l. r .none) (never refl) (never refl) (never refl);
             lowest = not-below 9 (fieldAt file 8) harts-from;
           })
 
@@ -281,7 +286,7 @@ module _ (file : List ℕ) where
           R.refuses 10 (fieldAt file 20) (case-bodies ∙ rw (h, l))
           (record {
             applies = badMemoryLength refl refl (λ ok. contrary (length-exact (length (memoryIn file)) .1 ok) l);
-            first = none-below 10 (λ l. sized) (λ l. r .none) (λ l. harts-exact (hartsIn file) .0 h) (λ l. absurd (omega arith)) (λ l. absurd (omega arith));
+            first = none-below 10 (λ l. sized) (λ l. r .none) (λ l. harts-exact (hartsIn file) .0 h) (never refl) (never refl);
             lowest = not-below 10 (fieldAt file 20) memory-from;
           })
 
@@ -293,7 +298,9 @@ module _ (file : List ℕ) where
           R.refuses 11 (fieldAt file 32 + p) (case-bodies ∙ rw (h, l, e) refl)
           (record {
             applies = badEvents refl p refl (w .wrong);
-            first = none-below 11 (λ z. sized) (λ z. r .none) (λ z. harts-exact (hartsIn file) .0 h) (λ z. length-exact (length (memoryIn file)) .0 l) (λ z. absurd (omega arith));
+            first =
+                none-below 11 (λ z. sized) (λ z. r .none) (λ z. harts-exact (hartsIn file) .0 h) (λ z. length-exact (length (memoryIn file)) .0 l)
+                (never refl);
             lowest = not-below 11 (fieldAt file 32 + p) (events-from p (w .lowest));
           })
       by-events h l Good e =
@@ -318,7 +325,7 @@ module _ (file : List ℕ) where
       R.refuses 7 0 (ap (partsOf file) t)
       (record {
         applies = badLength refl refl w;
-        first = none-below 7 (λ l. absurd (omega arith)) (λ l. absurd (omega arith)) (λ l. absurd (omega arith)) (λ l. absurd (omega arith)) (λ l. absurd (omega arith));
+        first = none-below 7 (never refl) (never refl) (never refl) (never refl) (never refl);
         lowest = λ q l r. omega arith;
       })
   by-table (wrong p t sized w f) = refused-8 sized p t w f

@@ -216,7 +216,10 @@ fn refused(number: usize, place: usize) -> Case
 fn read_bodies(file: &[u8], memory: usize, events: usize) -> Case
     requires { ⌜ (40 ≤ memory) × (memory ≤ events) ⌝ }
     requires { ⌜ (events ≤ length (now file)) × (length (now file) ≤ 65536) ⌝ }
-    ensures { λ r. ⌜ r ≡ bodiesOf memory events (part (now (file .entry)) 40 (memory - 40)) (part (now (file .entry)) memory (events - memory)) (drop events (now (file .entry))) ⌝ }
+    ensures { λ r. ⌜
+        r ≡ bodiesOf memory events
+        (part (now (file .entry)) 40 (memory - 40)) (part (now (file .entry)) memory (events - memory)) (drop events (now (file .entry)))
+        ⌝ }
 {
     let harts = &file[40..memory];
     if !harts_ok(harts) {

@@ -44,7 +44,10 @@ pcs-ok-requires c κs = search needs
 
 returns-3 : tie.Need-returns-3
 unfolding hartsOk
-returns-3 c = rw (c .pcs-ok .ensures, c .before .field2 .ensures .0, c .before .before .load-at .ensures, eq-eqb _ _ (c .before .before .before .if2 .left ∙ ap (λ (n : ℕ). 16 + 256 * n) (c .before .before .before .before .field .ensures .0)), c .before .before .before .before .field .ensures .0)
+returns-3 c =
+    let count = c .before .before .before .before .field .ensures .0 in
+    let size = c .before .before .before .if2 .left ∙ ap (λ (n : ℕ). 16 + 256 * n) count in
+    rw (c .pcs-ok .ensures, c .before .field2 .ensures .0, c .before .before .load-at .ensures, eq-eqb _ _ size, count)
 
 pub harts-ok-spec : {M : Type 1} → statement M
 harts-ok-spec =

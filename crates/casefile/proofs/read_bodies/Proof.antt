@@ -37,7 +37,9 @@ rules : (c : tie.Else1) → HartsRules (harts c)
 rules c = harts-exact (harts c) .0 (right c)
 
 abbrev memory : (c : tie.Else2) → List ℕ
-memory c = take (c .before .before .before .before .before .before .before .args .events - c .before .before .before .before .before .before .before .args .memory) (drop (c .before .before .before .before .before .before .before .args .memory) (c .before .before .before .before .before .before .before .args .file .now))
+memory c =
+    let x = c .before .before .before .before .before .before .before .args in
+    take (x .events - x .memory) (drop (x .memory) (x .file .now))
 
 long : (c : tie.Else2) → lengthOk (length (memory c)) ≡ true
 long c = sym (c .before .memory-ok .ensures) ∙ not-false _ (c .if2 .left)
@@ -46,10 +48,18 @@ long c = sym (c .before .memory-ok .ensures) ∙ not-false _ (c .if2 .left)
 rest : (file : List ℕ) (e : ℕ) → take (length file - e) (drop e file) ≡ drop e file
 rest file e = take-all (length file - e) (drop e file) (rw length-drop (omega arith))
 
-seen : (c : tie.After-check) → checkedOf (countOf (harts (c .before .before .before .before .before .before .before))) (baseOf (harts (c .before .before .before .before .before .before .before))) (length (memory (c .before .before .before .before))) (drop (c .before .before .before .before .before .before .before .before .before .before .before .args .events) (c .before .before .before .before .before .before .before .before .before .before .before .args .file .now)) ≡ c .check .result
+-- what is checked
+abbrev checked : (c : tie.Else2) → Checked
+checked c =
+    let x = c .before .before .before .before .before .before .before .args in
+    let body = harts (c .before .before .before) in
+    checkedOf (countOf body) (baseOf body) (length (memory c)) (drop (x .events) (x .file .now))
+
+seen : (c : tie.After-check) → checked (c .before .before .before .before) ≡ c .check .result
 seen c =
-    let size : length (memory (c .before .before .before .before)) ≡ c .before .before .before .before .before .before .before .before .before .before .before .args .events - c .before .before .before .before .before .before .before .before .before .before .before .args .memory = simp (length-take, length-drop) (omega arith) in
-    sym (c .check .ensures .0 ∙ rw (c .before .before .field .ensures .0, c .before .before .before .load-at .ensures, size, rest (c .before .before .before .before .before .before .before .before .before .before .before .args .file .now) (c .before .before .before .before .before .before .before .before .before .before .before .args .events)))
+    let x = c .before .before .before .before .before .before .before .before .before .before .before .args in
+    let size : length (memory (c .before .before .before .before)) ≡ x .events - x .memory = simp (length-take, length-drop) (omega arith) in
+    sym (c .check .ensures .0 ∙ rw (c .before .before .field .ensures .0, c .before .before .before .load-at .ensures, size, rest (x .file .now) (x .events)))
 
 sub-harts : tie.Need-sub-harts
 sub-harts c = search needs
@@ -87,7 +97,9 @@ refused-requires-2 c κs = search needs
 
 returns-2 : tie.Need-returns-2
 unfolding bodiesOf part
-returns-2 c = rw (right (c .before .before .before .before), sym (c .before .before .memory-ok .ensures) ∙ not-true _ (c .before .if2 .taken)) (c .refused2 .ensures)
+returns-2 c =
+    let short = sym (c .before .before .memory-ok .ensures) ∙ not-true _ (c .before .if2 .taken) in
+    rw (right (c .before .before .before .before), short) (c .refused2 .ensures)
 
 load-at-requires : tie.Need-load-at-requires
 load-at-requires c κs = (omega (arith, rules (c .before .before .before) .0), omega arith)
@@ -116,8 +128,9 @@ enum-known-place c = search needs
 add-refused : tie.Need-add-refused
 add-refused c =
     let x = c .before .before .before .before .before .before .before .before .before .before .before .before .before .before .args in
-    let w = subst (λ (r : Checked). Within r (length (take (length (x .file .now) - x .events) (drop (x .events) (x .file .now))))) (c .before .place .given .1) (c .before .before .before .check .ensures .1) in
-    let l : length (take (length (x .file .now) - x .events) (drop (x .events) (x .file .now))) ≤ length (x .file .now) = simp (length-take, length-drop) (omega arith) in
+    let body = take (length (x .file .now) - x .events) (drop (x .events) (x .file .now)) in
+    let w = subst (λ (r : Checked). Within r (length body)) (c .before .place .given .1) (c .before .before .before .check .ensures .1) in
+    let l : length body ≤ length (x .file .now) = simp (length-take, length-drop) (omega arith) in
     omega (arith, w, l)
 
 refused-requires-3 : tie.Need-refused-requires-3
@@ -134,11 +147,24 @@ read-state-requires c κs =
 
 returns-3 : tie.Need-returns-3
 unfolding bodiesOf part
-returns-3 c = rw (right (c .before .before .before .before .before .before .before .before .before .before .before), long (c .before .before .before .before .before .before .before .before), seen (c .before .before .before .before) ∙ c .before .before .place .given .1) (c .refused3 .ensures)
+returns-3 c =
+    let told = c .before .before .before .before in
+    let passed = told .before .before .before .before in
+    rw (right (passed .before .before .before), long passed, seen told ∙ c .before .before .place .given .1) (c .refused3 .ensures)
 
 returns-4 : tie.Need-returns-4
 unfolding bodiesOf part
-returns-4 c = rw (right (c .before .before .before .before .before .before .before .before .before .before), long (c .before .before .before .before .before .before .before), seen (c .before .before .before) ∙ c .before .enum-told .given .1, c .read-state .ensures, c .before .before .before .before .before .field .ensures .0, c .before .before .before .before .before .before .load-at .ensures)
+returns-4 c =
+    let told = c .before .before .before in
+    let passed = told .before .before .before .before in
+    rw (
+      right (passed .before .before .before),
+      long passed,
+      seen told ∙ c .before .enum-told .given .1,
+      c .read-state .ensures,
+      told .before .before .field .ensures .0,
+      told .before .before .before .load-at .ensures,
+    )
 
 pub read-bodies-spec : {M : Type 1} → statement M
 read-bodies-spec =

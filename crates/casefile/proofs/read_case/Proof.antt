@@ -29,16 +29,21 @@ enum-known-memory c = search needs
 read-bodies-requires : tie.Need-read-bodies-requires
 read-bodies-requires c κs =
     let file = c .before .before .before .before .before .args .file .now in
-    let i = subst (λ (f : Found). InsideFile (length file) f) (sym (c .before .before .before .read-table .ensures) ∙ c .before .memory .given .1) (table-inside file) in
+    let table = sym (c .before .before .before .read-table .ensures) ∙ c .before .memory .given .1 in
+    let i = subst (λ (f : Found). InsideFile (length file) f) table (table-inside file) in
     ((i .0, i .1), (i .2, i .3))
 
 returns : tie.Need-returns
 unfolding caseOf
-returns c = read-sound (c .before .before .before .before .before .before .args .file .now) _ (rw (sym (c .before .before .before .before .read-table .ensures) ∙ c .before .before .number .given .1) (c .refused .ensures))
+returns c =
+    let table = sym (c .before .before .before .before .read-table .ensures) ∙ c .before .before .number .given .1 in
+    read-sound (c .before .before .before .before .before .before .args .file .now) _ (rw table (c .refused .ensures))
 
 returns-2 : tie.Need-returns-2
 unfolding caseOf
-returns-2 c = read-sound (c .before .before .before .before .before .before .args .file .now) _ (rw (sym (c .before .before .before .before .read-table .ensures) ∙ c .before .before .memory .given .1) (c .read-bodies .ensures))
+returns-2 c =
+    let table = sym (c .before .before .before .before .read-table .ensures) ∙ c .before .before .memory .given .1 in
+    read-sound (c .before .before .before .before .before .before .args .file .now) _ (rw table (c .read-bodies .ensures))
 
 pub read-case-spec : {M : Type 1} → statement M
 read-case-spec =

@@ -11,7 +11,8 @@ use Rattle.casefile.proofs.read_entry.Reads as reads
 use Rattle.casefile.proofs.read_entry.Lts as lts
 use Rattle.casefile.proofs.field.Reads as field-reads
 
-kind : (c : tie.Else1) → eqb (fieldAt (c .before .before .before .args .file .now) (c .before .before .before .args .place)) (c .before .before .before .args .kind) ≡ true
+kind : (c : tie.Else1)
+    → eqb (fieldAt (c .before .before .before .args .file .now) (c .before .before .before .args .place)) (c .before .before .before .args .kind) ≡ true
 kind c = eq-eqb _ _ (sym (c .before .field .ensures .0) ∙ c .if1 .left)
 
 field-requires : tie.Need-field-requires
@@ -47,7 +48,8 @@ returns-3 : tie.Need-returns-3
 unfolding entryOf
 returns-3 c =
     let f = c .field3 .ensures in
-    (rw (kind (c .before .before .before), eq-eqb _ _ (sym (c .before .before .field2 .ensures .0) ∙ c .before .if2 .left), f .0), (omega arith, omega (arith, f .1)))
+    let offset = eq-eqb _ _ (sym (c .before .before .field2 .ensures .0) ∙ c .before .if2 .left) in
+    (rw (kind (c .before .before .before), offset, f .0), (omega arith, omega (arith, f .1)))
 
 pub read-entry-spec : {M : Type 1} → statement M
 read-entry-spec =
