@@ -1,4 +1,5 @@
 -- The operations of the integer registers on two numbers of k bits, in the order of the manual's table of OP.
+-- RULES 4.1.4.
 use Prim.Native.Nat.{ℕ, _+_, _-_, _*_, _/_, _%_, _^_}
 use mathlib.Core.Bool.{cond}
 use lib.Bits.{bitAnd, bitOr, bitXor}

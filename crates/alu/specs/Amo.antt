@@ -1,4 +1,5 @@
 -- What the nine atomic operations leave in memory, of an old value and an operand of k bits.
+-- RULES 4.7.
 use Prim.Native.Nat.{ℕ, _+_, _%_, _^_, min, max}
 use mathlib.Core.Bool.{cond}
 use lib.Bits.{bitAnd, bitOr, bitXor}

@@ -1,4 +1,5 @@
 -- A pair of registers as one number.
+-- RULES 4.8.
 use Prim.Native.Nat.{ℕ, _+_, _*_, _^_}
 use Rattle.alu.specs.declared.swap.Pair.{Pair}
 

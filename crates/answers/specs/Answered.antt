@@ -1,4 +1,5 @@
 -- Which answers there are.
+-- RULES 1.4, 11.1.
 use Prim.Native.Nat.{ℕ, _≤_}
 use mathlib.Core.Path.{_≡_}
 use Rattle.model.specs.Retired.{IsRetired}

@@ -1,4 +1,5 @@
 -- The table of traps (01, "Traps"), row by row and without tests.
+-- RULES 3.1, 3.2.
 use Prim.Native.Nat.{ℕ, _%_, _<_}
 use mathlib.Core.Path.{_≡_}
 use mathlib.Core.Logic.{_⊎_}

@@ -1,5 +1,6 @@
 -- Events that none of 3, 4 and 5 refuses, alone and in a run, without tests: what 11 ("the first bad event, by 3, 4 or 5 or its zeros or kind") shares
 -- with the table of refusals. Zeros and kind are in events/specs/Rules.antt.
+-- RULES 7.5.
 use Prim.Native.Nat.{ℕ, _<_, _≤_}
 use mathlib.Core.List.{List, [], _∷_}
 use Rattle.reserve.specs.Range.{Inside}

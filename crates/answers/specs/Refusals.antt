@@ -1,4 +1,5 @@
 -- The table of refusals (01, "Refusal numbers, in the order they are tried"), row by row and without tests. An event has rows 1 to 5.
+-- RULES 2.1, 2.2.
 use Prim.Native.Nat.{ℕ, _<_}
 use mathlib.Core.Path.{_≡_}
 use mathlib.Core.Logic.{_⊎_}

@@ -1,4 +1,5 @@
 -- A case file read (01, "The case file"): refusals 7 to 11, "Tried in this order."
+-- RULES 7.3, 7.5, 7.6.
 use mathlib.Core.Path.{_≡_}
 use Prim.Native.Nat.{ℕ, _+_, _-_, _%_, _≤_}
 use mathlib.Core.Bool.{Bool, cond, _&&_}

@@ -1,4 +1,5 @@
 -- The harts body of a case file (01, "The case file"): "1 harts: base (8), count (4), zero (4), then for each hart x1 to x31 and pc (8 each)."
+-- RULES 7.2.
 use mathlib.Core.Path.{_≡_}
 use Prim.Native.Nat.{ℕ, _+_, _*_, _-_, _/_, _%_, _^_, _≤_, _<_}
 use mathlib.Core.Bool.{Bool, cond, _&&_}

@@ -1,4 +1,5 @@
 -- Refusals 7 to 11 (01, "The case file"), row by row and without tests: when a file is refused, by which number, and at which place.
+-- RULES 7.5.
 use mathlib.Core.Path.{_≡_}
 use Prim.Native.Nat.{ℕ, _+_, _%_, _≤_, _<_}
 use mathlib.Core.List.{List}

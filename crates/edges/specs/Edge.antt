@@ -1,4 +1,5 @@
 -- What a row of the table of edges says (01, "Edges, proved together").
+-- RULES 10.
 use mathlib.Core.Path.{_≡_}
 use mathlib.Core.List.{List, [], _∷_, _++_}
 use Prim.Native.Nat.{ℕ, _+_, _*_}

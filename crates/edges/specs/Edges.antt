@@ -1,4 +1,5 @@
 -- The table (01, "Edges, proved together": "One table of these twelve, one statement over it"). An edge with several parts has several rows.
+-- RULES 10.
 use mathlib.Core.Bool.{false}
 use mathlib.Core.List.{List, [], _∷_}
 use Prim.Native.Nat.{ℕ}

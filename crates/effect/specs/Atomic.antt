@@ -1,4 +1,5 @@
 -- LR, SC, AMO and AMOCAS, at a register width of xlen bits.
+-- RULES: `execLr` 4.5, `execSc` 4.6 and 3.2, `execAmo` 4.7, `swapped`, `pairWrites`, `execCas`, `execCasPair` 4.8.
 use Prim.Native.Nat.{ℕ, _+_, _/_, _%_, _^_}
 use mathlib.Core.Path.{_≡_}
 use mathlib.Core.Bool.{Bool, true, cond}

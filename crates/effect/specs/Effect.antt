@@ -1,4 +1,5 @@
 -- What an instruction comes to: a trap, or its effect.
+-- RULES 3 and 4: what the two ends of a step are.
 use Prim.Native.Nat.{ℕ, _+_, _-_, _%_, _^_}
 use mathlib.Core.Path.{_≡_}
 use mathlib.Core.List.{List}

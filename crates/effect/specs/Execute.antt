@@ -1,4 +1,5 @@
 -- What each instruction does, at a register width of xlen bits. x gives the value of a register; all are read here, before any is written.
+-- RULES 4; `pairAt` 4.8; sources before destinations 4.9.
 use Prim.Native.Nat.{ℕ, _+_, _*_, _%_, _^_}
 use mathlib.Core.Bool.{Bool, cond}
 use mathlib.Core.List.{List}

@@ -1,4 +1,5 @@
 -- Integer operations, jumps and branches, at a register width of xlen bits.
+-- RULES: `computed` 4.1.4; `execJump`, `clearBit0`, `holdsOf`, `execBranch` 4.3.
 use Prim.Native.Nat.{ℕ, _*_, _/_, _%_}
 use mathlib.Core.Bool.{Bool, cond, not}
 use lib.Dec.{eqb, ltb}

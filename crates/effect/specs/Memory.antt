@@ -1,4 +1,5 @@
 -- Loads and stores, at a register width of xlen bits.
+-- RULES: `faultOf`, `checked` 3.1; loads and stores 4.2.
 use Prim.Native.Nat.{ℕ, _-_, _%_}
 use mathlib.Core.Bool.{cond}
 use mathlib.Core.List.{List}

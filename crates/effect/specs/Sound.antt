@@ -1,4 +1,5 @@
 -- What every effect keeps: the pc stays aligned, a reservation is as 01 asks, what is stored lies in memory, and values fit registers.
+-- RULES 1.1, 1.3, 4.10.
 use Prim.Native.Nat.{ℕ, _%_, _^_, _<_}
 use mathlib.Core.Path.{_≡_}
 use mathlib.Core.Logic.{_⊎_}

@@ -1,5 +1,6 @@
 -- The events body of a case (01, "The case file"): "3 events, 24 bytes each: kind (1 step, 2 device, 3 yield), hart, size, five zeros, address (8),
 -- data (8, first byte lowest, zero above size). Fields a kind doesn't use are zero."
+-- RULES 7.4; `checkedOf` 7.5.
 use mathlib.Core.Path.{_≡_}
 use Prim.Native.Nat.{ℕ, zero, suc, _+_, _/_, _%_, _≤_}
 use mathlib.Core.Bool.{Bool, false, cond, _||_, _&&_}

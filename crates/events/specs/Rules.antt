@@ -1,4 +1,5 @@
 -- Refusal 11 (01, "The case file") without tests: where an events body is wrong.
+-- RULES 7.4, 7.5.
 use mathlib.Core.Path.{_≡_}
 use mathlib.Core.Logic.{_⊎_}
 use Prim.Native.Nat.{ℕ, _+_, _*_, _%_, _≤_, _<_}

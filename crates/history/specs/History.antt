@@ -1,4 +1,5 @@
 -- The history that a reservation stands for, in 01's words and without tests. The size of the set is a parameter; 01 has 64.
+-- RULES 5.
 use Prim.Native.Nat.{ℕ}
 use mathlib.Core.Path.{_≡_}
 use mathlib.Core.Logic.{_≢_}

@@ -1,4 +1,5 @@
 -- The widths of atomic instructions: funct3 2 is W, 3 is D.
+-- RULES 4.4.
 use Prim.Native.Nat.{ℕ}
 use Rattle.isa.specs.declared.Width.{Width}
 use Rattle.isa.specs.declared.Width.the-variants.{Word, Double}

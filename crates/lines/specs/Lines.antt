@@ -1,4 +1,5 @@
 -- The lines of a run (01: "The program reads a case from standard input and writes lines, compared byte for byte").
+-- RULES 9.
 use Prim.Native.Nat.{ℕ, suc}
 use mathlib.Core.List.{List, [], _∷_, _++_}
 use Rattle.text.specs.Ascii.{ascii}

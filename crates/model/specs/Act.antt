@@ -1,4 +1,5 @@
 -- What an event comes to: decided once, and then told and applied. Both the answer and what changes are read off the decision.
+-- RULES 1.4, 2.3, 3.1 (what a refusal and a trap leave), 3.3.
 use Prim.Native.Nat.{ℕ, _+_, _-_, _*_, _%_}
 use mathlib.Core.Bool.{cond}
 use mathlib.Core.List.{List}

@@ -1,4 +1,5 @@
 -- States that differ at most in unused harts (01, refusal 2: "unused harts' fields aren't looked at and never change").
+-- RULES 1.1, 2.1.
 use mathlib.Core.Path.{_≡_}
 use mathlib.Core.List.{List, [], _∷_}
 use Prim.Native.Nat.{ℕ, _<_}

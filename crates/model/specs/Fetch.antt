@@ -1,4 +1,5 @@
 -- Which instruction a hart's step performs.
+-- RULES 1.4.
 use mathlib.Core.Path.{_≡_}
 use Prim.Native.Nat.{ℕ}
 use lib.ListN.{length, getD}

@@ -1,4 +1,5 @@
 -- What an answer says, without its numbers.
+-- RULES 1.4, 3.3.
 use mathlib.Core.Path.{_≡_}
 use Prim.Native.Nat.{ℕ}
 use Rattle.model.specs.declared.Outcome.{Outcome}

@@ -1,4 +1,5 @@
 -- A run of an events body (01: "A run takes a budget of events and reports how many it performed").
+-- RULES 8.
 use mathlib.Core.Bool.{cond}
 use mathlib.Core.List.{List}
 use Prim.Native.Nat.{ℕ, _/_, min}

@@ -1,4 +1,5 @@
 -- What reservations learn of an event and of a run, and which bytes a notice writes.
+-- RULES 6.2 (what writes into bytes).
 use mathlib.Core.Logic.{_≢_}
 use mathlib.Core.List.{List, [], _∷_}
 use Prim.Native.Nat.{ℕ}

@@ -1,4 +1,5 @@
 -- What keeps a machine one that refusals 1 and 2 don't refuse.
+-- RULES 1.1, 1.3: what every event keeps.
 use mathlib.Core.Path.{_≡_}
 use Prim.Native.Nat.{ℕ, _%_}
 use lib.ListN.{length}

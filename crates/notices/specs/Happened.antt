@@ -1,5 +1,6 @@
 -- What an event did, in terms of the event, the instruction that a hart's step performs, and the answer, and without tests. m is the machine that the
 -- event is put to.
+-- RULES 5, 6.2.
 use mathlib.Core.Path.{_≡_}
 use mathlib.Core.Logic.{_⊎_}
 use Prim.Native.Nat.{ℕ}

@@ -1,5 +1,6 @@
 -- Demand 3, "an accepted retry loop left alone finishes within as many steps of its hart as it has words, without a refusal, a trap or a failed SC
 -- of that hart", in the words of 01 ("The words of demand 3"). The events are those of `perform`: answerOf and nextOf are what it computes.
+-- RULES 6.2, 11.3.
 use mathlib.Core.Path.{_≡_}
 use mathlib.Core.Logic.{_≢_, _⊎_}
 use mathlib.Core.Bool.{Bool, true, false, cond}

@@ -1,5 +1,6 @@
 -- The report of a case that is read, without a line that tells of a refusal: 11 has tried its events "by 3, 4 or 5 or its zeros or kind" before any is
 -- performed.
+-- RULES 9.
 use mathlib.Core.Path.{_≡_}
 use mathlib.Core.List.{List, [], _∷_, _++_}
 use Prim.Native.Nat.{ℕ, suc, _-_}

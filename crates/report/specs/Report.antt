@@ -1,4 +1,5 @@
 -- The program's whole output for any bytes (01, "The program reads a case from standard input and writes lines"; "its budget is all events").
+-- RULES 9.
 use Prim.Native.Nat.{ℕ, _-_}
 use mathlib.Core.List.{List, _++_}
 use lib.ListN.{length, drop}

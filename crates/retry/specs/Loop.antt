@@ -1,5 +1,6 @@
 -- Which blocks of words are accepted: 01, "A block is a list of words. It is accepted exactly if no reason below applies; otherwise the answer is the
 -- lowest place with a reason, and at that place the lowest reason."
+-- RULES 6.1.
 use mathlib.Core.Bool.{Bool, true, false, cond, not, _&&_, _||_}
 use mathlib.Core.List.{List, [], _∷_, _++_}
 use Prim.Native.Nat.{ℕ, zero, suc, _+_, _*_, _^_, _%_}

@@ -1,4 +1,5 @@
 -- The six reasons of 01, "Retry loops", one by one and without tests, and what they decide. "LR", "SC" and "word of RV64I" are meant of legal words.
+-- RULES 6.1.
 use mathlib.Core.Path.{_≡_}
 use mathlib.Core.Logic.{_≢_, _⊎_, _↔_}
 use mathlib.Core.List.{List}

@@ -1,5 +1,6 @@
 -- Demand 2's sentence on SC in terms of events: "from a start without reservations an SC that doesn't trap succeeds exactly if the history since its
 -- hart's latest retired LR allows it".
+-- RULES 5, 11.2.
 use Prim.Native.Nat.{ℕ}
 use mathlib.Core.Path.{_≡_}
 use mathlib.Core.Logic.{_≢_}

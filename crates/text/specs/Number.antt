@@ -1,4 +1,5 @@
 -- Numbers as text, in ASCII.
+-- RULES 9.
 use mathlib.Core.Path.{_≡_}
 use Prim.Native.Nat.{ℕ, zero, suc, _+_, _*_, _-_, _/_, _%_, _<_}
 use mathlib.Core.Bool.{cond}
