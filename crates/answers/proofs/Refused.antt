@@ -25,6 +25,9 @@ use Rattle.model.specs.declared.Outcome.{Outcome}
 use Rattle.model.specs.declared.Outcome.the-variants as O
 use Rattle.answers.specs.Refusals.{NoHart, BadSize, Beyond, RefusalRow, badMemory, badState, noHart, badSize, beyond, FirstRefusal, Unrefused}
 
+pub never : {P : Type 0} {k n : ℕ} → ltb k n ≡ false → k < n → P
+never {k = k} {n = n} e l = absurd (omega (arith, ltb-false k n e, l))
+
 -- ---- the answers apart
 
 -- 0: retired, 1: a trap, 2: a refusal
@@ -132,13 +135,13 @@ module _ (base : ℕ) (mem : List ℕ) (s : State) where
         (λ t. passes (good e ∙ q ∙ ap (λ (b : Bool). cond b a (refuse 3)) t ∙ p) (free e (λ z. isnt z (ltb-true h (s .count) t)) b c))
         (λ t.
         refuses 3 (good e ∙ q ∙ ap (λ (b : Bool). cond b a (refuse 3)) t)
-        (record { applies = noHart refl (is (λ l. omega (arith, ltb-false h (s .count) t, l))); first = clear e 3 (λ l. absurd (omega arith)) (λ l. absurd (omega arith)) (λ l. absurd (omega arith)) }))
+        (record { applies = noHart refl (is (λ l. omega (arith, ltb-false h (s .count) t, l))); first = clear e 3 (never refl) (never refl) (never refl) }))
 
     refuse-size : (a n v : ℕ) → BadSize (Device a n v) → (leb 1 n && leb n 8) ≡ false → Decided (Device a n v)
     unfolding actOn deviceOf
     refuse-size a n v bad t =
         refuses 4 (good (Device a n v) ∙ rw t)
-        (record { applies = badSize refl bad; first = clear (Device a n v) 4 (λ l z. z) (λ l. absurd (omega arith)) (λ l. absurd (omega arith)) })
+        (record { applies = badSize refl bad; first = clear (Device a n v) 4 (λ l z. z) (never refl) (never refl) })
 
     device-sized : (a n v : ℕ) → 1 ≤ n → n ≤ 8 → Decided (Device a n v)
     unfolding actOn deviceOf
@@ -150,7 +153,10 @@ module _ (base : ℕ) (mem : List ℕ) (s : State) where
         (free (Device a n v) (λ z. z) sized (λ z. z (inside-of base (length mem) a n t))))
         (λ t.
         refuses 5 (good (Device a n v) ∙ rw (le-leb 1 n lo, le-leb n 8 hi, t))
-        (record { applies = beyond refl (λ i. contrary (of-inside base (length mem) a n i) t); first = clear (Device a n v) 5 (λ l z. z) (λ l. sized) (λ l. absurd (omega arith)) }))
+        (record {
+          applies = beyond refl (λ i. contrary (of-inside base (length mem) a n i) t);
+          first = clear (Device a n v) 5 (λ l z. z) (λ l. sized) (never refl);
+        }))
 
     decided-on : (e : Event) → Decided e
     unfolding actOn deviceOf
@@ -176,11 +182,11 @@ module _ (base : ℕ) (mem : List ℕ) (s : State) where
       (λ u.
       let bad : StateRules base (length mem) s → ⊥ = λ r. contrary (state-exact base (length mem) s .1 r) u in
       refuses 2 (refuses-early e 2 (omega arith) (refusal-2 base (length mem) s .1 (m, bad)))
-      (record { applies = badState refl bad; first = none-below e 2 (λ l. m) (λ l. absurd (omega arith)) (λ l. absurd (omega arith)) (λ l. absurd (omega arith)) (λ l. absurd (omega arith)) })))
+      (record { applies = badState refl bad; first = none-below e 2 (λ l. m) (never refl) (never refl) (never refl) (never refl) })))
       (λ t.
       let bad : MemoryRules base (length mem) → ⊥ = λ r. contrary (memory-exact base (length mem) .1 r) t in
       refuses 1 (refuses-early e 1 (omega arith) (refusal-1 base (length mem) s .1 bad))
-      (record { applies = badMemory refl bad; first = none-below e 1 (λ l. absurd (omega arith)) (λ l. absurd (omega arith)) (λ l. absurd (omega arith)) (λ l. absurd (omega arith)) (λ l. absurd (omega arith)) }))
+      (record { applies = badMemory refl bad; first = none-below e 1 (never refl) (never refl) (never refl) (never refl) (never refl) }))
 
   module _ (e : Event) where
     given : Decided e → (n : ℕ) → answerOf base mem s e .outcome ≡ O.Refused n → FirstRefusal base mem s e n

@@ -22,6 +22,7 @@ use Rattle.model.specs.Run.{Result, refusedRun, performedRun, performedCount, r
 use Rattle.model.specs.declared.Verdict.{Verdict}
 use Rattle.model.specs.declared.Verdict.the-variants.{Performed, Refused}
 use Rattle.answers.specs.Runs.{RunRow, wrongMemory, wrongState, wrongBody, RunRefused, RunUnrefused}
+use Rattle.answers.proofs.Refused.{never}
 
 -- ---- the verdicts apart
 
@@ -89,7 +90,7 @@ module _ (base : ℕ) (mem : List ℕ) (s : State) (body : List ℕ) where
         R.refuses 11 p (rw (refusal-0 base (length mem) s .1 (m, r), e))
         (record {
           applies = wrongBody refl (w .wrong);
-          first = none-below 11 (λ l. m) (λ l. r) (λ l. absurd (omega arith));
+          first = none-below 11 (λ l. m) (λ l. r) (never refl);
           lowest = λ q l v. w .lowest q l (of-body q v);
         })
     by-body m r Good e =
@@ -109,7 +110,7 @@ module _ (base : ℕ) (mem : List ℕ) (s : State) (body : List ℕ) where
         R.refuses 2 0 (early 2 (omega arith) (refusal-2 base (length mem) s .1 (m, bad)))
         (record {
           applies = wrongState refl refl bad;
-          first = none-below 2 (λ l. m) (λ l. absurd (omega arith)) (λ l. absurd (omega arith));
+          first = none-below 2 (λ l. m) (never refl) (never refl);
           lowest = λ q l v. omega arith;
         })))
         (λ t.
@@ -117,7 +118,7 @@ module _ (base : ℕ) (mem : List ℕ) (s : State) (body : List ℕ) where
         R.refuses 1 0 (early 1 (omega arith) (refusal-1 base (length mem) s .1 bad))
         (record {
           applies = wrongMemory refl refl bad;
-          first = none-below 1 (λ l. absurd (omega arith)) (λ l. absurd (omega arith)) (λ l. absurd (omega arith));
+          first = none-below 1 (never refl) (never refl) (never refl);
           lowest = λ q l v. omega arith;
         }))
 

@@ -25,10 +25,12 @@ use Rattle.effect.specs.Integer.{clearBit0, holdsOf, execBranch}
 use Rattle.effect.specs.Memory.{checked, valueAt, execLoad, execStore}
 use Rattle.effect.specs.Atomic.{execLr, execSc, execAmo, execCas, execCasPair}
 use Rattle.effect.specs.Execute.{atomicBy, execAtomic, execute, executeWord}
-use Rattle.effect.proofs.TrapLaws.{misaligned-traps, outside-traps, access-retires, jump-traps, jump-retires, branch-traps, branch-taken, branch-passed, exec-sc-traps, exec-sc-stored, exec-sc-failed}
+use Rattle.effect.proofs.TrapLaws.{misaligned-traps, outside-traps, access-retires, jump-traps, jump-retires}
+use Rattle.effect.proofs.TrapLaws.{branch-traps, branch-taken, branch-passed, exec-sc-traps, exec-sc-stored, exec-sc-failed}
 use Rattle.model.specs.Perform.{fetchOf}
-use Rattle.answers.specs.Causes.{Reach, nowhere, jumps, reads, writes, writesIf, reachOf, TrapRow, unfetched, unknown, called, halted, misalignedTarget, misalignedRead, misalignedWrite, outsideRead, outsideWrite, StepRow, FirstTrap, Untrapped}
-use Rattle.answers.proofs.Refused.{first-same}
+use Rattle.answers.specs.Causes.{Reach, nowhere, jumps, reads, writes, writesIf, reachOf, TrapRow, StepRow, FirstTrap, Untrapped}
+use Rattle.answers.specs.Causes.{unfetched, unknown, called, halted, misalignedTarget, misalignedRead, misalignedWrite, outsideRead, outsideWrite}
+use Rattle.answers.proofs.Refused.{first-same, never}
 
 -- ---- traps apart
 
@@ -200,7 +202,7 @@ module _ (word : ℕ) (x : ℕ → ℕ) (pc base : ℕ) (mem : List ℕ) where
           (λ t.
           let skew = eqb-false (to % 4) 0 t in
           traps 0 to (bad skew)
-          (record { place = 4; applies = misalignedTarget refl refl q skew; first = clear 4 (λ l. absurd (omega arith)) (λ l. absurd (omega arith)) (λ l. absurd (omega arith)) }))
+          (record { place = 4; applies = misalignedTarget refl refl q skew; first = clear 4 (never refl) (never refl) (never refl) }))
 
       -- an access by row 5, misaligned, then row 6, outside
       access-decided : (misaligned outside a n : ℕ) (ws : Writes) (to : ℕ) (t : Access) → 0 < misaligned → 0 < outside → Straight (reachOf i x pc)
@@ -220,11 +222,11 @@ module _ (word : ℕ) (x : ℕ → ℕ) (pc base : ℕ) (mem : List ℕ) where
           (λ w.
           let isnt : Inside base (length mem) a n → ⊥ = λ j. contrary (of-inside base (length mem) a n j) w in
           traps out a (outside-traps mis out a n base (length mem) some more e al isnt)
-          (record { place = 6; applies = row6 isnt; first = clear 6 (λ l. straight) (λ l. aligned al) (λ l. absurd (omega arith)) })))
+          (record { place = 6; applies = row6 isnt; first = clear 6 (λ l. straight) (λ l. aligned al) (never refl) })))
           (λ u.
           let skew = eqb-false (a % n) 0 u in
           traps mis a (misaligned-traps mis out a n base (length mem) some more e skew)
-          (record { place = 5; applies = row5 skew; first = clear 5 (λ l. straight) (λ l. absurd (omega arith)) (λ l. absurd (omega arith)) }))
+          (record { place = 5; applies = row5 skew; first = clear 5 (λ l. straight) (never refl) (never refl) }))
 
       -- a load or LR
       read-decided : (a n : ℕ) (ws : Writes) (to : ℕ) (t : Access) → reachOf i x pc ≡ reads a n
@@ -256,7 +258,7 @@ module _ (word : ℕ) (x : ℕ → ℕ) (pc base : ℕ) (mem : List ℕ) where
           (λ u.
           let skew = eqb-false (a % bytesOf w) 0 u in
           traps 6 a (exec-sc-traps 64 pc w rd a v covered skew)
-          (record { place = 5; applies = misalignedWrite refl refl (bytesOf w) (inr q) skew; first = clear 5 (λ l. rw q tt) (λ l. absurd (omega arith)) (λ l. absurd (omega arith)) }))
+          (record { place = 5; applies = misalignedWrite refl refl (bytesOf w) (inr q) skew; first = clear 5 (λ l. rw q tt) (never refl) (never refl) }))
 
     branch-decided : (op : BranchOp) (rs1 rs2 imm : ℕ) (b : Bool) → holdsOf 64 op (x rs1) (x rs2) ≡ b
         → Decided (Branch op rs1 rs2 imm) (execBranch 64 b (offset 64 pc imm) pc)
@@ -281,13 +283,25 @@ module _ (word : ℕ) (x : ℕ → ℕ) (pc base : ℕ) (mem : List ℕ) where
     unfolding execute execAtomic execLoad execStore code Straight Aligned Within
     execute-decided covered Illegal =
         traps 2 word refl
-        (record { place = 2; applies = unknown refl refl refl refl; first = none-below Illegal 2 (λ l. inside) (λ l. absurd (omega arith)) (λ l. absurd (omega arith)) (λ l. tt) (λ l. tt) (λ l. tt) })
+        (record {
+          place = 2;
+          applies = unknown refl refl refl refl;
+          first = none-below Illegal 2 (λ l. inside) (never refl) (never refl) (λ l. tt) (λ l. tt) (λ l. tt);
+        })
     execute-decided covered Ecall =
         traps 8 0 refl
-        (record { place = 3; applies = called refl refl refl refl; first = none-below Ecall 3 (λ l. inside) (λ l z. absurd (omega (arith, ap code z))) (λ l. absurd (omega arith)) (λ l. tt) (λ l. tt) (λ l. tt) })
+        (record {
+          place = 3;
+          applies = called refl refl refl refl;
+          first = none-below Ecall 3 (λ l. inside) (λ l z. absurd (omega (arith, ap code z))) (never refl) (λ l. tt) (λ l. tt) (λ l. tt);
+        })
     execute-decided covered Ebreak =
         traps 3 0 refl
-        (record { place = 3; applies = halted refl refl refl refl; first = none-below Ebreak 3 (λ l. inside) (λ l z. absurd (omega (arith, ap code z))) (λ l. absurd (omega arith)) (λ l. tt) (λ l. tt) (λ l. tt) })
+        (record {
+          place = 3;
+          applies = halted refl refl refl refl;
+          first = none-below Ebreak 3 (λ l. inside) (λ l z. absurd (omega (arith, ap code z))) (never refl) (λ l. tt) (λ l. tt) (λ l. tt);
+        })
     execute-decided covered (Fence rd rs1 imm) = goes _ refl _ _ _ refl
     execute-decided covered (Lui rd imm) = goes _ refl _ _ _ refl
     execute-decided covered (Auipc rd imm) = goes _ refl _ _ _ refl
@@ -319,4 +333,8 @@ module _ (x : ℕ → ℕ) (pc base : ℕ) (mem : List ℕ) (covered : ℕ → �
       (λ t.
       let away : Inside base (length mem) pc 4 → ⊥ = λ j. contrary (of-inside base (length mem) pc 4 j) t in
       traps 1 pc (rw t)
-      (record { place = 1; applies = unfetched refl refl refl away; first = none-below word x pc base mem i 1 (λ l. absurd (omega arith)) (λ l. absurd (omega arith)) (λ l. absurd (omega arith)) (λ l. absurd (omega arith)) (λ l. absurd (omega arith)) (λ l. absurd (omega arith)) }))
+      (record {
+        place = 1;
+        applies = unfetched refl refl refl away;
+        first = none-below word x pc base mem i 1 (never refl) (never refl) (never refl) (never refl) (never refl) (never refl);
+      }))

@@ -38,7 +38,8 @@ use Rattle.model.specs.declared.Outcome.{Outcome}
 use Rattle.model.specs.declared.Outcome.the-variants as O
 use Rattle.model.proofs.Valid.{act-valid}
 use Rattle.model.proofs.Frame.{acts, step-act}
-use Rattle.notices.specs.Happened.{atomicAddress, atomicSize, Retires, RetiredLr, RetiredSc, StoredSc, FailedSc, PlainWrite, store, amo, amocas, amocasQ, DeviceWrites, WritesBytes, byHart, byDevice, Yields, Plain, Silent, refused, trapped, plain, unequal, unequalQ}
+use Rattle.notices.specs.Happened.{atomicAddress, atomicSize, Retires, RetiredLr, RetiredSc, StoredSc, FailedSc, PlainWrite, store, amo, amocas, amocasQ}
+use Rattle.notices.specs.Happened.{DeviceWrites, WritesBytes, byHart, byDevice, Yields, Plain, Silent, refused, trapped, plain, unequal, unequalQ}
 use Rattle.notices.specs.Notices.{scNotice, atomicNotice, noticeBy, ComesFrom}
 use Rattle.notices.proofs.Notices.{access-retired, notice-none, notice-step, notice-device, notice-yield}
 
@@ -156,8 +157,9 @@ module _ (base : ℕ) (m : Machine) (v : Valid base m) where
     tells-yield : (g : ℕ) → Yields base m e g → noticeAt base m e ≡ N.Yield g
     unfolding answerOf actOn
     tells-yield g y =
+        let taken = subst (λ (c : Event). Refuses (outcomeAt base m c) → ⊥) (y .isYield) (y .taken) in
         ap (noticeAt base m) (y .isYield)
-        ∙ notice-yield base m v g (go (ltb g (m .state .count)) refl (rw (act-valid base m v (Yield g)) at (subst (λ (c : Event). Refuses (outcomeAt base m c) → ⊥) (y .isYield) (y .taken))))
+        ∙ notice-yield base m v g (go (ltb g (m .state .count)) refl (rw (act-valid base m v (Yield g)) at taken))
       where
         go : (t : Bool) → ltb g (m .state .count) ≡ t → (Refuses (outcomeOf (cond t (release g) (refuse 3))) → ⊥) → g < m .state .count
         go true p d = ltb-true g (m .state .count) p
@@ -176,7 +178,8 @@ module _ (base : ℕ) (m : Machine) (v : Valid base m) where
 
     module _ (h : ℕ) where
       performs-sc : (i : Atomic) → Retires base m e h (Amo i) → i .op ≡ Sc → Ends h
-          (execSc 64 (i .width) (i .rd) (atomicAddress m h i) (regAt (m .state .x) h (i .rs2)) (getD (m .state .pc) h 0) (coversOf 64 (reservationOf (m .state) h)))
+          (execSc 64 (i .width) (i .rd) (atomicAddress m h i) (regAt (m .state .x) h (i .rs2)) (getD (m .state .pc) h 0)
+          (coversOf 64 (reservationOf (m .state) h)))
           → NotPlain (outcomeAt base m e)
       unfolding answerOf execute execAtomic Ends
       performs-sc i r q n =
@@ -205,7 +208,8 @@ module _ (base : ℕ) (m : Machine) (v : Valid base m) where
       from-atomic i r Lr q = record { lr = i; retires = r; isLr = q; address = refl; width = refl }
       from-atomic i r Sc q = from-sc i r q (outcomeAt base m e) refl
       from-atomic i r Cas q =
-          cond-cases (ComesFrom base m e) (eqb (valueAt base (m .mem) (atomicAddress m h i) (atomicSize i)) (low (bitsOf (i .width)) (regAt (m .state .x) h (i .rd)))) _ _
+          let want = low (bitsOf (i .width)) (regAt (m .state .x) h (i .rd)) in
+          cond-cases (ComesFrom base m e) (eqb (valueAt base (m .mem) (atomicAddress m h i) (atomicSize i)) want) _ _
           (λ t. amocas i r q refl refl (eqb-true _ _ t)) (λ f. unequal h i r q (eqb-false _ _ f))
       from-atomic i r CasPair q =
           cond-cases (ComesFrom base m e) (eqb (valueAt base (m .mem) (atomicAddress m h i) 16) (pairAt (regAt (m .state .x) h) (i .rd))) _ _

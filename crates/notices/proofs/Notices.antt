@@ -88,7 +88,9 @@ module _ (h : ℕ) where
 
     tells-atomic : (op : AtomicOp) (i : Atomic) → Tells (atomicNotice h x base mem op i) (atomicBy 64 op i x pc base mem covered)
     unfolding execLr execAmo execCas execCasPair
-    tells-atomic Lr i = access (atomicNotice h x base mem Lr i) 4 5 (x (i .rs1)) (bytesOf (i .width)) base (length mem) _ (reserves _ _ (x (i .rs1)) (bytesOf (i .width)))
+    tells-atomic Lr i =
+        access (atomicNotice h x base mem Lr i) 4 5 (x (i .rs1)) (bytesOf (i .width)) base (length mem) _
+        (reserves _ _ (x (i .rs1)) (bytesOf (i .width)))
     tells-atomic Sc i = tells-sc i
     tells-atomic Cas i =
         access (atomicNotice h x base mem Cas i) 6 7 (x (i .rs1)) (bytesOf (i .width)) base (length mem) _

@@ -115,10 +115,13 @@ module _ (base : ℕ) (m : Machine) (v : Valid base m) (h : ℕ) (u : h < m .sta
     unfolding exec covered apply leaves
     stored-leaves o =
         let d : Traps (outcomeAt base m (Step h)) → ⊥ = λ t. let z : _≡_ {A = ℕ} 0 1 = cc (t .2) in omega arith in
-        let q = next-by _ (T.exec-sc-stored 64 (getD (m .state .pc) h 0) (sc .width) (sc .rd) (atomicAddress m h sc) _ covered (aligned d) (sc-stored d .0 o)) in
+        let c = sc-stored d .0 o in
+        let q = next-by _ (T.exec-sc-stored 64 (getD (m .state .pc) h 0) (sc .width) (sc .rd) (atomicAddress m h sc) _ covered (aligned d) c) in
         record {
           memory = ap (λ (n : Machine). n .mem) q;
-          register = λ z. ap (λ (n : Machine). regAt (n .state .x) h (sc .rd)) q ∙ set-own h (sc .rd) 0 (m .state .x) (omega (arith, v .1 .1)) (shaped .registers) z;
+          register = λ z.
+              ap (λ (n : Machine). regAt (n .state .x) h (sc .rd)) q
+              ∙ set-own h (sc .rd) 0 (m .state .x) (omega (arith, v .1 .1)) (shaped .registers) z;
         }
 
     -- 01: "failure puts 1 in rd and writes nothing"
@@ -131,7 +134,9 @@ module _ (base : ℕ) (m : Machine) (v : Valid base m) (h : ℕ) (u : h < m .sta
         let q = next-by _ (T.exec-sc-failed 64 (getD (m .state .pc) h 0) (sc .width) (sc .rd) (atomicAddress m h sc) _ covered (aligned d) c) in
         record {
           memory = ap (λ (n : Machine). n .mem) q;
-          register = λ z. ap (λ (n : Machine). regAt (n .state .x) h (sc .rd)) q ∙ set-own h (sc .rd) 1 (m .state .x) (omega (arith, v .1 .1)) (shaped .registers) z;
+          register = λ z.
+              ap (λ (n : Machine). regAt (n .state .x) h (sc .rd)) q
+              ∙ set-own h (sc .rd) 1 (m .state .x) (omega (arith, v .1 .1)) (shaped .registers) z;
         }
 
 -- a used hart's reservation after a run
@@ -144,7 +149,8 @@ res-run base m v s h u (e ∷ es) =
     ∙ ap (λ (r : Reservation). observes 64 h (traceOf base (nextOf base m e) es) r) (res-next base m e v s h u)
 
 -- A machine that 1 and 2 don't refuse, whose used harts hold no reservation; a used hart; any events.
-module _ (base : ℕ) (m : Machine) (v : Valid base m) (s : Shaped (m .state)) (free : Reservationless (m .state)) (h : ℕ) (u : h < m .state .count) (es : List Event) where
+module _ (base : ℕ) (m : Machine) (v : Valid base m) (s : Shaped (m .state)) (free : Reservationless (m .state))
+    (h : ℕ) (u : h < m .state .count) (es : List Event) where
   after : reservationOf (runOf base m es .state) h ≡ observes 64 h (traceOf base m es) None
   after = res-run base m v s h u es ∙ ap (λ (r : Reservation). observes 64 h (traceOf base m es) r) (free h u)
 
