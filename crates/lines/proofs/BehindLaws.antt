@@ -7,10 +7,8 @@ use lib.ListN.{length, take, drop, length-drop, drop-of-length-le}
 use lib.Seq.{length-take-le, length-front, take-all, take-take, take-append-le, drop-at}
 use borrow.Rule.Slice.PartMut.{putMid, same-len-mid, take-put}
 use Rattle.text.specs.Put.{Put}
-use Rattle.reserve.specs.declared.Slot.{Slot}
-use Rattle.machine.specs.declared.State.{State}
 use Rattle.events.specs.declared.Event.{Event}
-use Rattle.model.specs.Perform.{actOn}
+use Rattle.model.specs.Perform.{Machine}
 use Rattle.model.specs.Advance.{Advances}
 use Rattle.model.specs.declared.Outcome.{Outcome}
 
@@ -69,10 +67,7 @@ module _ (out mem : List ℕ) (from : ℕ) (within : from ≤ length out) (kept 
   pub back-put : {text after : List ℕ} {p r : ℕ} → p ≤ from → Put (back out mem from) p text after r → Put out p text after r
   back-put {text} {after} {p} {r} h x = record { end = x .end; holds = x .holds ∙ ap (λ (l : List ℕ). l ++ text) (same-front p h) }
 
--- the same event, on memories written in another way
-pub advances-as : {base count : ℕ} (s : State) (e : Event) {res res′ : List Slot} {x pc x′ pc′ mem mem′ a b : List ℕ} {r : Outcome} → mem ≡ a → mem′ ≡ b
-    → Advances (actOn base mem s e) base count res x pc mem r res′ x′ pc′ mem′
-    → Advances (actOn base a s e) base count res x pc a r res′ x′ pc′ b
-advances-as {base} {count} s e {res} {res′} {x} {pc} {x′} {pc′} {mem} {mem′} {a} {b} {r} h k y =
-    subst (λ (m : List ℕ). Advances (actOn base m s e) base count res x pc m r res′ x′ pc′ b) h
-    (subst (λ (m : List ℕ). Advances (actOn base mem s e) base count res x pc mem r res′ x′ pc′ m) k y)
+-- the same event, on machines written in another way
+pub advances-as : {base : ℕ} {e : Event} {r : Outcome} {m m′ a b : Machine} → m ≡ a → m′ ≡ b → Advances base e m r m′ → Advances base e a r b
+advances-as {base} {e} {r} {m} {m′} {a} {b} h k y =
+    subst (λ (n : Machine). Advances base e n r b) h (subst (Advances base e m r) k y)

@@ -1,13 +1,13 @@
 -- One line more. Assumes nothing.
-use mathlib.Core.Path.{_≡_, refl, sym, ap, _∙_}
-use mathlib.Core.List.{List, [], _∷_, _++_}
-use Prim.Native.Nat.{ℕ, zero, suc, _+_, _*_, _-_, _≤_, _<_}
+use mathlib.Core.Path.{_≡_, refl}
+use mathlib.Core.List.{List, [], _++_}
+use Prim.Native.Nat.{ℕ, zero, suc, _+_, _*_, _-_, _<_}
 use native.Mathlib.Numerals.{add-one}
 use native.Mathlib.Omega.{arith}
 use lib.ListN.{take, drop}
 use Rattle.events.specs.Events.{eventOf, firstEvents}
 use Rattle.events.specs.declared.Event.{Event}
-use Rattle.model.specs.Perform.{Machine, answerOf, nextOf}
+use Rattle.model.specs.Perform.{Machine, outcomeAt, nextOf}
 use Rattle.model.specs.declared.Outcome.{Outcome}
 use Rattle.model.proofs.AdvanceLaws.{events-more}
 use Rattle.lines.specs.Lines.{lineOf, linesOf}
@@ -19,7 +19,7 @@ lines-none base m k (suc n) body h = absurd (omega arith)
 
 -- the line of event i, performed on m, and the lines of the events after it, on what it leaves
 pub lines-more : (base : ℕ) (m m′ : Machine) (n i : ℕ) (body : List ℕ) (e : Event) (o : Outcome) → i < n
-    → e ≡ eventOf (take 24 (drop (i * 24) body)) → o ≡ answerOf base (m .mem) (m .state) e .outcome → m′ ≡ nextOf base m e
+    → e ≡ eventOf (take 24 (drop (i * 24) body)) → o ≡ outcomeAt base m e → m′ ≡ nextOf base m e
     → linesOf base m i (firstEvents (n - i) (drop (i * 24) body))
     ≡ lineOf i e o ++ linesOf base m′ (i + 1) (firstEvents (n - (i + 1)) (drop ((i + 1) * 24) body))
 unfolding linesOf

@@ -2,11 +2,13 @@
 -- RULES 9.
 use Prim.Native.Nat.{ℕ, suc}
 use mathlib.Core.List.{List, [], _∷_, _++_}
+use lib.ListN.{drop}
 use Rattle.text.specs.Ascii.{ascii}
 use Rattle.text.specs.Number.{decimalOf, hexOf}
 use Rattle.events.specs.declared.Event.{Event}
 use Rattle.events.specs.declared.Event.the-variants.{Step, Device, Yield}
-use Rattle.model.specs.Perform.{Machine, answerOf, nextOf}
+use Rattle.machine.specs.declared.State.{State}
+use Rattle.model.specs.Perform.{Machine, outcomeAt, nextOf}
 use Rattle.model.specs.declared.Outcome.{Outcome}
 use Rattle.model.specs.declared.Outcome.the-variants.{Retired, ScStored, ScFailed, Trap, Refused}
 
@@ -32,4 +34,8 @@ lineOf k e o = decimalOf k ++ (ascii " " ++ (whoOf e ++ (saidOf o ++ ascii "\n")
 -- one line for every event, in order, from number k on
 unfoldable pub linesOf : ℕ → Machine → ℕ → List Event → List ℕ
 linesOf base m k [] = []
-linesOf base m k (e ∷ es) = lineOf k e (answerOf base (m .mem) (m .state) e .outcome) ++ linesOf base (nextOf base m e) (suc k) es
+linesOf base m k (e ∷ es) = lineOf k e (outcomeAt base m e) ++ linesOf base (nextOf base m e) (suc k) es
+
+-- the machine whose memory is what stands in a buffer from a place on
+abbrev pub behind : State → ℕ → List ℕ → Machine
+behind s from out = record { state = s; mem = drop from out }

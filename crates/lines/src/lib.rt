@@ -9,13 +9,13 @@ use text::put_bytes;
 use text::put_decimal;
 use text::put_hex16;
 ghost use mathlib.Core.Path.{_≡_};
-ghost use Prim.Native.Nat.{_+_, _*_, _-_, _/_, _%_, _≤_};
+ghost use Prim.Native.Nat.{_+_, _*_, _-_, _/_, _≤_};
 ghost use lib.ListN.{length, drop};
 ghost use Rattle.machine.specs.State.{refusalOf};
 ghost use Rattle.events.specs.Events.{eventsOf};
 ghost use Rattle.model.specs.Perform.{runOf};
 ghost use Rattle.text.specs.Put.{Put};
-ghost use Rattle.lines.specs.Lines.{whoOf, saidOf, lineOf, linesOf};
+ghost use Rattle.lines.specs.Lines.{whoOf, saidOf, lineOf, linesOf, behind};
 
 // Whose event it is.
 fn put_who(out: &mut [u8], at: usize, e: Event) -> usize
@@ -84,9 +84,9 @@ fn put_line(out: &mut [u8], at: usize, k: u64, e: Event, o: Outcome) -> usize
 pub fn put_lines(out: &mut [u8], at: usize, from: usize, s: State, base: u64, body: &[u8]) -> usize
     requires { ⌜ (at + 90 * (length (now body) / 24) ≤ from) × (from ≤ length (now out)) ⌝ }
     requires { ⌜ refusalOf base (length (now out) - from) s ≡ 0 ⌝ }
-    ensures { λ r. ⌜ Put (now (out .entry)) at (linesOf base (record { state = s; mem = drop from (now (out .entry)) }) 0 (eventsOf (now (body .entry)))) (now (out .exit)) r ⌝ }
+    ensures { λ r. ⌜ Put (now (out .entry)) at (linesOf base (behind s from (now (out .entry))) 0 (eventsOf (now (body .entry)))) (now (out .exit)) r ⌝ }
     ensures { λ r. ⌜ r ≤ at + 90 * (length (now (body .entry)) / 24) ⌝ }
-    ensures { λ _. ⌜ drop from (now (out .exit)) ≡ runOf base (record { state = s; mem = drop from (now (out .entry)) }) (eventsOf (now (body .entry))) .mem ⌝ }
+    ensures { λ _. ⌜ drop from (now (out .exit)) ≡ runOf base (behind s from (now (out .entry))) (eventsOf (now (body .entry))) .mem ⌝ }
 {
     let count = s.count;
     let mut x = s.x;

@@ -1,32 +1,28 @@
--- What a step's effect does part by part is what its act does. Assumes nothing.
-use mathlib.Core.Path.{_≡_, refl, sym, ap, subst}
+-- What a step's effect does part by part is what its act does, and an act done part by part is the event. Assumes nothing.
+use mathlib.Core.Path.{_≡_, refl, sym, ap, ap₂, subst, _∙_}
 use mathlib.Core.Bool.{Bool, true, false, cond, _&&_}
 use mathlib.Core.List.{List, _∷_}
-use Prim.Native.Nat.{ℕ}
+use Prim.Native.Nat.{ℕ, zero, suc, _+_, _*_, _-_, _≤_, _<_}
+use native.Mathlib.Omega.{arith}
 use lib.Dec.{leb}
-use lib.ListN.{length}
+use lib.ListN.{length, take, drop}
+use lib.Seq.{drop-drop}
 use Rattle.word.specs.Bytes.{toLe}
 use Rattle.reserve.specs.Range.{insideOf}
+use Rattle.reserve.specs.Packed.{slotsIn}
 use Rattle.reserve.specs.declared.Slot.{Slot}
-use Rattle.effect.specs.Effect as E
-use Rattle.model.specs.Act.{Act, refuse, put, outcomeOf, setReg, registersAfter, pcsAfter, slotsAfter, leaves, retiredAs}
-use Rattle.model.specs.Perform.{ofExec, deviceOf}
-use Rattle.model.specs.Advance.{registersBy, pcsBy, slotsBy, outcomeBy}
-use Rattle.model.specs.declared.Outcome.{Outcome}
-use Rattle.events.specs.declared.Event.{Event}
 use Rattle.machine.specs.State.{refusalOf}
 use Rattle.machine.specs.declared.State.{State}
 use Rattle.machine.proofs.StateLaws.{refusal-0}
-use Rattle.model.specs.Perform.{Machine, actOn, actOf, answerOf, memoryOf, nextOf}
-use Rattle.model.specs.Valid.{Valid}
-use Rattle.model.specs.Advance.{Advances, stateFrom}
-use Rattle.model.specs.Act.{apply}
-use Rattle.model.proofs.Valid.{act-valid, valid-next}
+use Rattle.effect.specs.Effect as E
 use Rattle.events.specs.Events.{eventOf, firstEvents}
-use lib.ListN.{take, drop}
-use lib.Seq.{drop-drop}
-use Prim.Native.Nat.{zero, suc, _+_, _*_, _-_, _≤_, _<_}
-use native.Mathlib.Omega.{arith}
+use Rattle.events.specs.declared.Event.{Event}
+use Rattle.model.specs.Act.{Act, refuse, put, outcomeOf, setReg, registersAfter, pcsAfter, slotsAfter, leaves, apply}
+use Rattle.model.specs.Perform.{Machine, ofExec, deviceOf, actOn, answerOf, memoryOf, nextOf, runOf}
+use Rattle.model.specs.Valid.{Valid}
+use Rattle.model.specs.Advance.{lent, Advances, registersBy, pcsBy, slotsBy, outcomeBy}
+use Rattle.model.specs.declared.Outcome.{Outcome}
+use Rattle.model.proofs.Valid.{act-valid}
 
 module _ (h : ℕ) where
   pub registers-done : (e : E.Exec) (x : List ℕ) → registersBy h (E.doneOf h e) x ≡ registersAfter (ofExec h e) x
@@ -79,34 +75,35 @@ module _ (base : ℕ) (mem : List ℕ) (a n v : ℕ) where
   pub device-pcs : (pc : List ℕ) → pcsAfter (deviceOf base mem a n v) pc ≡ pc
   device-pcs pc = either (λ (act : Act). pcsAfter act pc ≡ pc) refl refl refl
 
--- reservations that are lent are refused as those of the state are
-pub refused-same : (base : ℕ) (mem : List ℕ) (s : State) {l : List Slot} → l ≡ s .res
-    → refusalOf base (length mem) (stateFrom (s .count) (s .x) (s .pc) l) ≡ refusalOf base (length mem) s
-refused-same base mem s e = ap (λ (l : List Slot). refusalOf base (length mem) (stateFrom (s .count) (s .x) (s .pc) l)) e
+-- a state's own parts, lent with its reservations as numbers
+module _ (base : ℕ) (s : State) (t mem : List ℕ) (packed : slotsIn t ≡ s .res) where
+  pub lent-same : lent (s .count) (s .x) (s .pc) t mem ≡ record { state = s; mem = mem }
+  lent-same = ap (λ (l : List Slot). record { state = record { count = s .count; x = s .x; pc = s .pc; res = l }; mem = mem }) packed
 
--- what was performed in place is the machine after the event
-module _ (base count : ℕ) (x pc mem : List ℕ) (res : List Slot) (none : refusalOf base (length mem) (stateFrom count x pc res) ≡ 0) (e : Event) where
-  here : Machine
-  here = record { state = stateFrom count x pc res; mem = mem }
+  pub lent-valid : refusalOf base (length mem) s ≡ 0 → Valid base (lent (s .count) (s .x) (s .pc) t mem)
+  lent-valid none = subst (Valid base) (sym lent-same) (refusal-0 base (length mem) s .0 none)
 
-  valid : Valid base here
-  unfolding here
-  valid = refusal-0 base (length mem) (stateFrom count x pc res) .0 none
+  -- an event on what is lent is the event on the state
+  pub lent-answer : {e : Event} {r : Outcome} {m′ : Machine} → Advances base e (lent (s .count) (s .x) (s .pc) t mem) r m′
+      → (record { outcome = r; state = m′ .state } ≡ answerOf base mem s e) × (m′ .mem ≡ memoryOf base mem s e)
+  unfolding nextOf
+  lent-answer {e} {r} {m′} a =
+      let b = subst (λ (m : Machine). Advances base e m r m′) lent-same a in
+      let after = ap (λ (m : Machine). m .state) (b .machine) in
+      (ap₂ (λ (o : Outcome) (n : State). record { outcome = o; state = n }) (b .outcome) after, ap (λ (m : Machine). m .mem) (b .machine))
 
-  module _ (r : Outcome) (res′ : List Slot) (x′ pc′ mem′ : List ℕ) (a : Advances (actOn base mem (stateFrom count x pc res) e) base count res x pc mem r res′ x′ pc′ mem′) where
-    pub advanced-next : record { state = stateFrom count x′ pc′ res′; mem = mem′ } ≡ nextOf base (record { state = stateFrom count x pc res; mem = mem }) e
-    unfolding nextOf answerOf memoryOf apply here
-    advanced-next = rw (act-valid base here valid e, a .registers, a .pcs, a .slots, a .memory)
-
-    pub advanced-valid : refusalOf base (length mem′) (stateFrom count x′ pc′ res′) ≡ 0
-    unfolding here
-    advanced-valid =
-        refusal-0 base (length mem′) (stateFrom count x′ pc′ res′) .1
-        (subst (λ (m : Machine). Valid base m) (sym advanced-next) (valid-next base here valid e))
-
-    pub advanced-answer : r ≡ outcomeOf (actOf base mem (stateFrom count x pc res) e)
-    unfolding here
-    advanced-answer = rw (act-valid base here valid e) (a .outcome)
+-- an event's act, done part by part, is the event: answer, registers, pcs, reservations, memory
+module _ (base : ℕ) (m : Machine) (v : Valid base m) (e : Event) {act : Act} (is : actOn base (m .mem) (m .state) e ≡ act) where
+  pub advances : {r : Outcome} {x pc mem : List ℕ} {res : List Slot} → r ≡ outcomeOf act
+      → x ≡ registersAfter act (m .state .x)
+      → pc ≡ pcsAfter act (m .state .pc)
+      → res ≡ slotsAfter 64 (m .state .count) act (m .state .res)
+      → mem ≡ leaves base (m .mem) act
+      → Advances base e m r (record { state = record { count = m .state .count; x = x; pc = pc; res = res }; mem = mem })
+  unfolding answerOf memoryOf nextOf apply
+  advances answered registers pcs slots memory =
+      let d = act-valid base m v e ∙ is in
+      record { outcome = rw d answered; machine = rw (d, registers, pcs, slots, memory) }
 
 pub take-events : (k n : ℕ) (body : List ℕ) → k ≤ n → take k (firstEvents n body) ≡ firstEvents k body
 unfolding firstEvents
@@ -114,9 +111,12 @@ take-events zero n body h = refl
 take-events (suc k) zero body h = absurd (omega arith)
 take-events (suc k) (suc n) body h = ap (λ (l : List Event). eventOf (take 24 body) ∷ l) (take-events k n (drop 24 body) (omega arith))
 
--- the bytes of an event that is cut out of a body
-pub event-width : (i : ℕ) → i * 24 + 24 - i * 24 ≡ 24
-event-width i = omega arith
+-- an event whose bytes are cut out of a body
+pub event-cut : (i : ℕ) (body : List ℕ) {e : Event} → e ≡ eventOf (take (i * 24 + 24 - i * 24) (drop (i * 24) body))
+    → e ≡ eventOf (take 24 (drop (i * 24) body))
+event-cut i body p =
+    let width : i * 24 + 24 - i * 24 ≡ 24 = omega arith in
+    rw width at p
 
 -- one event more of a body
 pub events-more : (n i : ℕ) (body : List ℕ) → i < n
@@ -126,3 +126,10 @@ events-more n i body h =
     let e : n - i ≡ suc (n - (i + 1)) = omega arith in
     let f : (i + 1) * 24 ≡ i * 24 + 24 = omega arith in
     rw (e, f, drop-drop 24 (i * 24) body)
+
+-- event i, performed on m, leaves m′: the run from there is the run from m
+pub run-more : (base : ℕ) (m : Machine) {m′ : Machine} (n i : ℕ) (body : List ℕ) {e : Event} → i < n
+    → e ≡ eventOf (take 24 (drop (i * 24) body)) → m′ ≡ nextOf base m e
+    → runOf base m′ (firstEvents (n - (i + 1)) (drop ((i + 1) * 24) body)) ≡ runOf base m (firstEvents (n - i) (drop (i * 24) body))
+unfolding runOf
+run-more base m n i body h pe pm = rw (events-more n i body h, pm, pe)

@@ -60,7 +60,8 @@ module _ (base : ℕ) (mem : List ℕ) (s : State) (P : Act → Type 0) (refused
       (λ z. refused _)
   acts (Device a n v) trapped stepped device yields =
       cond-cases P (eqb (refusalOf base (length mem) s) 0) _ _
-      (λ r. cond-cases P (leb 1 n && leb n 8) _ _ (λ i. cond-cases P (insideOf base (length mem) a n) _ _ (λ j. device a n v refl) (λ z. refused 5)) (λ z. refused 4))
+      (λ r. cond-cases P (leb 1 n && leb n 8) _ _
+      (λ i. cond-cases P (insideOf base (length mem) a n) _ _ (λ j. device a n v refl) (λ z. refused 5)) (λ z. refused 4))
       (λ z. refused _)
   acts (YieldOf h) trapped stepped device yields =
       cond-cases P (eqb (refusalOf base (length mem) s) 0) _ _
@@ -302,7 +303,9 @@ module _ (base : ℕ) (m : Machine) (v : Valid base m) (h : ℕ) (u : h < m .sta
       (execute 64 i (valueAt base (m .mem) (getD (m .state .pc) h 0) 4) (regAt (m .state .x) h) (getD (m .state .pc) h 0) base (m .mem)
       (coversOf 64 (reservationOf (m .state) h)))
   unfolding actOn fetchOf executeWord
-  step-act i f = rw (act-valid base m v (Step h), lt-ltb h (m .state .count) u, of-inside base (length (m .mem)) (getD (m .state .pc) h 0) 4 (f .inside), f .decodes)
+  step-act i f =
+      let inside = of-inside base (length (m .mem)) (getD (m .state .pc) h 0) 4 (f .inside) in
+      rw (act-valid base m v (Step h), lt-ltb h (m .state .count) u, inside, f .decodes)
 
 -- ---- runs
 

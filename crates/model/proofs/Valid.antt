@@ -95,7 +95,9 @@ module _ (base len : ℕ) where
       ⊎-elim
       (λ (l : k < length (s .res)). rw (each-at (observeSlot size n) (s .count) k (s .res) (slot None) h l) (observed-ok size k n (reservationOf s k) o r))
       (λ (g : length (s .res) ≤ k).
-      rw (List·getD-eq-default (each (observeSlot size n) (s .count) (s .res)) (slot None) {n = k} (rw (length-each (observeSlot size n) (s .count) (s .res)) g)) tt)
+      let l = each (observeSlot size n) (s .count) (s .res) in
+      let past : length l ≤ k = rw (length-each (observeSlot size n) (s .count) (s .res)) g in
+      rw (List·getD-eq-default l (slot None) {n = k} past) tt)
       (split-lt k (length (s .res)))
 
   access-notice : (h : ℕ) (t : Access) → AccessOk base len t → NoticeOk (noticeOf h t)
@@ -155,7 +157,8 @@ module _ (base : ℕ) (mem : List ℕ) (s : State) (mr : MemoryRules base (lengt
   pub act-ok : (e : Event) → ActOk base (length mem) (actOn base mem s e)
   unfolding actOn deviceOf
   act-ok (Step h) =
-      cond-cases (ActOk base (length mem)) (ltb h (s .count)) (ofExec h (stepOf base mem s h)) (refuse 3) (λ t. of-exec h (stepOf base mem s h) (fetch-sound h (ltb-true h (s .count) t))) (λ f. tt)
+      cond-cases (ActOk base (length mem)) (ltb h (s .count)) (ofExec h (stepOf base mem s h)) (refuse 3)
+      (λ t. of-exec h (stepOf base mem s h) (fetch-sound h (ltb-true h (s .count) t))) (λ f. tt)
   act-ok (Device a n v) =
       cond-cases (ActOk base (length mem)) (leb 1 n && leb n 8) (cond (insideOf base (length mem) a n) (put a (toLe n v)) (refuse 5)) (refuse 4)
       (λ t. cond-cases (ActOk base (length mem)) (insideOf base (length mem) a n) (put a (toLe n v)) (refuse 5)

@@ -1,28 +1,27 @@
--- What the code that works in place promises, in terms of acts.
+-- What the code that works in place promises: in terms of machines, and for its pieces part by part.
 use mathlib.Core.Path.{_≡_}
 use Prim.Native.Nat.{ℕ}
 use mathlib.Core.List.{List}
 use lib.ListN.{set}
 use Rattle.reserve.specs.Reserve.{observeAllOf}
+use Rattle.reserve.specs.Packed.{slotsIn}
 use Rattle.reserve.specs.declared.Slot.{Slot}
-use Rattle.machine.specs.declared.State.{State}
 use Rattle.effect.specs.declared.Done.{Done}
 use Rattle.effect.specs.declared.Done.the-variants.{Retired, Trap}
-use Rattle.model.specs.Act.{Act, outcomeOf, setReg, registersAfter, pcsAfter, slotsAfter, leaves, retiredAs}
+use Rattle.events.specs.declared.Event.{Event}
+use Rattle.model.specs.Act.{setReg, retiredAs}
+use Rattle.model.specs.Perform.{Machine, outcomeAt, nextOf}
 use Rattle.model.specs.declared.Outcome.{Outcome}
 use Rattle.model.specs.declared.Outcome.the-variants as O
 
--- a state from its parts
-abbrev pub stateFrom : ℕ → List ℕ → List ℕ → List Slot → State
-stateFrom count x pc res = record { count = count; x = x; pc = pc; res = res }
+-- the machine that is lent in parts: registers, pcs, reservations as 24 numbers, memory
+abbrev pub lent : ℕ → List ℕ → List ℕ → List ℕ → List ℕ → Machine
+lent count x pc t mem = record { state = record { count = count; x = x; pc = pc; res = slotsIn t }; mem = mem }
 
--- The answer r, and reservations, registers, pcs and memory afterwards are those of the act.
-pub record Advances (act : Act) (base count : ℕ) (res : List Slot) (x pc mem : List ℕ) (r : Outcome) (res′ : List Slot) (x′ pc′ mem′ : List ℕ) : Type 0 where
-  pub outcome : r ≡ outcomeOf act
-  pub slots : res′ ≡ slotsAfter 64 count act res
-  pub registers : x′ ≡ registersAfter act x
-  pub pcs : pc′ ≡ pcsAfter act pc
-  pub memory : mem′ ≡ leaves base mem act
+-- the answer r to event e, and the machine afterwards: registers, pcs, reservations and memory
+pub record Advances (base : ℕ) (e : Event) (m : Machine) (r : Outcome) (m′ : Machine) : Type 0 where
+  pub outcome : r ≡ outcomeAt base m e
+  pub machine : m′ ≡ nextOf base m e
 
 -- registers, pcs, reservations and answer after what a step of hart h came to
 unfoldable pub registersBy : ℕ → Done → List ℕ → List ℕ

@@ -10,13 +10,14 @@ ghost use Prim.Native.Nat.{_<_, _≤_};
 ghost use lib.ListN.{length};
 ghost use Rattle.reserve.specs.Reserve.{coversOf};
 ghost use Rattle.reserve.specs.Packed.{slotsIn};
-ghost use Rattle.machine.specs.State.{refusalOf};
 ghost use Rattle.effect.specs.Effect.{Meets};
 ghost use Rattle.effect.specs.Atomic.{CoveredInside};
 ghost use Rattle.effect.specs.Execute.{regAt};
+ghost use Rattle.events.specs.declared.Event.the-variants.{Step};
 ghost use Rattle.model.specs.Act.{retiredAs, setReg, outcomeOf, release, slotsAfter, leaves};
-ghost use Rattle.model.specs.Perform.{fetchOf, stepOf, ofExec, actOn, deviceOf};
-ghost use Rattle.model.specs.Advance.{Advances, stateFrom, registersBy, pcsBy, slotsBy, outcomeBy};
+ghost use Rattle.model.specs.Perform.{fetchOf, deviceOf};
+ghost use Rattle.model.specs.Valid.{Valid};
+ghost use Rattle.model.specs.Advance.{lent, Advances, registersBy, pcsBy, slotsBy, outcomeBy};
 
 // Fetches the word at pc and does what it says, for hart h, whose registers are among x and whose reservation is res.
 fn fetch(x: &[u64; 256], h: usize, pc: u64, base: u64, res: Reservation, mem: &mut [u8]) -> Done
@@ -97,9 +98,12 @@ fn step_hart(
     base: u64,
     mem: &mut [u8],
 ) -> Outcome
-    requires { ⌜ refusalOf base (length (now mem)) (stateFrom count (now x) (now pc) (slotsIn (now t))) ≡ 0 ⌝ }
+    requires { ⌜ Valid base (lent count (now x) (now pc) (now t) (now mem)) ⌝ }
     requires { ⌜ h < count ⌝ }
-    ensures { λ r. ⌜ Advances (ofExec h (stepOf base (now (mem .entry)) (stateFrom count (now (x .entry)) (now (pc .entry)) (slotsIn (now (t .entry)))) h)) base count (slotsIn (now (t .entry))) (now (x .entry)) (now (pc .entry)) (now (mem .entry)) r (slotsIn (now (t .exit))) (now (x .exit)) (now (pc .exit)) (now (mem .exit)) ⌝ }
+    ensures { λ r. ⌜ Advances base (Step h)
+        (lent count (now (x .entry)) (now (pc .entry)) (now (t .entry)) (now (mem .entry))) r
+        (lent count (now (x .exit)) (now (pc .exit)) (now (t .exit)) (now (mem .exit)))
+        ⌝ }
 {
     let r = packed::reservation(t, h);
     let at = pc[h];
@@ -156,8 +160,11 @@ pub fn advance(
     mem: &mut [u8],
     e: Event,
 ) -> Outcome
-    requires { ⌜ refusalOf base (length (now mem)) (stateFrom count (now x) (now pc) (slotsIn (now t))) ≡ 0 ⌝ }
-    ensures { λ r. ⌜ Advances (actOn base (now (mem .entry)) (stateFrom count (now (x .entry)) (now (pc .entry)) (slotsIn (now (t .entry)))) e) base count (slotsIn (now (t .entry))) (now (x .entry)) (now (pc .entry)) (now (mem .entry)) r (slotsIn (now (t .exit))) (now (x .exit)) (now (pc .exit)) (now (mem .exit)) ⌝ }
+    requires { ⌜ Valid base (lent count (now x) (now pc) (now t) (now mem)) ⌝ }
+    ensures { λ r. ⌜ Advances base e
+        (lent count (now (x .entry)) (now (pc .entry)) (now (t .entry)) (now (mem .entry))) r
+        (lent count (now (x .exit)) (now (pc .exit)) (now (t .exit)) (now (mem .exit)))
+        ⌝ }
 {
     match e {
         Event::Step { hart } => {

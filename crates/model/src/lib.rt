@@ -38,7 +38,8 @@ pub struct Ran {
 
 // An event on a state and the memory at base: the answer with the state afterwards. A refusal and a trap change nothing.
 pub fn perform(s: State, base: u64, mem: &mut [u8], e: Event) -> Answer
-    ensures { λ r. ⌜ (r ≡ answerOf base (now (mem .entry)) s e) × (now (mem .exit) ≡ memoryOf base (now (mem .entry)) s e) ⌝ }
+    ensures { λ r. ⌜ r ≡ answerOf base (now (mem .entry)) s e ⌝ }
+    ensures { λ _. ⌜ now (mem .exit) ≡ memoryOf base (now (mem .entry)) s e ⌝ }
 {
     let count = s.count;
     let mut x = s.x;
@@ -67,7 +68,8 @@ pub fn perform(s: State, base: u64, mem: &mut [u8], e: Event) -> Answer
 
 // A step of a hart: fetches the word at its pc and performs it.
 pub fn step(s: State, base: u64, mem: &mut [u8], hart: usize) -> Answer
-    ensures { λ r. ⌜ (r ≡ answerOf base (now (mem .entry)) s (Step hart)) × (now (mem .exit) ≡ memoryOf base (now (mem .entry)) s (Step hart)) ⌝ }
+    ensures { λ r. ⌜ r ≡ answerOf base (now (mem .entry)) s (Step hart) ⌝ }
+    ensures { λ _. ⌜ now (mem .exit) ≡ memoryOf base (now (mem .entry)) s (Step hart) ⌝ }
 {
     perform(s, base, mem, Event::Step { hart })
 }
@@ -81,7 +83,8 @@ pub fn device_write(
     size: usize,
     value: u64,
 ) -> Answer
-    ensures { λ r. ⌜ (r ≡ answerOf base (now (mem .entry)) s (Device addr size value)) × (now (mem .exit) ≡ memoryOf base (now (mem .entry)) s (Device addr size value)) ⌝ }
+    ensures { λ r. ⌜ r ≡ answerOf base (now (mem .entry)) s (Device addr size value) ⌝ }
+    ensures { λ _. ⌜ now (mem .exit) ≡ memoryOf base (now (mem .entry)) s (Device addr size value) ⌝ }
 {
     perform(
         s,
@@ -97,7 +100,8 @@ pub fn device_write(
 
 // A yield: drops a hart's reservation.
 pub fn yield_hart(s: State, base: u64, mem: &mut [u8], hart: usize) -> Answer
-    ensures { λ r. ⌜ (r ≡ answerOf base (now (mem .entry)) s (Yield hart)) × (now (mem .exit) ≡ memoryOf base (now (mem .entry)) s (Yield hart)) ⌝ }
+    ensures { λ r. ⌜ r ≡ answerOf base (now (mem .entry)) s (Yield hart) ⌝ }
+    ensures { λ _. ⌜ now (mem .exit) ≡ memoryOf base (now (mem .entry)) s (Yield hart) ⌝ }
 {
     perform(s, base, mem, Event::Yield { hart })
 }

@@ -8,11 +8,10 @@ use reserve::packed;
 ghost use mathlib.Core.Path.{_≡_};
 ghost use Prim.Native.Nat.{_*_, _≤_, min};
 ghost use lib.ListN.{length};
-ghost use Rattle.reserve.specs.Packed.{slotsIn};
-ghost use Rattle.machine.specs.State.{refusalOf};
 ghost use Rattle.events.specs.Events.{firstEvents};
 ghost use Rattle.model.specs.Perform.{runOf};
-ghost use Rattle.model.specs.Advance.{stateFrom};
+ghost use Rattle.model.specs.Valid.{Valid};
+ghost use Rattle.model.specs.Advance.{lent};
 ghost use Rattle.model.specs.Run.{resultOf};
 
 fn smaller(a: usize, b: usize) -> usize
@@ -42,9 +41,11 @@ fn perform_first(
     body: &[u8],
     n: usize,
 )
-    requires { ⌜ refusalOf base (length (now mem)) (stateFrom count (now x) (now pc) (slotsIn (now t))) ≡ 0 ⌝ }
+    requires { ⌜ Valid base (lent count (now x) (now pc) (now t) (now mem)) ⌝ }
     requires { ⌜ n * 24 ≤ length (now body) ⌝ }
-    ensures { λ _. ⌜ record { state = stateFrom count (now (x .exit)) (now (pc .exit)) (slotsIn (now (t .exit))); mem = now (mem .exit) } ≡ runOf base (record { state = stateFrom count (now (x .entry)) (now (pc .entry)) (slotsIn (now (t .entry))); mem = now (mem .entry) }) (firstEvents n (now (body .entry))) ⌝ }
+    ensures { λ _. ⌜ lent count (now (x .exit)) (now (pc .exit)) (now (t .exit)) (now (mem .exit))
+        ≡ runOf base (lent count (now (x .entry)) (now (pc .entry)) (now (t .entry)) (now (mem .entry))) (firstEvents n (now (body .entry)))
+        ⌝ }
 {
     let mut i: usize = 0;
     while i < n {
@@ -57,7 +58,8 @@ fn perform_first(
 
 // A run of at most budget events. It tries refusals 1 and 2, then the whole body by 11, before it performs any.
 pub fn run(s: State, base: u64, mem: &mut [u8], body: &[u8], budget: usize) -> Ran
-    ensures { λ r. ⌜ (r ≡ resultOf base (now (mem .entry)) s (now (body .entry)) budget .ran) × (now (mem .exit) ≡ resultOf base (now (mem .entry)) s (now (body .entry)) budget .mem) ⌝ }
+    ensures { λ r. ⌜ r ≡ resultOf base (now (mem .entry)) s (now (body .entry)) budget .ran ⌝ }
+    ensures { λ _. ⌜ now (mem .exit) ≡ resultOf base (now (mem .entry)) s (now (body .entry)) budget .mem ⌝ }
 {
     let count = s.count;
     let mut x = s.x;

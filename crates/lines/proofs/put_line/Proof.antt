@@ -25,10 +25,15 @@ same-length c = search needs
 
 returns : tie.Need-returns
 unfolding lineOf
-returns c = (
-  then (c .before .before .before .before .before .before .before .before .before .before .before .before .before .before .before .before .before .before .put-decimal .ensures .0) (then (c .before .before .before .before .before .before .before .before .before .before .before .before .before .before .put-byte .ensures) (then (c .before .before .before .before .before .before .before .before .before .before .put-who .ensures .0) (then (c .before .before .before .before .before .before .put-said .ensures .0) (c .before .before .put-byte2 .ensures)))),
-  omega (arith, c .before .before .before .before .before .before .before .before .before .before .before .before .before .before .before .before .before .before .put-decimal .ensures .1, c .before .before .before .before .before .before .before .before .before .before .before .before .before .before .put-byte .ensures .end, c .before .before .before .before .before .before .before .before .before .before .put-who .ensures .1, c .before .before .before .before .before .before .put-said .ensures .1, c .before .before .put-byte2 .ensures .end),
-)
+returns c =
+    let feed = c .before .before .put-byte2 .ensures in
+    let said = c .before .before .before .before .before .before in
+    let who = said .before .before .before .before in
+    let space = who .before .before .before .before in
+    let number = space .before .before .before .before in (
+      then (number .put-decimal .ensures .0) (then (space .put-byte .ensures) (then (who .put-who .ensures .0) (then (said .put-said .ensures .0) feed))),
+      omega (arith, number .put-decimal .ensures .1, space .put-byte .ensures .end, who .put-who .ensures .1, said .put-said .ensures .1, feed .end),
+    )
 
 pub put-line-spec : {M : Type 1} → statement M
 put-line-spec =

@@ -3,22 +3,21 @@ use mathlib.Core.List.{List}
 use Prim.Native.Nat.{ℕ, _+_, _*_, _-_, _/_, _≤_}
 use native.Mathlib.Nat.{sub-zero}
 use native.Mathlib.Omega.{arith}
-use lib.ListN.{length, take, drop, length-take, length-drop}
+use lib.ListN.{length, drop, length-take, length-drop}
 use lib.Seq.{length-take-le}
-use Rattle.reserve.specs.Packed.{slotsIn}
-use Rattle.reserve.specs.declared.Slot.{Slot}
 use Rattle.machine.specs.State.{refusalOf}
 use Rattle.text.specs.Put.{Put}
 use Rattle.text.proofs.PutLaws.{none, then, as-text}
-use Rattle.events.specs.Events.{eventOf, firstEvents}
-use Rattle.events.specs.declared.Event.{Event}
-use Rattle.model.specs.Act.{outcomeOf}
-use Rattle.model.specs.Perform.{Machine, actOf, answerOf, nextOf, runOf}
-use Rattle.model.specs.Advance.{stateFrom}
-use Rattle.model.proofs.AdvanceLaws.{refused-same, advanced-next, advanced-valid, advanced-answer, events-more, event-width}
+use Rattle.events.specs.Events.{firstEvents}
+use Rattle.model.specs.Perform.{Machine, runOf}
+use Rattle.model.specs.Valid.{Valid}
+use Rattle.model.specs.Advance.{lent}
+use Rattle.model.proofs.Valid.{valid-next}
+use Rattle.model.proofs.AdvanceLaws.{lent-same, lent-valid, event-cut, run-more}
 use Rattle.lines.specs.Lines.{linesOf}
 use Rattle.lines.proofs.LineLaws.{lines-none, lines-more}
-use Rattle.lines.proofs.BehindLaws.{front-length, front-behind, front-put, lent-behind, back, back-length, back-within, back-behind, back-put, advances-as}
+use Rattle.lines.proofs.BehindLaws.{front-length, front-behind, front-put, lent-behind, advances-as}
+use Rattle.lines.proofs.BehindLaws.{back, back-length, back-within, back-behind, back-put}
 use borrow.Author.Needs.{needs}
 use Rattle.lines.proofs.put_lines.Statement.{statement}
 use Rattle.lines.proofs.put_lines.Tie as tie
@@ -28,12 +27,12 @@ Inv-loop out₀ at from base body count x₀ pc₀ t₀ n p₀ i₀ out x pc t p
     (i ≤ n)
     × (length out ≡ length out₀)
     × (p ≤ at + 90 * i)
-    × (refusalOf base (length (drop from out)) (stateFrom count x pc (slotsIn t)) ≡ 0)
+    × Valid base (lent count x pc t (drop from out))
     × ((o : List ℕ) (r : ℕ)
-    → Put out p (linesOf base (record { state = stateFrom count x pc (slotsIn t); mem = drop from out }) i (firstEvents (n - i) (drop (i * 24) body))) o r
-    → Put out₀ at (linesOf base (record { state = stateFrom count x₀ pc₀ (slotsIn t₀); mem = drop from out₀ }) 0 (firstEvents n body)) o r)
-    × (runOf base (record { state = stateFrom count x pc (slotsIn t); mem = drop from out }) (firstEvents (n - i) (drop (i * 24) body))
-    ≡ runOf base (record { state = stateFrom count x₀ pc₀ (slotsIn t₀); mem = drop from out₀ }) (firstEvents n body))
+    → Put out p (linesOf base (lent count x pc t (drop from out)) i (firstEvents (n - i) (drop (i * 24) body))) o r
+    → Put out₀ at (linesOf base (lent count x₀ pc₀ t₀ (drop from out₀)) 0 (firstEvents n body)) o r)
+    × (runOf base (lent count x pc t (drop from out)) (firstEvents (n - i) (drop (i * 24) body))
+    ≡ runOf base (lent count x₀ pc₀ t₀ (drop from out₀)) (firstEvents n body))
 
 abbrev μ-loop : tie.MeasureT-loop
 μ-loop out₀ at from base body count x₀ pc₀ t₀ n p₀ i₀ out x pc t p i = n - i
@@ -43,12 +42,14 @@ pack-requires c κs = search needs
 
 loop-holds : tie.Need-loop-holds Inv-loop μ-loop
 loop-holds c =
-    let a = c .before .before .before .before .before .before .args in (
+    let start = c .before .before .before .before .before .before in
+    let a = start .args in
+    let mem = drop (a .from) (a .out .now) in
+    let unrefused = subst (λ (k : ℕ). refusalOf (a .base) k (a .s) ≡ 0) (sym (length-drop (a .from) (a .out .now))) (start .pre .1) in (
       omega arith,
       refl,
       omega arith,
-      refused-same (a .base) (drop (a .from) (a .out .now)) (a .s) (c .pack .ensures)
-          ∙ subst (λ (k : ℕ). refusalOf (a .base) k (a .s) ≡ 0) (sym (length-drop (a .from) (a .out .now))) (c .before .before .before .before .before .before .pre .1),
+      lent-valid (a .base) (a .s) _ mem (c .pack .ensures) unrefused,
       rw sub-zero (λ o r x. x),
       rw sub-zero refl,
     )
@@ -71,42 +72,46 @@ part-read-event-end c = omega arith
 read-event-requires : tie.Need-read-event-requires Inv-loop μ-loop
 read-event-requires c κs = simp (length-take, length-drop) (omega arith)
 
+-- at every turn the memory lies in the buffer
+within : (c : tie.At-loop Inv-loop μ-loop) → c .before .before .before .before .before .before .before .args .from ≤ length (c .loop .out)
+within c = omega (arith, c .before .before .before .before .before .before .before .pre, c .loop .inv)
+
 sub-advance : tie.Need-sub-advance Inv-loop μ-loop
-sub-advance c = omega (arith, c .before .before .before .before .before .before .before .before .before .before .before .before .before .pre, c .before .before .before .before .before .before .loop .inv)
+sub-advance c = within (c .before .before .before .before .before .before)
 
 part-advance-start : tie.Need-part-advance-start Inv-loop μ-loop
-part-advance-start c = omega (arith, c .before .before .before .before .before .before .before .before .before .before .before .before .before .pre, c .before .before .before .before .before .before .loop .inv)
+part-advance-start c = within (c .before .before .before .before .before .before)
 
 part-advance-end : tie.Need-part-advance-end Inv-loop μ-loop
 part-advance-end c = omega arith
 
 advance-requires : tie.Need-advance-requires Inv-loop μ-loop
 advance-requires c κs =
-    let a = c .before .before .before .before .before .before .before .before .before .before .before .before .before .before .args in
-    let l = c .before .before .before .before .before .before .before .loop in
-    subst (λ (m : List ℕ). refusalOf (a .base) (length m) (stateFrom (a .s .count) (l .x) (l .pc) (slotsIn (l .t))) ≡ 0)
-    (sym (lent-behind (l .out) (a .from)))
-    (l .inv .3)
+    let turn = c .before .before .before .before .before .before .before in
+    let a = turn .before .before .before .before .before .before .before .args in
+    let l = turn .loop in
+    subst (λ (mem : List ℕ). Valid (a .base) (lent (a .s .count) (l .x) (l .pc) (l .t) mem)) (sym (lent-behind (l .out) (a .from))) (l .inv .3)
+
+-- also once an event has changed it
+behind-line : (c : tie.After-advance Inv-loop μ-loop)
+    → let turn = c .before .before .before .before .before .before .before .before in
+    let from = turn .before .before .before .before .before .before .before .args .from in
+    from ≤ length (back (turn .loop .out) (c .advance .last .1 .1 .1 .1 .1 .0) from)
+behind-line c =
+    let turn = c .before .before .before .before .before .before .before .before in
+    back-within (turn .loop .out) (c .advance .last .1 .1 .1 .1 .1 .0) _ (within turn) (c .advance .kept .1 .1 .1 .1 .1 .0)
 
 slice-relend-prefix-put-line : tie.Need-slice-relend-prefix-put-line Inv-loop μ-loop
-slice-relend-prefix-put-line c =
-    let a = c .before .before .before .before .before .before .before .before .before .before .before .before .before .before .before .before .before .args in
-    let l = c .before .before .before .before .before .before .before .before .before .before .loop in
-    back-within (l .out) (c .before .before .advance .last .1 .1 .1 .1 .1 .0) (a .from) (omega (arith, c .before .before .before .before .before .before .before .before .before .before .before .before .before .before .before .before .before .pre, l .inv)) (c .before .before .advance .kept .1 .1 .1 .1 .1 .0)
+slice-relend-prefix-put-line c = behind-line (c .before .before)
 
 slice-aggregate-put-line : tie.Need-slice-aggregate-put-line Inv-loop μ-loop
-slice-aggregate-put-line c =
-    let a = c .before .before .before .before .before .before .before .before .before .before .before .before .before .before .before .before .before .before .args in
-    let l = c .before .before .before .before .before .before .before .before .before .before .before .loop in
-    let w = back-within (l .out) (c .before .before .before .advance .last .1 .1 .1 .1 .1 .0) (a .from) (omega (arith, c .before .before .before .before .before .before .before .before .before .before .before .before .before .before .before .before .before .before .pre, l .inv)) (c .before .before .before .advance .kept .1 .1 .1 .1 .1 .0) in
-    sym (length-take-le (a .from) _ w)
+slice-aggregate-put-line c = sym (length-take-le _ _ (behind-line (c .before .before .before)))
 
 put-line-requires : tie.Need-put-line-requires Inv-loop μ-loop
 put-line-requires c κs =
-    let a = c .before .before .before .before .before .before .before .before .before .before .before .before .before .before .before .before .before .before .args in
-    let l = c .before .before .before .before .before .before .before .before .before .before .before .loop in
-    let w = back-within (l .out) (c .before .before .before .advance .last .1 .1 .1 .1 .1 .0) (a .from) (omega (arith, c .before .before .before .before .before .before .before .before .before .before .before .before .before .before .before .before .before .before .pre, l .inv)) (c .before .before .before .advance .kept .1 .1 .1 .1 .1 .0) in
-    rw length-take-le (omega (arith, c .before .before .before .before .before .before .before .before .before .before .before .before .before .before .before .before .before .before .pre, l .inv))
+    let turn = c .before .before .before .before .before .before .before .before .before .before .before in
+    let w = behind-line (c .before .before .before) in
+    rw length-take-le (omega (arith, turn .before .before .before .before .before .before .before .pre, turn .loop .inv))
 
 add-i : tie.Need-add-i Inv-loop μ-loop
 add-i c = omega arith
@@ -115,39 +120,39 @@ loop-less : tie.Need-loop-less Inv-loop μ-loop
 loop-less c = omega arith
 
 loop-again : tie.Need-loop-again Inv-loop μ-loop
-unfolding answerOf runOf
 loop-again c =
-    let a = c .before .before .before .before .before .before .before .before .before .before .before .before .before .before .before .before .before .before .before .before .before .args in
-    let s = a .s in
-    let l = c .before .before .before .before .before .before .before .before .before .before .before .before .before .before .loop in
+    let done = c .before .before .before .before .before .before in
+    let reads = done .before .before .before .before .before in
+    let read = reads .read-event in
+    let test = reads .before .before .loop-test in
+    let turn = reads .before .before .before in
+    let start = turn .before .before .before .before .before .before .before in
+    let a = start .args in
+    let l = turn .loop in
     let body = a .body .now in
     let n = length body / 24 in
-    let ev = c .before .before .before .before .before .before .before .before .before .before .before .read-event .result in
-    let mem = c .before .before .before .before .before .before .advance .last .1 .1 .1 .1 .1 .0 in
-    let kept = c .before .before .before .before .before .before .advance .kept .1 .1 .1 .1 .1 .0 in
+    let mem = done .advance .last .1 .1 .1 .1 .1 .0 in
+    let kept = done .advance .kept .1 .1 .1 .1 .1 .0 in
     let line = c .before .before .put-line in
-    let within : a .from ≤ length (l .out) = omega (arith, c .before .before .before .before .before .before .before .before .before .before .before .before .before .before .before .before .before .before .before .before .before .pre, l .inv) in
     let out = back (l .out) mem (a .from) in
-    let w = back-within (l .out) mem (a .from) within kept in
-    let left = front-behind out (line .last .0) (a .from) w (line .kept .0) ∙ back-behind (l .out) mem (a .from) within kept in
-    let here : Machine = record { state = stateFrom (s .count) (l .x) (l .pc) (slotsIn (l .t)); mem = drop (a .from) (l .out) } in
-    let more = advances-as (here .state) ev (lent-behind (l .out) (a .from)) (sym left) (c .before .before .before .before .before .before .advance .ensures) in
-    let q = advanced-next (a .base) (s .count) (l .x) (l .pc) (here .mem) (slotsIn (l .t)) (l .inv .3) ev _ _ _ _ _ more in
-    let t = advanced-answer (a .base) (s .count) (l .x) (l .pc) (here .mem) (slotsIn (l .t)) (l .inv .3) ev _ _ _ _ _ more in
-    let rest = firstEvents (n - (l .i + 1)) (drop ((l .i + 1) * 24) body) in
-    let e = c .before .before .before .before .before .before .before .before .before .before .before .read-event .ensures ∙ ap (λ (k : ℕ). eventOf (take k (drop (l .i * 24) body))) (event-width (l .i)) in
-    let start : l .p ≤ a .from = omega (arith, c .before .before .before .before .before .before .before .before .before .before .before .before .before .before .before .before .before .before .before .before .before .pre, l .inv) in
-    let end : line .result ≤ a .from = omega (arith, c .before .before .before .before .before .before .before .before .before .before .before .before .before .before .before .before .before .before .before .before .before .pre, l .inv, line .ensures .1) in
-    let put = back-put (l .out) mem (a .from) within kept start (front-put out (line .last .0) (a .from) w (line .kept .0) start end (line .ensures .0)) in (
+    let w = behind-line done in
+    let left = front-behind out (line .last .0) (a .from) w (line .kept .0) ∙ back-behind (l .out) mem (a .from) (within turn) kept in
+    let was : List ℕ → Machine = lent (a .s .count) (l .x) (l .pc) (l .t) in
+    let here = was (drop (a .from) (l .out)) in
+    let left-as : List ℕ → Machine = lent (a .s .count) (done .advance .last .0) (done .advance .last .1 .0) (done .advance .last .1 .1 .0) in
+    let more = advances-as (ap was (lent-behind (l .out) (a .from))) (ap left-as (sym left)) (done .advance .ensures) in
+    let q = more .machine in
+    let e = event-cut (l .i) body (read .ensures) in
+    let first : l .p ≤ a .from = omega (arith, start .pre, l .inv) in
+    let last : line .result ≤ a .from = omega (arith, start .pre, l .inv, test, line .ensures .1) in
+    let front = front-put out (line .last .0) (a .from) w (line .kept .0) first last (line .ensures .0) in
+    let put = back-put (l .out) mem (a .from) (within turn) kept first front in (
       omega arith,
-      front-length out (line .last .0) (a .from) w (line .kept .0) ∙ back-length (l .out) mem (a .from) within kept ∙ l .inv .1,
+      front-length out (line .last .0) (a .from) w (line .kept .0) ∙ back-length (l .out) mem (a .from) (within turn) kept ∙ l .inv .1,
       omega (arith, line .ensures .1),
-      advanced-valid (a .base) (s .count) (l .x) (l .pc) (here .mem) (slotsIn (l .t)) (l .inv .3) ev _ _ _ _ _ more,
-      λ o r y. l .inv .4 o r (as-text (sym (lines-more (a .base) here _ n (l .i) body ev _ (omega arith) e t q)) (then put y)),
-      ap (λ (m : Machine). runOf (a .base) m rest) q
-          ∙ ap (λ (v : Event). runOf (a .base) (nextOf (a .base) here v) rest) e
-          ∙ ap (runOf (a .base) here) (sym (events-more n (l .i) body (omega arith)))
-          ∙ l .inv .5,
+      subst (Valid (a .base)) (sym q) (valid-next (a .base) here (l .inv .3) (read .result)),
+      λ o r y. l .inv .4 o r (as-text (sym (lines-more (a .base) here _ n (l .i) body (read .result) _ (omega arith) e (more .outcome) q)) (then put y)),
+      run-more (a .base) here n (l .i) body (omega arith) e q ∙ l .inv .5,
     )
 
 same-length : tie.Need-same-length Inv-loop μ-loop
@@ -156,20 +161,19 @@ same-length c = search needs
 returns : tie.Need-returns Inv-loop μ-loop
 unfolding runOf firstEvents
 returns c =
-    let a = c .before .before .before .before .before .before .before .before .args in
-    let s = a .s in
+    let packed = c .before .before in
+    let a = packed .before .before .before .before .before .before .args in
     let body = a .body .now in
     let n = length body / 24 in
     let l = c .before .loop in
-    let start : List Slot → Machine = λ k. record { state = stateFrom (s .count) (s .x) (s .pc) k; mem = drop (a .from) (a .out .now) } in
+    let same = lent-same (a .base) (a .s) _ (drop (a .from) (a .out .now)) (packed .pack .ensures) in
+    let here = lent (a .s .count) (l .x) (l .pc) (l .t) (drop (a .from) (l .out)) in
     let z : n - l .i ≡ 0 = omega arith in
-    let here : Machine = record { state = stateFrom (s .count) (l .x) (l .pc) (slotsIn (l .t)); mem = drop (a .from) (l .out) } in
     let end = as-text (sym (lines-none (a .base) here (l .i) (n - l .i) (drop (l .i * 24) body) (omega arith))) (none (l .out) (l .p)) in (
-      as-text (ap (λ (k : List Slot). linesOf (a .base) (start k) 0 (firstEvents n body)) (c .before .before .pack .ensures)) (l .inv .4 (l .out) (l .p) end),
+      as-text (ap (λ (m : Machine). linesOf (a .base) m 0 (firstEvents n body)) same) (l .inv .4 (l .out) (l .p) end),
       (
         omega arith,
-        ap (λ (m : Machine). m .mem) (rw z at (l .inv .5))
-            ∙ ap (λ (k : List Slot). runOf (a .base) (start k) (firstEvents n body) .mem) (c .before .before .pack .ensures),
+        ap (λ (m : Machine). m .mem) (rw z at (l .inv .5)) ∙ ap (λ (m : Machine). runOf (a .base) m (firstEvents n body) .mem) same,
       ),
     )
 

@@ -53,32 +53,44 @@ same-length : tie.Need-same-length
 same-length c = search needs
 
 returns : tie.Need-returns
-returns c = (rw (c .before .before .before .before .before .enum-told .given .1) (c .before .before .put-bytes .ensures), omega (arith, c .before .before .put-bytes .ensures .end))
+returns c =
+    let text = c .before .before in
+    (rw (text .before .before .before .enum-told .given .1) (text .put-bytes .ensures), omega (arith, text .put-bytes .ensures .end))
 
 same-length-2 : tie.Need-same-length-2
 same-length-2 c = search needs
 
 returns-2 : tie.Need-returns-2
-returns-2 c = (rw (c .before .before .before .before .before .enum-told2 .given .1) (c .before .before .put-bytes2 .ensures), omega (arith, c .before .before .put-bytes2 .ensures .end))
+returns-2 c =
+    let text = c .before .before in
+    (rw (text .before .before .before .enum-told2 .given .1) (text .put-bytes2 .ensures), omega (arith, text .put-bytes2 .ensures .end))
 
 same-length-3 : tie.Need-same-length-3
 same-length-3 c = search needs
 
 returns-3 : tie.Need-returns-3
-returns-3 c = (rw (c .before .before .before .before .before .enum-told3 .given .1) (c .before .before .put-bytes3 .ensures), omega (arith, c .before .before .put-bytes3 .ensures .end))
+returns-3 c =
+    let text = c .before .before in
+    (rw (text .before .before .before .enum-told3 .given .1) (text .put-bytes3 .ensures), omega (arith, text .put-bytes3 .ensures .end))
 
 same-length-4 : tie.Need-same-length-4
 same-length-4 c = search needs
 
 returns-4 : tie.Need-returns-4
-returns-4 c = (rw (c .before .before .before .before .before .o .given .1) (c .before .before .put-trap .ensures .0), c .before .before .put-trap .ensures .1)
+returns-4 c =
+    let trap = c .before .before in
+    (rw (trap .before .before .before .o .given .1) (trap .put-trap .ensures .0), trap .put-trap .ensures .1)
 
 same-length-5 : tie.Need-same-length-5
 same-length-5 c = search needs
 
 returns-5 : tie.Need-returns-5
 returns-5 c =
-    (rw (c .before .before .before .before .before .before .before .before .before .before .o2 .given .1) (then (c .before .before .before .before .before .before .put-bytes4 .ensures) (c .before .before .put-decimal .ensures .0)), omega (arith, c .before .before .before .before .before .before .put-bytes4 .ensures .end, c .before .before .put-decimal .ensures .1))
+    let number = c .before .before .put-decimal .ensures in
+    let text = c .before .before .before .before .before .before in (
+      rw (text .before .before .before .before .o2 .given .1) (then (text .put-bytes4 .ensures) (number .0)),
+      omega (arith, text .put-bytes4 .ensures .end, number .1),
+    )
 
 pub put-said-spec : {M : Type 1} → statement M
 put-said-spec =

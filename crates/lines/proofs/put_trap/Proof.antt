@@ -23,10 +23,14 @@ same-length : tie.Need-same-length
 same-length c = search needs
 
 returns : tie.Need-returns
-returns c = (
-  then (c .before .before .before .before .before .before .before .before .before .before .before .before .before .before .put-bytes .ensures) (then (c .before .before .before .before .before .before .before .before .before .before .put-decimal .ensures .0) (then (c .before .before .before .before .before .before .put-byte .ensures) (c .before .before .put-hex16 .ensures .0))),
-  omega (arith, c .before .before .before .before .before .before .before .before .before .before .before .before .before .before .put-bytes .ensures .end, c .before .before .before .before .before .before .before .before .before .before .put-decimal .ensures .1, c .before .before .before .before .before .before .put-byte .ensures .end, c .before .before .put-hex16 .ensures .1),
-)
+returns c =
+    let hex = c .before .before .put-hex16 .ensures in
+    let space = c .before .before .before .before .before .before in
+    let number = space .before .before .before .before in
+    let trap = number .before .before .before .before in (
+      then (trap .put-bytes .ensures) (then (number .put-decimal .ensures .0) (then (space .put-byte .ensures) (hex .0))),
+      omega (arith, trap .put-bytes .ensures .end, number .put-decimal .ensures .1, space .put-byte .ensures .end, hex .1),
+    )
 
 pub put-trap-spec : {M : Type 1} → statement M
 put-trap-spec =

@@ -32,19 +32,31 @@ same-length : tie.Need-same-length
 same-length c = search needs
 
 returns : tie.Need-returns
-returns c = (rw (c .before .before .before .before .before .before .before .before .before .e .given .1) (then (c .before .before .before .before .before .before .put-byte .ensures) (c .before .before .put-decimal .ensures .0)), omega (arith, c .before .before .before .before .before .before .put-byte .ensures .end, c .before .before .put-decimal .ensures .1))
+returns c =
+    let letter = c .before .before .before .before .before .before in
+    let number = c .before .before .put-decimal .ensures in (
+      rw (letter .before .before .before .e .given .1) (then (letter .put-byte .ensures) (number .0)),
+      omega (arith, letter .put-byte .ensures .end, number .1),
+    )
 
 same-length-2 : tie.Need-same-length-2
 same-length-2 c = search needs
 
 returns-2 : tie.Need-returns-2
-returns-2 c = (rw (c .before .before .before .before .enum-told .given .1) (c .before .before .put-byte2 .ensures), omega (arith, c .before .before .put-byte2 .ensures .end))
+returns-2 c =
+    let letter = c .before .before in
+    (rw (letter .before .before .enum-told .given .1) (letter .put-byte2 .ensures), omega (arith, letter .put-byte2 .ensures .end))
 
 same-length-3 : tie.Need-same-length-3
 same-length-3 c = search needs
 
 returns-3 : tie.Need-returns-3
-returns-3 c = (rw (c .before .before .before .before .before .before .before .before .before .e2 .given .1) (then (c .before .before .before .before .before .before .put-byte3 .ensures) (c .before .before .put-decimal2 .ensures .0)), omega (arith, c .before .before .before .before .before .before .put-byte3 .ensures .end, c .before .before .put-decimal2 .ensures .1))
+returns-3 c =
+    let letter = c .before .before .before .before .before .before in
+    let number = c .before .before .put-decimal2 .ensures in (
+      rw (letter .before .before .before .e2 .given .1) (then (letter .put-byte3 .ensures) (number .0)),
+      omega (arith, letter .put-byte3 .ensures .end, number .1),
+    )
 
 pub put-who-spec : {M : Type 1} → statement M
 put-who-spec =

@@ -1,11 +1,9 @@
-use mathlib.Core.Path.{_≡_, refl, sym, ap, _∙_, subst}
+use mathlib.Core.Path.{refl, sym, _∙_}
 use native.Mathlib.Omega.{arith}
-use Prim.Native.Nat.{ℕ, _-_}
+use Prim.Native.Nat.{_-_}
 use borrow.Author.Tests.{not-true, not-false}
-use lib.ListN.{length}
 use Rattle.effect.proofs.Fits.{value-lt}
 use Rattle.reserve.proofs.RangeLaws.{inside-of}
-use Rattle.effect.specs.Effect.{Meets, trap}
 use Rattle.effect.specs.Memory.{valueAt}
 use Rattle.model.specs.Perform.{fetchOf}
 use borrow.Author.Needs.{needs}
@@ -40,7 +38,9 @@ same-length c = search needs
 returns-2 : tie.Need-returns-2
 unfolding fetchOf valueAt
 returns-2 c =
-    rw (sym (c .before .before .before .before .before .before .before .inside .ensures) ∙ not-false _ (c .before .before .before .before .before .before .if1 .left), ← c .before .before .before .before .load-at .ensures) (c .before .before .execute-word .ensures)
+    let load = c .before .before .before .before in
+    let inside = sym (load .before .before .before .inside .ensures) ∙ not-false _ (load .before .before .if1 .left) in
+    rw (inside, ← load .load-at .ensures) (c .before .before .execute-word .ensures)
 
 pub fetch-spec : {M : Type 1} → statement M
 fetch-spec =

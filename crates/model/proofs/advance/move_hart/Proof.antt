@@ -1,5 +1,4 @@
-use mathlib.Core.Path.{_≡_, refl, sym, ap, _∙_}
-use native.Mathlib.Omega.{arith}
+use mathlib.Core.Path.{refl}
 use Rattle.model.specs.Advance.{registersBy, pcsBy}
 use borrow.Author.Needs.{needs}
 use Rattle.model.proofs.advance.move_hart.Statement.{statement}

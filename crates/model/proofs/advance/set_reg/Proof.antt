@@ -1,5 +1,4 @@
 use borrow.Author.Tests.{eq-eqb, ne-eqb}
-use native.Mathlib.Omega.{arith}
 use Rattle.model.specs.Act.{setReg}
 use borrow.Author.Needs.{needs}
 use Rattle.model.proofs.advance.set_reg.Statement.{statement}

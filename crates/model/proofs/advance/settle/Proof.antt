@@ -1,4 +1,4 @@
-use mathlib.Core.Path.{_≡_, refl, sym, ap, _∙_}
+use mathlib.Core.Path.{refl, ap}
 use Rattle.reserve.specs.Reserve.{Observed}
 use Rattle.model.specs.Advance.{slotsBy, outcomeBy}
 use borrow.Author.Needs.{needs}

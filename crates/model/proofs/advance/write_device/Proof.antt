@@ -1,4 +1,4 @@
-use mathlib.Core.Path.{_≡_, refl, sym, ap, _∙_}
+use mathlib.Core.Path.{refl, sym, ap, _∙_}
 use native.Mathlib.Omega.{arith}
 use borrow.Author.Tests.{lt-leb, le-leb, not-true, not-false}
 use Prim.Native.Nat.{ℕ}
@@ -19,7 +19,9 @@ returns c = rw (lt-leb 1 (c .before .before .args .size) (omega arith)) (refl, (
 
 returns-2 : tie.Need-returns-2
 unfolding deviceOf leaves
-returns-2 c = rw (le-leb 1 (c .before .before .before .args .size) (omega arith), lt-leb (c .before .before .before .args .size) 8 (c .if2 .taken)) (refl, (refl, refl))
+returns-2 c =
+    let size = c .before .before .before .args .size in
+    rw (le-leb 1 size (omega arith), lt-leb size 8 (c .if2 .taken)) (refl, (refl, refl))
 
 inside-requires : tie.Need-inside-requires
 inside-requires c κs = search needs
@@ -27,7 +29,9 @@ inside-requires c κs = search needs
 returns-3 : tie.Need-returns-3
 unfolding deviceOf leaves
 returns-3 c =
-    rw (le-leb 1 (c .before .before .before .before .before .args .size) (omega arith), le-leb (c .before .before .before .before .before .args .size) 8 (omega arith), sym (c .before .inside .ensures) ∙ not-true _ (c .if3 .taken)) (refl, (refl, refl))
+    let size = c .before .before .before .before .before .args .size in
+    let outside = sym (c .before .inside .ensures) ∙ not-true _ (c .if3 .taken) in
+    rw (le-leb 1 size (omega arith), le-leb size 8 (omega arith), outside) (refl, (refl, refl))
 
 sub-store-at : tie.Need-sub-store-at
 sub-store-at c = let i = inside-of _ _ _ _ (sym (c .before .before .inside .ensures) ∙ not-false _ (c .before .if3 .left)) in omega arith
@@ -44,10 +48,14 @@ same-length c = search needs
 returns-4 : tie.Need-returns-4
 unfolding deviceOf leaves
 returns-4 c =
-    let a = c .before .before .before .before .before .before .before .before .before .before .before .args in
-    let q = c .device-write .ensures ∙ ap (λ (k : ℕ). observeAllOf 64 (a .count) (DeviceWrite (a .addr) k) (slotsIn (a .t .now))) (sym (length-toLe (a .size) (a .value))) in
-    rw (le-leb 1 (a .size) (omega arith), le-leb (a .size) 8 (omega arith), sym (c .before .before .before .before .before .before .before .inside .ensures) ∙ not-false _ (c .before .before .before .before .before .before .if3 .left))
-    (refl, (ap (λ (o : Observed). o .slots) q, c .before .before .before .before .store-at .ensures))
+    let store = c .before .before .before .before in
+    let left = store .before .before in
+    let inside = sym (left .before .inside .ensures) ∙ not-false _ (left .if3 .left) in
+    let a = left .before .before .before .before .before .args in
+    let seen : ℕ → Observed = λ k. observeAllOf 64 (a .count) (DeviceWrite (a .addr) k) (slotsIn (a .t .now)) in
+    let q = c .device-write .ensures ∙ ap seen (sym (length-toLe (a .size) (a .value))) in
+    rw (le-leb 1 (a .size) (omega arith), le-leb (a .size) 8 (omega arith), inside)
+    (refl, (ap (λ (o : Observed). o .slots) q, store .store-at .ensures))
 
 pub write-device-spec : {M : Type 1} → statement M
 write-device-spec =

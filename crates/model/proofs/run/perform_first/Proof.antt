@@ -1,15 +1,14 @@
-use mathlib.Core.Path.{_≡_, refl, sym, ap, _∙_}
-use Prim.Native.Nat.{ℕ, _+_, _-_, _*_, _≤_}
+use mathlib.Core.Path.{_≡_, refl, sym, _∙_, subst}
+use Prim.Native.Nat.{_-_, _*_, _≤_}
 use native.Mathlib.Nat.{sub-zero}
 use native.Mathlib.Omega.{arith}
-use lib.ListN.{length, take, drop, length-take, length-drop}
-use Rattle.reserve.specs.Packed.{slotsIn}
-use Rattle.machine.specs.State.{refusalOf}
-use Rattle.events.specs.Events.{eventOf, firstEvents}
-use Rattle.events.specs.declared.Event.{Event}
-use Rattle.model.specs.Perform.{Machine, runOf, nextOf}
-use Rattle.model.specs.Advance.{stateFrom}
-use Rattle.model.proofs.AdvanceLaws.{advanced-next, advanced-valid, events-more, event-width}
+use lib.ListN.{length, drop, length-take, length-drop}
+use Rattle.events.specs.Events.{firstEvents}
+use Rattle.model.specs.Perform.{runOf}
+use Rattle.model.specs.Valid.{Valid}
+use Rattle.model.specs.Advance.{lent}
+use Rattle.model.proofs.Valid.{valid-next}
+use Rattle.model.proofs.AdvanceLaws.{event-cut, run-more}
 use borrow.Author.Needs.{needs}
 use Rattle.model.proofs.run.perform_first.Statement.{statement}
 use Rattle.model.proofs.run.perform_first.Tie as tie
@@ -18,9 +17,9 @@ abbrev Inv-loop : tie.InvT-loop
 Inv-loop x₀ pc₀ t₀ count base mem₀ body n i₀ x pc t mem i =
     (i ≤ n)
     × (length mem ≡ length mem₀)
-    × (refusalOf base (length mem) (stateFrom count x pc (slotsIn t)) ≡ 0)
-    × (runOf base (record { state = stateFrom count x pc (slotsIn t); mem = mem }) (firstEvents (n - i) (drop (i * 24) body))
-    ≡ runOf base (record { state = stateFrom count x₀ pc₀ (slotsIn t₀); mem = mem₀ }) (firstEvents n body))
+    × Valid base (lent count x pc t mem)
+    × (runOf base (lent count x pc t mem) (firstEvents (n - i) (drop (i * 24) body))
+    ≡ runOf base (lent count x₀ pc₀ t₀ mem₀) (firstEvents n body))
 
 abbrev μ-loop : tie.MeasureT-loop
 μ-loop x₀ pc₀ t₀ count base mem₀ body n i₀ x pc t mem i = n - i
@@ -56,24 +55,18 @@ loop-less : tie.Need-loop-less Inv-loop μ-loop
 loop-less c = omega arith
 
 loop-again : tie.Need-loop-again Inv-loop μ-loop
-unfolding runOf
 loop-again c =
     let a = c .before .before .before .before .before .before .before .before .before .before .before .before .before .args in
     let l = c .before .before .before .before .before .before .before .before .before .before .loop in
-    let body = a .body .now in
-    let here : Machine = record { state = stateFrom (a .count) (l .x) (l .pc) (slotsIn (l .t)); mem = l .mem } in
-    let more = c .before .before .advance .ensures in
-    let ev = c .before .before .before .before .before .before .before .read-event .result in
-    let q = advanced-next (a .base) (a .count) (l .x) (l .pc) (l .mem) (slotsIn (l .t)) (l .inv .2) ev _ _ _ _ _ more in
-    let e = c .before .before .before .before .before .before .before .read-event .ensures ∙ ap (λ (k : ℕ). eventOf (take k (drop (l .i * 24) body))) (event-width (l .i)) in
-    let rest = firstEvents (a .n - (l .i + 1)) (drop ((l .i + 1) * 24) body) in (
+    let here = lent (a .count) (l .x) (l .pc) (l .t) (l .mem) in
+    let read = c .before .before .before .before .before .before .before .read-event in
+    let done = c .before .before .advance in
+    let left = done .ensures .machine in
+    let e = event-cut (l .i) (a .body .now) (read .ensures) in (
       omega arith,
-      c .before .before .advance .kept .1 .1 .1 .1 .1 .0 ∙ l .inv .1,
-      advanced-valid (a .base) (a .count) (l .x) (l .pc) (l .mem) (slotsIn (l .t)) (l .inv .2) ev _ _ _ _ _ more,
-      ap (λ (m : Machine). runOf (a .base) m rest) q
-          ∙ ap (λ (v : Event). runOf (a .base) (nextOf (a .base) here v) rest) e
-          ∙ ap (runOf (a .base) here) (sym (events-more (a .n) (l .i) body (omega arith)))
-          ∙ l .inv .3,
+      done .kept .1 .1 .1 .1 .1 .0 ∙ l .inv .1,
+      subst (Valid (a .base)) (sym left) (valid-next (a .base) here (l .inv .2) (read .result)),
+      run-more (a .base) here (a .n) (l .i) (a .body .now) (omega arith) e left ∙ l .inv .3,
     )
 
 same-length : tie.Need-same-length Inv-loop μ-loop

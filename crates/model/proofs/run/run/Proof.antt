@@ -1,18 +1,13 @@
-use mathlib.Core.Path.{_≡_, refl, sym, ap, ap₂, _∙_}
-use mathlib.Core.List.{List}
-use Prim.Native.Nat.{ℕ, _/_}
+use mathlib.Core.Path.{refl, sym, ap, _∙_}
+use Prim.Native.Nat.{_/_}
 use native.Mathlib.Omega.{arith}
-use borrow.Author.Tests.{ne-eqb, eq-eqb}
+use borrow.Author.Tests.{ne-eqb}
 use lib.ListN.{length}
-use Rattle.reserve.specs.declared.Slot.{Slot}
-use Rattle.machine.specs.State.{refusalOf}
-use Rattle.machine.specs.declared.State.{State}
 use Rattle.events.specs.Events.{firstEvents}
 use Rattle.model.specs.Perform.{Machine, runOf}
-use Rattle.model.specs.Advance.{stateFrom}
 use Rattle.model.specs.Run.{resultOf}
 use Rattle.model.specs.declared.Verdict.the-variants.{Performed}
-use Rattle.model.proofs.AdvanceLaws.{refused-same, take-events}
+use Rattle.model.proofs.AdvanceLaws.{lent-same, lent-valid, take-events}
 use borrow.Author.Needs.{needs}
 use Rattle.model.proofs.run.run.Statement.{statement}
 use Rattle.model.proofs.run.run.Tie as tie
@@ -47,9 +42,12 @@ pack-requires c κs = search needs
 
 perform-first-requires : tie.Need-perform-first-requires
 perform-first-requires c κs =
-    let a = c .before .before .before .before .before .before .before .before .before .before .before .before .before .before .before .before .before .before .args in (
-      refused-same (a .base) (a .mem .now) (a .s) (c .before .before .before .before .pack .ensures) ∙ sym (c .before .before .before .before .before .before .before .before .before .before .refusal .ensures) ∙ c .before .before .before .before .before .before .before .before .before .if1 .left,
-      omega (arith, c .before .before .before .before .before .smaller .ensures),
+    let packed = c .before .before .before .before in
+    let left = packed .before .before .before .before .before in
+    let start = left .before .before .before .before .before .before .before .before .before in
+    let none = sym (left .before .refusal .ensures) ∙ left .if1 .left in (
+      lent-valid (start .args .base) (start .args .s) _ (start .args .mem .now) (packed .pack .ensures) none,
+      omega (arith, packed .before .smaller .ensures),
     )
 
 unpack-requires : tie.Need-unpack-requires
@@ -58,8 +56,9 @@ unpack-requires c κs = search needs
 returns-2 : tie.Need-returns-2
 unfolding resultOf
 returns-2 c =
-    rw (sym (c .before .before .before .before .before .before .refusal .ensures) ∙ c .before .before .before .before .before .if1 .left, sym (c .before .before .before .before .check .ensures .0) ∙ c .before .before .place .given .1)
-    (c .refused-run2 .ensures, refl)
+    let checked = c .before .before .before .before in
+    let none = sym (checked .before .before .refusal .ensures) ∙ checked .before .if1 .left in
+    rw (none, sym (checked .check .ensures .0) ∙ c .before .before .place .given .1) (c .refused-run2 .ensures, refl)
 
 same-length : tie.Need-same-length
 same-length c = search needs
@@ -67,18 +66,21 @@ same-length c = search needs
 returns-3 : tie.Need-returns-3
 unfolding resultOf
 returns-3 c =
-    let a = c .before .before .before .before .before .before .before .before .before .before .before .before .before .before .before .before .before .before .before .before .before .before .before .args in
-    let s = a .s in
-    let m = a .mem .now in
-    let body = a .body .now in
-    let n = c .before .before .before .before .before .before .before .before .before .before .smaller .result in
-    let t = take-events n (length body / 24) body (omega (arith, c .before .before .before .before .before .before .before .before .before .before .smaller .ensures)) in
-    let p = c .before .before .before .before .perform-first .ensures
-    ∙ ap (λ (l : List Slot). runOf (a .base) (record { state = stateFrom (s .count) (s .x) (s .pc) l; mem = m }) (firstEvents n body))
-    (c .before .before .before .before .before .before .before .before .before .pack .ensures) in
-    let after = ap (λ (l : List Slot). stateFrom (s .count) (c .before .before .before .before .perform-first .last .0) (c .before .before .before .before .perform-first .last .1 .0) l) (c .unpack .ensures) in
-    rw (sym (c .before .before .before .before .before .before .before .before .before .before .before .before .before .before .before .refusal .ensures) ∙ c .before .before .before .before .before .before .before .before .before .before .before .before .before .before .if1 .left, sym (c .before .before .before .before .before .before .before .before .before .before .before .before .before .check .ensures .0) ∙ c .before .before .before .before .before .before .before .before .before .before .before .enum-told .given .1, ← c .before .before .before .before .before .before .before .before .before .before .smaller .ensures, t)
-    (ap (λ (q : State). record { verdict = Performed; performed = n; state = q }) (after ∙ ap (λ (q : Machine). q .state) p), ap (λ (q : Machine). q .mem) p)
+    let done = c .before .before .before .before .perform-first in
+    let packed = c .before .before .before .before .before .before .before .before .before in
+    let chosen = packed .before in
+    let good = chosen .before in
+    let checked = good .before .before in
+    let left = checked .before in
+    let start = left .before .before .before .before .before .before .before .before .before in
+    let a = start .args in
+    let n = chosen .smaller .result in
+    let t = take-events n (length (a .body .now) / 24) (a .body .now) (omega (arith, chosen .smaller .ensures)) in
+    let same = lent-same (a .base) (a .s) _ (a .mem .now) (packed .pack .ensures) in
+    let p = done .ensures ∙ ap (λ (m : Machine). runOf (a .base) m (firstEvents n (a .body .now))) same in
+    let none = sym (left .before .refusal .ensures) ∙ left .if1 .left in
+    rw (none, sym (checked .check .ensures .0) ∙ good .enum-told .given .1, ← chosen .smaller .ensures, t, c .unpack .ensures)
+    (ap (λ (m : Machine). record { verdict = Performed; performed = n; state = m .state }) p, ap (λ (m : Machine). m .mem) p)
 
 pub run-spec : {M : Type 1} → statement M
 run-spec =

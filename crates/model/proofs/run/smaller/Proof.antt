@@ -1,5 +1,4 @@
 use native.Mathlib.Omega.{arith}
-use borrow.Author.Needs.{needs}
 use Rattle.model.proofs.run.smaller.Statement.{statement}
 use Rattle.model.proofs.run.smaller.Tie as tie
 
