@@ -4,9 +4,12 @@ use reserve::Reservation;
 use reserve::Slot;
 use word::bytes::load_at;
 ghost use mathlib.Core.Path.{_≡_};
-ghost use Prim.Native.Nat.{_≤_};
-ghost use Rattle.word.specs.Bytes.{le};
-ghost use Rattle.word.specs.Memory.{part};
+ghost use mathlib.Core.Bool.{cond};
+ghost use Prim.Native.Nat.{_≤_, min};
+ghost use lib.ListN.{length};
+ghost use Rattle.word.specs.Each.{each};
+ghost use Rattle.event_table.specs.Build.{filler, registerAs, registersOf, pcsOf, slotAs, slotsOf, startOf, firstOf, itemN, itemA, itemB};
+ghost use Rattle.event_table.specs.Build.{withRegister, withPc, withSlot, hartsOf, bytesAt, patchOf, memoryAfter};
 
 // number counts the cases before this one.
 pub struct Case {
@@ -18,33 +21,35 @@ pub struct Case {
 
 // The three numbers of an item.
 pub fn n(item: &[u8; 24]) -> u64
-    ensures { λ r. ⌜ r ≡ le (part (now (item .entry)) 1 7) ⌝ }
+    ensures { λ r. ⌜ r ≡ itemN (now (item .entry)) ⌝ }
 {
     load_at(item, 1, 7)
 }
 
 pub fn a(item: &[u8; 24]) -> u64
-    ensures { λ r. ⌜ r ≡ le (part (now (item .entry)) 8 8) ⌝ }
+    ensures { λ r. ⌜ r ≡ itemA (now (item .entry)) ⌝ }
 {
     load_at(item, 8, 8)
 }
 
 pub fn b(item: &[u8; 24]) -> u64
-    ensures { λ r. ⌜ r ≡ le (part (now (item .entry)) 16 8) ⌝ }
+    ensures { λ r. ⌜ r ≡ itemB (now (item .entry)) ⌝ }
 {
     load_at(item, 16, 8)
 }
 
 // A length that fits the memory there is.
 pub fn within(len: usize) -> usize
+    ensures { λ r. ⌜ r ≡ min len 8192 ⌝ }
     ensures { λ r. ⌜ r ≤ 8192 ⌝ }
 {
     if len < 8192 { len } else { 8192 }
 }
 
 // Puts the default's bytes into the first len.
-pub fn fill(mem: &mut [u8; 8192], len: usize)
-    requires { ⌜ len ≤ 8192 ⌝ }
+pub fn fill(mem: &mut [u8], len: usize)
+    requires { ⌜ (len ≤ length (now mem)) × (len ≤ 8192) ⌝ }
+    ensures { λ _. ⌜ now (mem .exit) ≡ each (λ i _. filler i) len (now (mem .entry)) ⌝ }
 {
     let mut i = 0;
     while i < len {
@@ -54,16 +59,21 @@ pub fn fill(mem: &mut [u8; 8192], len: usize)
 }
 
 // Copies all bytes.
-pub fn copy(from: &[u8; 8192], to: &mut [u8; 8192]) {
+pub fn copy(from: &[u8], to: &mut [u8])
+    requires { ⌜ length (now from) ≡ length (now to) ⌝ }
+    ensures { λ _. ⌜ now (to .exit) ≡ now (from .entry) ⌝ }
+{
     let mut i: usize = 0;
-    while i < 8192 {
+    while i < from.len() {
         to[i] = from[i];
         i += 1;
     }
 }
 
 // x0 of a used hart is zero.
-fn register(i: usize, count: usize, v: u64) -> u64 {
+fn register(i: usize, count: usize, v: u64) -> u64
+    ensures { λ r. ⌜ r ≡ registerAs i count v ⌝ }
+{
     if (i % 32 == 0) & (i / 32 < count) {
         0
     } else {
@@ -72,7 +82,9 @@ fn register(i: usize, count: usize, v: u64) -> u64 {
 }
 
 // The default state's registers, pcs and reservations.
-fn registers(count: usize) -> [u64; 256] {
+fn registers(count: usize) -> [u64; 256]
+    ensures { λ r. ⌜ r ≡ registersOf count ⌝ }
+{
     let mut x: [u64; 256] = [0; 256];
     let mut v: u64 = 0;
     let mut i: usize = 0;
@@ -85,11 +97,15 @@ fn registers(count: usize) -> [u64; 256] {
 }
 
 // The pc of a used hart is at base.
-fn pc_value(used: bool, base: u64, v: u64) -> u64 {
+fn pc_value(used: bool, base: u64, v: u64) -> u64
+    ensures { λ r. ⌜ r ≡ cond used base v ⌝ }
+{
     if used { base } else { v }
 }
 
-fn pcs(count: usize, base: u64, x: &[u64; 256]) -> [u64; 8] {
+fn pcs(count: usize, base: u64, x: &[u64; 256]) -> [u64; 8]
+    ensures { λ r. ⌜ r ≡ pcsOf count base (now (x .entry)) ⌝ }
+{
     let mut pc: [u64; 8] = [0; 8];
     let mut h: usize = 0;
     while h < 8 {
@@ -100,7 +116,9 @@ fn pcs(count: usize, base: u64, x: &[u64; 256]) -> [u64; 8] {
 }
 
 // A used hart has no reservation.
-fn slot(used: bool, addr: u64, width: u64) -> Slot {
+fn slot(used: bool, addr: u64, width: u64) -> Slot
+    ensures { λ r. ⌜ r ≡ slotAs used addr width ⌝ }
+{
     if used {
         return Slot {
             reservation: Reservation::None,
@@ -111,7 +129,9 @@ fn slot(used: bool, addr: u64, width: u64) -> Slot {
     }
 }
 
-fn slots(count: usize, x: &[u64; 256]) -> [Slot; 8] {
+fn slots(count: usize, x: &[u64; 256]) -> [Slot; 8]
+    ensures { λ r. ⌜ r ≡ slotsOf count (now (x .entry)) ⌝ }
+{
     let none = slot(true, 0, 0);
     let mut res: [Slot; 8] = [none; 8];
     let mut h: usize = 0;
@@ -123,7 +143,9 @@ fn slots(count: usize, x: &[u64; 256]) -> [Slot; 8] {
 }
 
 // The default state of count harts.
-fn start(count: usize, base: u64) -> State {
+fn start(count: usize, base: u64) -> State
+    ensures { λ r. ⌜ r ≡ startOf count base ⌝ }
+{
     let x = registers(count);
     let pc = pcs(count, base, &x);
     let res = slots(count, &x);
@@ -131,7 +153,9 @@ fn start(count: usize, base: u64) -> State {
 }
 
 // The default case, before any item.
-pub fn first(number: u64) -> Case {
+pub fn first(number: u64) -> Case
+    ensures { λ r. ⌜ r ≡ firstOf number ⌝ }
+{
     let state = start(2, 0x1000);
     Case {
         number,
@@ -141,26 +165,34 @@ pub fn first(number: u64) -> Case {
     }
 }
 
-fn set_register(s: State, i: usize, v: u64) -> State {
+fn set_register(s: State, i: usize, v: u64) -> State
+    ensures { λ r. ⌜ r ≡ withRegister s i v ⌝ }
+{
     let mut t = s;
     t.x[i % 256] = v;
     t
 }
 
-fn set_pc(s: State, h: usize, v: u64) -> State {
+fn set_pc(s: State, h: usize, v: u64) -> State
+    ensures { λ r. ⌜ r ≡ withPc s h v ⌝ }
+{
     let mut t = s;
     t.pc[h % 8] = v;
     t
 }
 
-fn set_slot(s: State, h: usize, addr: u64, width: u64) -> State {
+fn set_slot(s: State, h: usize, addr: u64, width: u64) -> State
+    ensures { λ r. ⌜ r ≡ withSlot s h addr width ⌝ }
+{
     let mut t = s;
     t.res[h % 8] = slot(false, addr, width);
     t
 }
 
 // Puts the n lowest bytes of v into memory.
-fn set_bytes(mem: &mut [u8; 8192], at: usize, n: usize, v: u64) {
+fn set_bytes(mem: &mut [u8; 8192], at: usize, n: usize, v: u64)
+    ensures { λ _. ⌜ now (mem .exit) ≡ bytesAt (now (mem .entry)) at n v ⌝ }
+{
     if at <= 8184 {
         if n <= 8 {
             word::bytes::store_at(mem, at, n, v);
@@ -169,7 +201,9 @@ fn set_bytes(mem: &mut [u8; 8192], at: usize, n: usize, v: u64) {
 }
 
 // A state after an item of kind 2 to 5.
-fn harts(s: State, base: u64, item: &[u8; 24]) -> State {
+fn harts(s: State, base: u64, item: &[u8; 24]) -> State
+    ensures { λ r. ⌜ r ≡ hartsOf s base (now (item .entry)) ⌝ }
+{
     let place = n(item) as usize;
     match item[0] {
         2 => start(a(item) as usize, base),
@@ -180,7 +214,9 @@ fn harts(s: State, base: u64, item: &[u8; 24]) -> State {
 }
 
 // A case after an item that is no event.
-pub fn patch(c: Case, mem: &mut [u8; 8192], item: &[u8; 24]) -> Case {
+pub fn patch(c: Case, mem: &mut [u8; 8192], item: &[u8; 24]) -> Case
+    ensures { λ r. ⌜ (r ≡ patchOf c (now (item .entry))) × (now (mem .exit) ≡ memoryAfter (now (mem .entry)) (now (item .entry))) ⌝ }
+{
     let number = c.number;
     let s = c.state;
     if item[0] == 1 {

@@ -5,8 +5,13 @@ use events::Event;
 use libc::STDIN_FILENO;
 use machine::State;
 use model::Answer;
-ghost use Prim.Native.Nat.{_≤_};
-ghost use lib.ListN.{length};
+ghost use mathlib.Core.Path.{_≡_};
+ghost use mathlib.Core.Bool.{cond};
+ghost use Prim.Native.Nat.{_+_, _%_, _^_, _≤_, min};
+ghost use lib.Dec.{ltb};
+ghost use lib.ListN.{length, take};
+ghost use Rattle.model.specs.Perform.{answerOf};
+ghost use Rattle.event_table.specs.Build.{firstOf, itemKind, patchOf, eventIn};
 
 mod build;
 mod out;
@@ -14,13 +19,16 @@ mod show;
 
 // A number of mem's bytes: len, or all there are.
 fn lent(len: usize, mem: &[u8]) -> usize
+    ensures { λ r. ⌜ r ≡ min len (length (now (mem .entry))) ⌝ }
     ensures { λ r. ⌜ r ≤ length (now (mem .entry)) ⌝ }
 {
     if len < mem.len() { len } else { mem.len() }
 }
 
 // The answer to an event, with the first len bytes of mem lent.
-fn answer(s: State, base: u64, mem: &mut [u8], len: usize, e: Event) -> Answer {
+fn answer(s: State, base: u64, mem: &mut [u8], len: usize, e: Event) -> Answer
+    ensures { λ r. ⌜ r ≡ answerOf base (take (min len (length (now (mem .entry)))) (now (mem .entry))) s e ⌝ }
+{
     let n = lent(len, mem);
     model::perform(s, base, &mut mem[..n], e)
 }
@@ -39,7 +47,9 @@ fn perform(c: Case, mem: &mut [u8; 8192], e: Event) {
 }
 
 // The event that an item is, where its kind is 7, 8 or 9.
-fn event(item: &[u8; 24]) -> Event {
+fn event(item: &[u8; 24]) -> Event
+    ensures { λ r. ⌜ r ≡ eventIn (now (item .entry)) ⌝ }
+{
     if item[0] == 7 {
         return Event::Step {
             hart: build::a(item) as usize,
@@ -58,7 +68,9 @@ fn event(item: &[u8; 24]) -> Event {
 }
 
 // A case after one more item: an event ends it, and the next case begins.
-fn take(c: Case, mem: &mut [u8; 8192], item: &[u8; 24]) -> Case {
+fn take(c: Case, mem: &mut [u8; 8192], item: &[u8; 24]) -> Case
+    ensures { λ r. ⌜ r ≡ cond (ltb (itemKind (now (item .entry))) 7) (patchOf c (now (item .entry))) (firstOf ((c .number + 1) % 2 ^ 64)) ⌝ }
+{
     if item[0] < 7 {
         return build::patch(c, mem, item);
     }

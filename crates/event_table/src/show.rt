@@ -5,7 +5,9 @@ use model::Outcome;
 use reserve::Reservation;
 use reserve::Slot;
 use word::bytes::load_at;
+ghost use mathlib.Core.Path.{_≡_};
 ghost use Prim.Native.Nat.{_≤_};
+ghost use Rattle.event_table.specs.Build.{heldAs, isFree};
 
 pub fn outcome(number: u64, o: Outcome) {
     out::decimal(number);
@@ -71,14 +73,18 @@ fn pcs<'a>(before: &'a [u64; 8], after: &'a [u64; 8]) {
     }
 }
 
-fn is(r: Reservation, a: u64, w: u64) -> bool {
+fn is(r: Reservation, a: u64, w: u64) -> bool
+    ensures { λ b. ⌜ b ≡ heldAs r a w ⌝ }
+{
     match r {
         Reservation::None => false,
         Reservation::Held { addr, width } => (addr == a) & (width == w),
     }
 }
 
-fn free(r: Reservation) -> bool {
+fn free(r: Reservation) -> bool
+    ensures { λ b. ⌜ b ≡ isFree r ⌝ }
+{
     match r {
         Reservation::None => true,
         Reservation::Held { .. } => false,

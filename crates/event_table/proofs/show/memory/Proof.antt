@@ -2,10 +2,6 @@ use borrow.Author.Needs.{needs}
 use Prim.Native.Nat.{_-_, _≤_, _+_, _/_}
 use Rattle.event_table.proofs.show.memory.Statement.{statement}
 use Rattle.event_table.proofs.show.memory.Tie as tie
-use Rattle.event_table.proofs.show.memory.Reads as reads
-use Rattle.event_table.proofs.show.memory.Lts as lts
-use Rattle.event_table.proofs.show.eight.Reads as eight-reads
-use Rattle.word.proofs.bytes.load_at.Reads as load-at-reads
 
 abbrev Inv-loop : tie.InvT-loop
 Inv-loop before after len k₀ k = k ≤ (len + 7) / 8
@@ -13,51 +9,39 @@ Inv-loop before after len k₀ k = k ≤ (len + 7) / 8
 abbrev μ-loop : tie.MeasureT-loop
 μ-loop before after len k₀ k = (len + 7) / 8 - k
 
--- src/show.rt:147:5
 loop-holds : tie.Need-loop-holds Inv-loop μ-loop
 loop-holds c = search needs
 
--- src/show.rt:147:16
 add-loop : tie.Need-add-loop Inv-loop μ-loop
 add-loop c = search needs
 
--- src/show.rt:148:15
 mul-eight : tie.Need-mul-eight Inv-loop μ-loop
 mul-eight c = search needs
 
--- src/show.rt:148:38
 mul-load-at : tie.Need-mul-load-at Inv-loop μ-loop
 mul-load-at c = search needs
 
--- src/show.rt:148:22
 load-at-requires : tie.Need-load-at-requires Inv-loop μ-loop
 load-at-requires c κs = search needs
 
--- src/show.rt:148:64
 mul-load-at-2 : tie.Need-mul-load-at-2 Inv-loop μ-loop
 mul-load-at-2 c = search needs
 
--- src/show.rt:148:49
 load-at-requires-2 : tie.Need-load-at-requires-2 Inv-loop μ-loop
 load-at-requires-2 c κs = search needs
 
--- src/show.rt:148:9
 eight-requires : tie.Need-eight-requires Inv-loop μ-loop
 eight-requires c κs = search needs
 
--- src/show.rt:149:9
 add-k : tie.Need-add-k Inv-loop μ-loop
 add-k c = search needs
 
--- src/show.rt:147:5
 loop-less : tie.Need-loop-less Inv-loop μ-loop
 loop-less c = search needs
 
--- src/show.rt:147:5
 loop-again : tie.Need-loop-again Inv-loop μ-loop
 loop-again c = search needs
 
--- src/show.rt:143:1
 returns : tie.Need-returns Inv-loop μ-loop
 returns c = search needs
 

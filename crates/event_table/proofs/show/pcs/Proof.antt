@@ -2,9 +2,6 @@ use borrow.Author.Needs.{needs}
 use Prim.Native.Nat.{_-_, _≤_}
 use Rattle.event_table.proofs.show.pcs.Statement.{statement}
 use Rattle.event_table.proofs.show.pcs.Tie as tie
-use Rattle.event_table.proofs.show.pcs.Reads as reads
-use Rattle.event_table.proofs.show.pcs.Lts as lts
-use Rattle.event_table.proofs.show.pc_line.Reads as pc-line-reads
 
 abbrev Inv-loop : tie.InvT-loop
 Inv-loop before after h₀ h = h ≤ 8
@@ -12,43 +9,33 @@ Inv-loop before after h₀ h = h ≤ 8
 abbrev μ-loop : tie.MeasureT-loop
 μ-loop before after h₀ h = 8 - h
 
--- src/show.rt:68:5
 loop-holds : tie.Need-loop-holds Inv-loop μ-loop
 loop-holds c = search needs
 
--- src/show.rt:69:20
 mul-pc-line : tie.Need-mul-pc-line Inv-loop μ-loop
 mul-pc-line c = search needs
 
--- src/show.rt:69:20
 element-copy-out-pc-line : tie.Need-element-copy-out-pc-line Inv-loop μ-loop
 element-copy-out-pc-line c = search needs
 
--- src/show.rt:69:31
 mul-pc-line-2 : tie.Need-mul-pc-line-2 Inv-loop μ-loop
 mul-pc-line-2 c = search needs
 
--- src/show.rt:69:31
 element-copy-out-pc-line-2 : tie.Need-element-copy-out-pc-line-2 Inv-loop μ-loop
 element-copy-out-pc-line-2 c = search needs
 
--- src/show.rt:69:9
 pc-line-requires : tie.Need-pc-line-requires Inv-loop μ-loop
 pc-line-requires c κs = search needs
 
--- src/show.rt:70:9
 add-h : tie.Need-add-h Inv-loop μ-loop
 add-h c = search needs
 
--- src/show.rt:68:5
 loop-less : tie.Need-loop-less Inv-loop μ-loop
 loop-less c = search needs
 
--- src/show.rt:68:5
 loop-again : tie.Need-loop-again Inv-loop μ-loop
 loop-again c = search needs
 
--- src/show.rt:66:1
 returns : tie.Need-returns Inv-loop μ-loop
 returns c = search needs
 

@@ -2,9 +2,6 @@ use borrow.Author.Needs.{needs}
 use Prim.Native.Nat.{_-_, _≤_}
 use Rattle.event_table.proofs.show.slots.Statement.{statement}
 use Rattle.event_table.proofs.show.slots.Tie as tie
-use Rattle.event_table.proofs.show.slots.Reads as reads
-use Rattle.event_table.proofs.show.slots.Lts as lts
-use Rattle.event_table.proofs.show.reservation.Reads as reservation-reads
 
 abbrev Inv-loop : tie.InvT-loop
 Inv-loop before after h₀ h = h ≤ 8
@@ -12,43 +9,33 @@ Inv-loop before after h₀ h = h ≤ 8
 abbrev μ-loop : tie.MeasureT-loop
 μ-loop before after h₀ h = 8 - h
 
--- src/show.rt:115:5
 loop-holds : tie.Need-loop-holds Inv-loop μ-loop
 loop-holds c = search needs
 
--- src/show.rt:116:17
 mul-s : tie.Need-mul-s Inv-loop μ-loop
 mul-s c = search needs
 
--- src/show.rt:116:17
 array-copy-out-s : tie.Need-array-copy-out-s Inv-loop μ-loop
 array-copy-out-s c = search needs
 
--- src/show.rt:117:17
 mul-t : tie.Need-mul-t Inv-loop μ-loop
 mul-t c = search needs
 
--- src/show.rt:117:17
 array-copy-out-t : tie.Need-array-copy-out-t Inv-loop μ-loop
 array-copy-out-t c = search needs
 
--- src/show.rt:120:9
 reservation-requires : tie.Need-reservation-requires Inv-loop μ-loop
 reservation-requires c κs = search needs
 
--- src/show.rt:121:9
 add-h : tie.Need-add-h Inv-loop μ-loop
 add-h c = search needs
 
--- src/show.rt:115:5
 loop-less : tie.Need-loop-less Inv-loop μ-loop
 loop-less c = search needs
 
--- src/show.rt:115:5
 loop-again : tie.Need-loop-again Inv-loop μ-loop
 loop-again c = search needs
 
--- src/show.rt:113:1
 returns : tie.Need-returns Inv-loop μ-loop
 returns c = search needs
 

@@ -1,0 +1,2 @@
+-- What the program builds.
+pub mod Build
