@@ -20,7 +20,7 @@ use Rattle.events.specs.declared.Event.{Event}
 use Rattle.model.specs.Act.{Act, refuse, put, outcomeOf, setReg, registersAfter, pcsAfter, slotsAfter, leaves, apply}
 use Rattle.model.specs.Perform.{Machine, ofExec, deviceOf, actOn, answerOf, memoryOf, nextOf, runOf}
 use Rattle.model.specs.Valid.{Valid}
-use Rattle.model.specs.Advance.{lent, Advances, registersBy, pcsBy, slotsBy, outcomeBy}
+use Rattle.model.specs.Advance.{inParts, Advances, registersBy, pcsBy, slotsBy, outcomeBy}
 use Rattle.model.specs.declared.Outcome.{Outcome}
 use Rattle.model.proofs.Valid.{act-valid}
 
@@ -77,14 +77,14 @@ module _ (base : ℕ) (mem : List ℕ) (a n v : ℕ) where
 
 -- a state's own parts, lent with its reservations as numbers
 module _ (base : ℕ) (s : State) (t mem : List ℕ) (packed : slotsIn t ≡ s .res) where
-  pub lent-same : lent (s .count) (s .x) (s .pc) t mem ≡ record { state = s; mem = mem }
+  pub lent-same : inParts (s .count) (s .x) (s .pc) t mem ≡ record { state = s; mem = mem }
   lent-same = ap (λ (l : List Slot). record { state = record { count = s .count; x = s .x; pc = s .pc; res = l }; mem = mem }) packed
 
-  pub lent-valid : refusalOf base (length mem) s ≡ 0 → Valid base (lent (s .count) (s .x) (s .pc) t mem)
+  pub lent-valid : refusalOf base (length mem) s ≡ 0 → Valid base (inParts (s .count) (s .x) (s .pc) t mem)
   lent-valid none = subst (Valid base) (sym lent-same) (refusal-0 base (length mem) s .0 none)
 
   -- an event on what is lent is the event on the state
-  pub lent-answer : {e : Event} {r : Outcome} {m′ : Machine} → Advances base e (lent (s .count) (s .x) (s .pc) t mem) r m′
+  pub lent-answer : {e : Event} {r : Outcome} {m′ : Machine} → Advances base e (inParts (s .count) (s .x) (s .pc) t mem) r m′
       → (record { outcome = r; state = m′ .state } ≡ answerOf base mem s e) × (m′ .mem ≡ memoryOf base mem s e)
   unfolding nextOf
   lent-answer {e} {r} {m′} a =

@@ -15,8 +15,8 @@ use Rattle.model.specs.declared.Outcome.{Outcome}
 use Rattle.model.specs.declared.Outcome.the-variants as O
 
 -- the machine that is lent in parts: registers, pcs, reservations as 24 numbers, memory
-abbrev pub lent : ℕ → List ℕ → List ℕ → List ℕ → List ℕ → Machine
-lent count x pc t mem = record { state = record { count = count; x = x; pc = pc; res = slotsIn t }; mem = mem }
+abbrev pub inParts : ℕ → List ℕ → List ℕ → List ℕ → List ℕ → Machine
+inParts count x pc t mem = record { state = record { count = count; x = x; pc = pc; res = slotsIn t }; mem = mem }
 
 -- the answer r to event e, and the machine afterwards: registers, pcs, reservations and memory
 pub record Advances (base : ℕ) (e : Event) (m : Machine) (r : Outcome) (m′ : Machine) : Type 0 where

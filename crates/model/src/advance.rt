@@ -17,7 +17,7 @@ ghost use Rattle.events.specs.declared.Event.the-variants.{Step};
 ghost use Rattle.model.specs.Act.{retiredAs, setReg, outcomeOf, release, slotsAfter, leaves};
 ghost use Rattle.model.specs.Perform.{fetchOf, deviceOf};
 ghost use Rattle.model.specs.Valid.{Valid};
-ghost use Rattle.model.specs.Advance.{lent, Advances, registersBy, pcsBy, slotsBy, outcomeBy};
+ghost use Rattle.model.specs.Advance.{inParts, Advances, registersBy, pcsBy, slotsBy, outcomeBy};
 
 // Fetches the word at pc and does what it says, for hart h, whose registers are among x and whose reservation is res.
 fn fetch(x: &[u64; 256], h: usize, pc: u64, base: u64, res: Reservation, mem: &mut [u8]) -> Done
@@ -98,11 +98,11 @@ fn step_hart(
     base: u64,
     mem: &mut [u8],
 ) -> Outcome
-    requires { ⌜ Valid base (lent count (now x) (now pc) (now t) (now mem)) ⌝ }
+    requires { ⌜ Valid base (inParts count (now x) (now pc) (now t) (now mem)) ⌝ }
     requires { ⌜ h < count ⌝ }
     ensures { λ r. ⌜ Advances base (Step h)
-        (lent count (now (x .entry)) (now (pc .entry)) (now (t .entry)) (now (mem .entry))) r
-        (lent count (now (x .exit)) (now (pc .exit)) (now (t .exit)) (now (mem .exit)))
+        (inParts count (now (x .entry)) (now (pc .entry)) (now (t .entry)) (now (mem .entry))) r
+        (inParts count (now (x .exit)) (now (pc .exit)) (now (t .exit)) (now (mem .exit)))
         ⌝ }
 {
     let r = packed::reservation(t, h);
@@ -160,10 +160,10 @@ pub fn advance(
     mem: &mut [u8],
     e: Event,
 ) -> Outcome
-    requires { ⌜ Valid base (lent count (now x) (now pc) (now t) (now mem)) ⌝ }
+    requires { ⌜ Valid base (inParts count (now x) (now pc) (now t) (now mem)) ⌝ }
     ensures { λ r. ⌜ Advances base e
-        (lent count (now (x .entry)) (now (pc .entry)) (now (t .entry)) (now (mem .entry))) r
-        (lent count (now (x .exit)) (now (pc .exit)) (now (t .exit)) (now (mem .exit)))
+        (inParts count (now (x .entry)) (now (pc .entry)) (now (t .entry)) (now (mem .entry))) r
+        (inParts count (now (x .exit)) (now (pc .exit)) (now (t .exit)) (now (mem .exit)))
         ⌝ }
 {
     match e {

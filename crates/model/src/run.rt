@@ -11,7 +11,7 @@ ghost use lib.ListN.{length};
 ghost use Rattle.events.specs.Events.{firstEvents};
 ghost use Rattle.model.specs.Perform.{runOf};
 ghost use Rattle.model.specs.Valid.{Valid};
-ghost use Rattle.model.specs.Advance.{lent};
+ghost use Rattle.model.specs.Advance.{inParts};
 ghost use Rattle.model.specs.Run.{resultOf};
 
 fn smaller(a: usize, b: usize) -> usize
@@ -41,10 +41,10 @@ fn perform_first(
     body: &[u8],
     n: usize,
 )
-    requires { ⌜ Valid base (lent count (now x) (now pc) (now t) (now mem)) ⌝ }
+    requires { ⌜ Valid base (inParts count (now x) (now pc) (now t) (now mem)) ⌝ }
     requires { ⌜ n * 24 ≤ length (now body) ⌝ }
-    ensures { λ _. ⌜ lent count (now (x .exit)) (now (pc .exit)) (now (t .exit)) (now (mem .exit))
-        ≡ runOf base (lent count (now (x .entry)) (now (pc .entry)) (now (t .entry)) (now (mem .entry))) (firstEvents n (now (body .entry)))
+    ensures { λ _. ⌜ inParts count (now (x .exit)) (now (pc .exit)) (now (t .exit)) (now (mem .exit))
+        ≡ runOf base (inParts count (now (x .entry)) (now (pc .entry)) (now (t .entry)) (now (mem .entry))) (firstEvents n (now (body .entry)))
         ⌝ }
 {
     let mut i: usize = 0;

@@ -11,7 +11,7 @@ use Rattle.text.proofs.PutLaws.{none, then, as-text}
 use Rattle.events.specs.Events.{firstEvents}
 use Rattle.model.specs.Perform.{Machine, runOf}
 use Rattle.model.specs.Valid.{Valid}
-use Rattle.model.specs.Advance.{lent}
+use Rattle.model.specs.Advance.{inParts}
 use Rattle.model.proofs.Valid.{valid-next}
 use Rattle.model.proofs.AdvanceLaws.{lent-same, lent-valid, event-cut, run-more}
 use Rattle.lines.specs.Lines.{linesOf}
@@ -27,12 +27,12 @@ Inv-loop out₀ at from base body count x₀ pc₀ t₀ n p₀ i₀ out x pc t p
     (i ≤ n)
     × (length out ≡ length out₀)
     × (p ≤ at + 90 * i)
-    × Valid base (lent count x pc t (drop from out))
+    × Valid base (inParts count x pc t (drop from out))
     × ((o : List ℕ) (r : ℕ)
-    → Put out p (linesOf base (lent count x pc t (drop from out)) i (firstEvents (n - i) (drop (i * 24) body))) o r
-    → Put out₀ at (linesOf base (lent count x₀ pc₀ t₀ (drop from out₀)) 0 (firstEvents n body)) o r)
-    × (runOf base (lent count x pc t (drop from out)) (firstEvents (n - i) (drop (i * 24) body))
-    ≡ runOf base (lent count x₀ pc₀ t₀ (drop from out₀)) (firstEvents n body))
+    → Put out p (linesOf base (inParts count x pc t (drop from out)) i (firstEvents (n - i) (drop (i * 24) body))) o r
+    → Put out₀ at (linesOf base (inParts count x₀ pc₀ t₀ (drop from out₀)) 0 (firstEvents n body)) o r)
+    × (runOf base (inParts count x pc t (drop from out)) (firstEvents (n - i) (drop (i * 24) body))
+    ≡ runOf base (inParts count x₀ pc₀ t₀ (drop from out₀)) (firstEvents n body))
 
 abbrev μ-loop : tie.MeasureT-loop
 μ-loop out₀ at from base body count x₀ pc₀ t₀ n p₀ i₀ out x pc t p i = n - i
@@ -90,7 +90,7 @@ advance-requires c κs =
     let turn = c .before .before .before .before .before .before .before in
     let a = turn .before .before .before .before .before .before .before .args in
     let l = turn .loop in
-    subst (λ (mem : List ℕ). Valid (a .base) (lent (a .s .count) (l .x) (l .pc) (l .t) mem)) (sym (lent-behind (l .out) (a .from))) (l .inv .3)
+    subst (λ (mem : List ℕ). Valid (a .base) (inParts (a .s .count) (l .x) (l .pc) (l .t) mem)) (sym (lent-behind (l .out) (a .from))) (l .inv .3)
 
 -- also once an event has changed it
 behind-line : (c : tie.After-advance Inv-loop μ-loop)
@@ -137,9 +137,9 @@ loop-again c =
     let out = back (l .out) mem (a .from) in
     let w = behind-line done in
     let left = front-behind out (line .last .0) (a .from) w (line .kept .0) ∙ back-behind (l .out) mem (a .from) (within turn) kept in
-    let was : List ℕ → Machine = lent (a .s .count) (l .x) (l .pc) (l .t) in
+    let was : List ℕ → Machine = inParts (a .s .count) (l .x) (l .pc) (l .t) in
     let here = was (drop (a .from) (l .out)) in
-    let left-as : List ℕ → Machine = lent (a .s .count) (done .advance .last .0) (done .advance .last .1 .0) (done .advance .last .1 .1 .0) in
+    let left-as : List ℕ → Machine = inParts (a .s .count) (done .advance .last .0) (done .advance .last .1 .0) (done .advance .last .1 .1 .0) in
     let more = advances-as (ap was (lent-behind (l .out) (a .from))) (ap left-as (sym left)) (done .advance .ensures) in
     let q = more .machine in
     let e = event-cut (l .i) body (read .ensures) in
@@ -167,7 +167,7 @@ returns c =
     let n = length body / 24 in
     let l = c .before .loop in
     let same = lent-same (a .base) (a .s) _ (drop (a .from) (a .out .now)) (packed .pack .ensures) in
-    let here = lent (a .s .count) (l .x) (l .pc) (l .t) (drop (a .from) (l .out)) in
+    let here = inParts (a .s .count) (l .x) (l .pc) (l .t) (drop (a .from) (l .out)) in
     let z : n - l .i ≡ 0 = omega arith in
     let end = as-text (sym (lines-none (a .base) here (l .i) (n - l .i) (drop (l .i * 24) body) (omega arith))) (none (l .out) (l .p)) in (
       as-text (ap (λ (m : Machine). linesOf (a .base) m 0 (firstEvents n body)) same) (l .inv .4 (l .out) (l .p) end),

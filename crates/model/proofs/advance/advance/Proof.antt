@@ -2,7 +2,7 @@ use mathlib.Core.Path.{_≡_, refl, sym}
 use borrow.Author.Tests.{lt-ltb, le-ltb}
 use Rattle.model.specs.Act.{Act, refuse, release, leaves}
 use Rattle.model.specs.Perform.{actOn, deviceOf}
-use Rattle.model.specs.Advance.{lent}
+use Rattle.model.specs.Advance.{inParts}
 use Rattle.model.proofs.AdvanceLaws.{device-registers, device-pcs, advances}
 use borrow.Author.Needs.{needs}
 use Rattle.model.proofs.advance.advance.Statement.{statement}
@@ -12,7 +12,7 @@ use Rattle.model.proofs.advance.advance.Tie as tie
 abbrev Acts : tie.Start → Act → Type 0
 Acts c act =
     let a = c .args in
-    let m = lent (a .count) (a .x .now) (a .pc .now) (a .t .now) (a .mem .now) in
+    let m = inParts (a .count) (a .x .now) (a .pc .now) (a .t .now) (a .mem .now) in
     actOn (a .base) (m .mem) (m .state) (a .e) ≡ act
 
 enum-known-e : tie.Need-enum-known-e

@@ -10,7 +10,7 @@ use Rattle.effect.specs.Atomic.{CoveredInside}
 use Rattle.effect.specs.Execute.{regAt}
 use Rattle.events.specs.declared.Event.the-variants.{Step}
 use Rattle.model.specs.Perform.{fetchOf, stepOf, ofExec, actOn, reservationOf}
-use Rattle.model.specs.Advance.{lent, registersBy, pcsBy, slotsBy, outcomeBy}
+use Rattle.model.specs.Advance.{inParts, registersBy, pcsBy, slotsBy, outcomeBy}
 use Rattle.model.proofs.Valid.{covered-inside}
 use Rattle.model.proofs.AdvanceLaws.{registers-done, pcs-done, slots-done, outcome-done, leaves-done, advances}
 use borrow.Author.Needs.{needs}
@@ -30,7 +30,7 @@ fetch-requires : tie.Need-fetch-requires
 fetch-requires c κs =
     let start = c .before .before .before .before .before .before in
     let a = start .args in
-    let m = lent (a .count) (a .x .now) (a .pc .now) (a .t .now) (a .mem .now) in
+    let m = inParts (a .count) (a .x .now) (a .pc .now) (a .t .now) (a .mem .now) in
     let v = start .pre .0 in
     let inside = covered-inside (a .base) (length (m .mem)) (reservationOf (m .state) (a .h)) (v .0) (v .1 .2 (a .h) (start .pre .1) .2) in (
       omega (arith, v .1 .1),
@@ -53,7 +53,7 @@ returns c =
     let held = fetched .before .before .before .before in
     let start = held .before .before .before in
     let a = start .args in
-    let m = lent (a .count) (a .x .now) (a .pc .now) (a .t .now) (a .mem .now) in
+    let m = inParts (a .count) (a .x .now) (a .pc .now) (a .t .now) (a .mem .now) in
     let h = a .h in
     let e = stepOf (a .base) (m .mem) (m .state) h in
     let f = fetched .fetch .ensures in

@@ -6,7 +6,7 @@ use lib.ListN.{length, drop, length-take, length-drop}
 use Rattle.events.specs.Events.{firstEvents}
 use Rattle.model.specs.Perform.{runOf}
 use Rattle.model.specs.Valid.{Valid}
-use Rattle.model.specs.Advance.{lent}
+use Rattle.model.specs.Advance.{inParts}
 use Rattle.model.proofs.Valid.{valid-next}
 use Rattle.model.proofs.AdvanceLaws.{event-cut, run-more}
 use borrow.Author.Needs.{needs}
@@ -17,9 +17,9 @@ abbrev Inv-loop : tie.InvT-loop
 Inv-loop x₀ pc₀ t₀ count base mem₀ body n i₀ x pc t mem i =
     (i ≤ n)
     × (length mem ≡ length mem₀)
-    × Valid base (lent count x pc t mem)
-    × (runOf base (lent count x pc t mem) (firstEvents (n - i) (drop (i * 24) body))
-    ≡ runOf base (lent count x₀ pc₀ t₀ mem₀) (firstEvents n body))
+    × Valid base (inParts count x pc t mem)
+    × (runOf base (inParts count x pc t mem) (firstEvents (n - i) (drop (i * 24) body))
+    ≡ runOf base (inParts count x₀ pc₀ t₀ mem₀) (firstEvents n body))
 
 abbrev μ-loop : tie.MeasureT-loop
 μ-loop x₀ pc₀ t₀ count base mem₀ body n i₀ x pc t mem i = n - i
@@ -58,7 +58,7 @@ loop-again : tie.Need-loop-again Inv-loop μ-loop
 loop-again c =
     let a = c .before .before .before .before .before .before .before .before .before .before .before .before .before .args in
     let l = c .before .before .before .before .before .before .before .before .before .before .loop in
-    let here = lent (a .count) (l .x) (l .pc) (l .t) (l .mem) in
+    let here = inParts (a .count) (l .x) (l .pc) (l .t) (l .mem) in
     let read = c .before .before .before .before .before .before .before .read-event in
     let done = c .before .before .advance in
     let left = done .ensures .machine in
