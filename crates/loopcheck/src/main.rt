@@ -3,8 +3,6 @@
 use libc::STDIN_FILENO;
 use libc::STDOUT_FILENO;
 
-mod line;
-
 // What the length of the whole input leaves when it is divided by 4, where its first part, of n bytes, has been read. The rest is read and
 // dropped: so long a block is refused, whatever its words. The bound on the turns is beyond any input.
 fn left_over(n: usize) -> usize {
@@ -29,5 +27,7 @@ fn main() {
         io::write_all(STDOUT_FILENO, b"bad input: length is not a multiple of 4\n");
         return;
     }
-    line::write(retry::check_bytes(&space[..n]));
+    let mut out = [0u8; 51];
+    let r = loop_line::line(retry::check_bytes(&space[..n]), &mut out);
+    io::write_all(STDOUT_FILENO, &out[..r]);
 }

@@ -1,10 +1,9 @@
 // Writes the line of each block on standard input. A block is a byte with the number of its words, then the words, 4 bytes each and the lowest first.
 // The lines that are expected were made by an independent model of document 01.
 use libc::STDIN_FILENO;
+use libc::STDOUT_FILENO;
 ghost use Prim.Native.Nat.{_<_};
 ghost use lib.ListN.{length};
-
-mod line;
 
 fn wide(x: u8) -> usize
     ensures { λ r. ⌜ r < 256 ⌝ }
@@ -23,7 +22,9 @@ fn one(blocks: &[u8], at: usize) -> usize
         return blocks.len();
     }
     let to = from + 4 * n;
-    line::write(retry::check_bytes(&blocks[from..to]));
+    let mut out = [0u8; 51];
+    let r = loop_line::line(retry::check_bytes(&blocks[from..to]), &mut out);
+    io::write_all(STDOUT_FILENO, &out[..r]);
     to
 }
 

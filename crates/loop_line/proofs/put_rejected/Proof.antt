@@ -1,0 +1,48 @@
+use native.Mathlib.Omega.{arith}
+use Rattle.text.proofs.PutLaws.{then}
+use borrow.Author.Needs.{needs}
+use Rattle.loop_line.proofs.put_rejected.Statement.{statement}
+use Rattle.loop_line.proofs.put_rejected.Tie as tie
+
+slice-aggregate-put-bytes : tie.Need-slice-aggregate-put-bytes
+slice-aggregate-put-bytes c = search needs
+
+put-bytes-requires : tie.Need-put-bytes-requires
+put-bytes-requires c κs = search needs
+
+put-decimal-requires : tie.Need-put-decimal-requires
+put-decimal-requires c κs = search needs
+
+put-byte-requires : tie.Need-put-byte-requires
+put-byte-requires c κs = search needs
+
+put-decimal-requires-2 : tie.Need-put-decimal-requires-2
+put-decimal-requires-2 c κs = search needs
+
+put-byte-requires-2 : tie.Need-put-byte-requires-2
+put-byte-requires-2 c κs = search needs
+
+same-length : tie.Need-same-length
+same-length c = search needs
+
+returns : tie.Need-returns
+returns c =
+    let a = c .before .before .before .before .before .before .before .before .before .before .before .before .before .before .before .before .before .before .put-bytes .ensures in
+    let b = c .before .before .before .before .before .before .before .before .before .before .before .before .before .before .put-decimal .ensures in
+    let d = c .before .before .before .before .before .before .before .before .before .before .put-byte .ensures in
+    let e = c .before .before .before .before .before .before .put-decimal2 .ensures in
+    let f = c .before .before .put-byte2 .ensures in
+    (then a (then (b .0) (then d (then (e .0) f))), omega (arith, a .end, b .1, d .end, e .1, f .end))
+
+pub put-rejected-spec : {M : Type 1} → statement M
+put-rejected-spec =
+    tie.close
+    (tie.spec
+    slice-aggregate-put-bytes
+    put-bytes-requires
+    put-decimal-requires
+    put-byte-requires
+    put-decimal-requires-2
+    put-byte-requires-2
+    same-length
+    returns)

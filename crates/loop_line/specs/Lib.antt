@@ -1,0 +1,2 @@
+-- What the contracts of `loop_line` cite.
+pub mod Line
