@@ -17,7 +17,8 @@ use Rattle.retry.specs.declared.View.{View}
 use Rattle.retry.specs.declared.View.the-variants.{Lr, Sc, Plain, Jump, Branch, Other}
 use Rattle.retry.specs.declared.LoopAnswer.{LoopAnswer}
 use Rattle.retry.specs.declared.LoopAnswer.the-variants.{Accepted, Rejected, Refused}
-use Rattle.retry.specs.Loop.{viewAt, isSc, pastSc, isAbove, toStart, wrongOffset, clobbers, reason2, reason3, reason4, reason5, lowestOf, orElse, scanOf, startOf, checkOf}
+use Rattle.retry.specs.Loop.{viewAt, isSc, pastSc, isAbove, toStart, wrongOffset, clobbers}
+use Rattle.retry.specs.Loop.{reason2, reason3, reason4, reason5, lowestOf, orElse, scanOf, startOf, checkOf}
 use Rattle.retry.specs.Reasons.{FirstSc, Sized}
 use Rattle.retry.proofs.ViewLaws.{Seen, SeenLr, seen}
 use Rattle.retry.proofs.PlaceLaws.{not-of, or-left, or-right, and-second, above, true-clobbers, sc-is, is-sc, past-first, first-past, after-past}
@@ -102,7 +103,8 @@ offset-right past place offset t =
     let f : (not (isAbove offset) && not (past && toStart place offset)) ≡ false = or-right (not (eqb (offset % 4) 0)) _ t in
     bool-cases (isAbove offset) (λ a. let s = above offset a in inl (four, s .0, s .1))
     (λ a.
-    let s = and-both past (toStart place offset) (not-false (past && toStart place offset) (and-second (not (isAbove offset)) _ f (not-of (isAbove offset) a))) in
+    let home = not-false (past && toStart place offset) (and-second (not (isAbove offset)) _ f (not-of (isAbove offset) a)) in
+    let s = and-both past (toStart place offset) home in
     inr (s .0, (four, eqb-true ((4 * place + offset) % 2 ^ 64) 0 (s .1))))
 
 -- ---- one place
@@ -198,7 +200,8 @@ module _ (rs1 width : ℕ) (ws : List ℕ) where
         keeps = own (clear-at 0 (omega arith));
         later = late;
         inBlock = s .2;
-        sc-is-first = sc-at rs1 width (pastSc ws j) j late (viewAt ws j) (clear-at j (s .2)) (first-past ws j (omega (arith, s .2)) (s .1)) (sc-is ws j (s .1 .0));
+        sc-is-first =
+            sc-at rs1 width (pastSc ws j) j late (viewAt ws j) (clear-at j (s .2)) (first-past ws j (omega (arith, s .2)) (s .1)) (sc-is ws j (s .1 .0));
         before = λ k o h. before-at rs1 width (pastSc ws k) k o (viewAt ws k) (clear-at k (omega (arith, s .2))) (past-early k h) (no-sc k h);
         after = λ k h l. after-at rs1 width (pastSc ws k) k (omega arith) (viewAt ws k) (clear-at k l) (after-past ws k (j, s .1, h));
       }

@@ -123,12 +123,18 @@ module _ (c w : ℕ) where
       select-rows (InClass c) (funct5Of w) D.atomics (D.of w) I.Illegal
       (s _, (s _, (from-lr e, (s _, (s _, (from-cas e, (s _, (s _, (s _, (s _, (s _, (s _, tt)))))))))))) tt
 
+infixr 20 _also_
+_also_ : {A B : Type 0} → A → B → A × B
+p also q = (p, q)
+
 pub in-class : (w : ℕ) → InClass (D.classOf w) (D.decodeOf w)
 unfolding D.decodeOf
 in-class w =
     let c = D.classOf w in
     select-at (InClass c) c D.decoders (D.of w) I.Illegal
-    (from-load c w, (from-misc-mem c w, (from-op-imm c w, ((λ e. e), (from-op-imm-32 c w, (from-store c w, (from-atomic c w, (from-op c w, ((λ e. e), (from-op-32 c w, (from-branch c w, (from-jalr c w, ((λ e. e), (from-system c w, tt)))))))))))))) tt
+    (from-load c w also from-misc-mem c w also from-op-imm c w also (λ e. e) also from-op-imm-32 c w also from-store c w also from-atomic c w
+    also from-op c w also (λ e. e) also from-op-32 c w also from-branch c w also from-jalr c w also (λ e. e) also from-system c w also tt)
+    tt
 
 either : (t : Bool) → cond t Other Other ≡ Other
 either true = refl

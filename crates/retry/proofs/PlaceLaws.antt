@@ -18,7 +18,8 @@ use Rattle.isa.specs.declared.Instr.the-variants as I
 use Rattle.retry.specs.declared.View.{View}
 use Rattle.retry.specs.declared.View.the-variants.{Lr, Sc, Plain, Jump, Branch, Other}
 use Rattle.retry.specs.Loop.{viewOf, viewAt, isSc, pastSc, isAbove, toStart, wrongOffset, clobbers, reason2, reason3, reason4, reason5}
-use Rattle.retry.specs.Reasons.{Stands, LrAt, ScAt, AnSc, FirstSc, BeforeSc, AfterSc, Permitted, NotPermitted, LeadsBy, Above, ToStart, BadOffset, HasRd, Overwrites, OtherSc}
+use Rattle.retry.specs.Reasons.{Stands, LrAt, ScAt, AnSc, FirstSc, BeforeSc, AfterSc}
+use Rattle.retry.specs.Reasons.{Permitted, NotPermitted, LeadsBy, Above, ToStart, BadOffset, HasRd, Overwrites, OtherSc}
 use Rattle.retry.proofs.ViewLaws.{Seen, SeenSc, seen, lr-view, sc-view, RdSeen, rd-seen, Body, permitted-body, body-permitted, widths-same}
 
 -- ---- tests
@@ -86,7 +87,8 @@ module _ (past : Bool) (place offset : ℕ) where
       let f : (not (isAbove offset) && not (past && toStart place offset)) ≡ false = or-right (not (eqb (offset % 4) 0)) _ t in
       bool-cases (isAbove offset) (λ a. low .0 (above offset a))
       (λ a.
-      let s = and-both past (toStart place offset) (not-false (past && toStart place offset) (and-second (not (isAbove offset)) _ f (not-of (isAbove offset) a))) in
+      let home = not-false (past && toStart place offset) (and-second (not (isAbove offset)) _ f (not-of (isAbove offset) a)) in
+      let s = and-both past (toStart place offset) home in
       low .1 (s .0, eqb-true ((4 * place + offset) % 2 ^ 64) 0 (s .1)))
 
 clobbers-true : (rs1 rd : ℕ) → clobbers rs1 rd ≡ true → (rd ≡ rs1) × (rs1 ≡ 0 → ⊥)
@@ -330,13 +332,14 @@ module _ (ws : List ℕ) where
           let lr-is : o .0 ≡ lr = same-lr (o .0) (o .2) in
           let sc = o .1 in
           let v : viewAt ws p ≡ Sc (sc .rs1) (bytesOf (sc .width)) = ap viewOf (o .4 .0 .decodes) ∙ sc-view sc (o .4 .1) in
-          let f : (not past && (not (eqb (bytesOf (sc .width)) width) || not (eqb (sc .rs1) rs1))) ≡ false = sym (ap (reason5 rs1 width past) v) ∙ t in
-          let g = and-second (not past) (not (eqb (bytesOf (sc .width)) width) || not (eqb (sc .rs1) rs1)) f (not-of past (first-past p (omega arith) (o .3))) in
+          let fits = eqb (bytesOf (sc .width)) width in
+          let same = eqb (sc .rs1) rs1 in
+          let f : (not past && (not fits || not same)) ≡ false = sym (ap (reason5 rs1 width past) v) ∙ t in
+          let g = and-second (not past) (not fits || not same) f (not-of past (first-past p (omega arith) (o .3))) in
           ⊎-elim
           (λ (w : sc .width ≡ o .0 .width → ⊥).
-          w (widths-same (sc .width) (lr .width) (eqb-true (bytesOf (sc .width)) width (not-false (eqb (bytesOf (sc .width)) width) (or-left (not (eqb (bytesOf (sc .width)) width)) (not (eqb (sc .rs1) rs1)) g)))
+          w (widths-same (sc .width) (lr .width) (eqb-true (bytesOf (sc .width)) width (not-false fits (or-left (not fits) (not same) g)))
           ∙ sym (ap (λ (a : Atomic). a .width) lr-is)))
           (λ (w : sc .rs1 ≡ o .0 .rs1 → ⊥).
-          w (eqb-true (sc .rs1) rs1 (not-false (eqb (sc .rs1) rs1) (or-right (not (eqb (bytesOf (sc .width)) width)) (not (eqb (sc .rs1) rs1)) g))
-          ∙ sym (ap (λ (a : Atomic). a .rs1) lr-is)))
+          w (eqb-true (sc .rs1) rs1 (not-false same (or-right (not fits) (not same) g)) ∙ sym (ap (λ (a : Atomic). a .rs1) lr-is)))
           (o .5)

@@ -17,9 +17,13 @@ use Rattle.retry.specs.declared.View.the-variants.{Lr, Sc, Plain, Jump, 
 use Rattle.retry.specs.declared.LoopAnswer.{LoopAnswer}
 use Rattle.retry.specs.declared.LoopAnswer.the-variants.{Accepted, Rejected, Refused}
 use Rattle.retry.specs.Loop.{loopRefusal, viewOf, viewAt, pastSc, reason2, reason3, reason4, reason5, lowestOf, orElse, scanOf, startOf, checkOf}
-use Rattle.retry.specs.Reasons.{LrAt, NotLr, NotPermitted, BadOffset, LeadsBy, Overwrites, OtherSc, NoSc, Reason, one, two, three, four, five, six, Unreasoned, Lowest, Sized, Exactly}
+use Rattle.retry.specs.Reasons.{LrAt, NotLr, NotPermitted, BadOffset, LeadsBy, Overwrites, OtherSc, NoSc}
+use Rattle.retry.specs.Reasons.{Reason, one, two, three, four, five, six, Unreasoned, Lowest, Sized, Exactly}
 use Rattle.retry.proofs.ViewLaws.{SeenLr, seen, Seen, lr-view}
 use Rattle.retry.proofs.PlaceLaws.{past-none, past-first, two-true, two-false, three-true, three-false, four-true, four-false, five-true, five-false}
+
+never : {P : Type 0} {k n : ℕ} → ltb k n ≡ false → k < n → P
+never {k = k} {n = n} e l = absurd (omega (arith, ltb-false k n e, l))
 
 -- ---- reasons by their numbers
 
@@ -73,9 +77,6 @@ module _ (ws : List ℕ) (lr : Atomic) (first : LrAt ws 0 lr) where
     inside : NoSc ws p → ⊥
     inside n = omega (arith, n .0)
 
-    never : {P : Type 0} (m : ℕ) → m < m → P
-    never m h = absurd (omega arith)
-
     pub at-place : At ws p (lowestOf rs1 width (pastSc ws p) p (viewAt ws p))
     unfolding lowestOf v
     at-place = by-two (reason2 past p v) refl
@@ -87,32 +88,34 @@ module _ (ws : List ℕ) (lr : Atomic) (first : LrAt ws 0 lr) where
             → At ws p (cond t 5 0)
         by-five true e a b c =
             found (λ z. omega arith) (five refl (five-true ws p l lr first v refl e))
-            (below ws p 5 (λ h. is-lr p) (λ h. two-false ws p l v refl a) (λ h. three-false ws p l b) (λ h. four-false ws p l lr first v refl a c) (λ h. never 5 h) (λ h. inside))
+            (below ws p 5 (λ h. is-lr p) (λ h. two-false ws p l v refl a) (λ h. three-false ws p l b)
+            (λ h. four-false ws p l lr first v refl a c) (never refl) (λ h. inside))
         by-five false e a b c =
             clear refl
             (λ s r.
-            below ws p 7 (λ h. is-lr p) (λ h. two-false ws p l v refl a) (λ h. three-false ws p l b) (λ h. four-false ws p l lr first v refl a c) (λ h. five-false ws p l lr first e) (λ h. inside)
+            below ws p 7 (λ h. is-lr p) (λ h. two-false ws p l v refl a) (λ h. three-false ws p l b)
+            (λ h. four-false ws p l lr first v refl a c) (λ h. five-false ws p l lr first e) (λ h. inside)
             s (omega (arith, numbered ws p s r .1)) r)
 
         by-four : (t : Bool) → reason4 rs1 past v ≡ t → reason2 past p v ≡ false → reason3 past p v ≡ false
             → At ws p (cond t 4 (cond (reason5 rs1 width past v) 5 0))
         by-four true e a b =
             found (λ z. omega arith) (four refl (four-true ws p l lr first v refl e))
-            (below ws p 4 (λ h. is-lr p) (λ h. two-false ws p l v refl a) (λ h. three-false ws p l b) (λ h. never 4 h) (λ h. absurd (omega arith)) (λ h. inside))
+            (below ws p 4 (λ h. is-lr p) (λ h. two-false ws p l v refl a) (λ h. three-false ws p l b) (never refl) (never refl) (λ h. inside))
         by-four false e a b = by-five (reason5 rs1 width past v) refl a b e
 
         by-three : (t : Bool) → reason3 past p v ≡ t → reason2 past p v ≡ false
             → At ws p (cond t 3 (cond (reason4 rs1 past v) 4 (cond (reason5 rs1 width past v) 5 0)))
         by-three true e a =
             found (λ z. omega arith) (three refl (three-true ws p l v refl e))
-            (below ws p 3 (λ h. is-lr p) (λ h. two-false ws p l v refl a) (λ h. never 3 h) (λ h. absurd (omega arith)) (λ h. absurd (omega arith)) (λ h. inside))
+            (below ws p 3 (λ h. is-lr p) (λ h. two-false ws p l v refl a) (never refl) (never refl) (never refl) (λ h. inside))
         by-three false e a = by-four (reason4 rs1 past v) refl a e
 
         by-two : (t : Bool) → reason2 past p v ≡ t
             → At ws p (cond t 2 (cond (reason3 past p v) 3 (cond (reason4 rs1 past v) 4 (cond (reason5 rs1 width past v) 5 0))))
         by-two true e =
             found (λ z. omega arith) (two refl (two-true ws p l v refl e))
-            (below ws p 2 (λ h. is-lr p) (λ h. never 2 h) (λ h. absurd (omega arith)) (λ h. absurd (omega arith)) (λ h. absurd (omega arith)) (λ h. inside))
+            (below ws p 2 (λ h. is-lr p) (never refl) (never refl) (never refl) (never refl) (λ h. inside))
         by-two false e = by-three (reason3 past p v) refl e
 
   -- at the end of the block, and behind it, only reason 6 can apply

@@ -15,7 +15,8 @@ stop place (suc r) rest h = refl
 
 module _ (rs1 width : ℕ) (ws : List ℕ) (place : ℕ) where
   turn : place < length ws
-      → scanOf rs1 width ws (length ws - place) place ≡ orElse place (lowestOf rs1 width (pastSc ws place) place (viewAt ws place)) (scanOf rs1 width ws (length ws - suc place) (suc place))
+      → scanOf rs1 width ws (length ws - place) place
+      ≡ orElse place (lowestOf rs1 width (pastSc ws place) place (viewAt ws place)) (scanOf rs1 width ws (length ws - suc place) (suc place))
   unfolding scanOf
   turn h = let e : length ws - place ≡ suc (length ws - suc place) = omega arith in rw e
 

@@ -45,7 +45,8 @@ enum-known-first c = search needs
 returns-3 : tie.Need-returns-3
 unfolding checkOf others
 returns-3 c =
-    rw (le-ltb _ _ (c .before .before .before .before .if1 .left), le-ltb _ _ (c .before .before .before .if2 .left), ← c .before .look .ensures) (no-lr (c .before .look .result) _ (c .match .keys2))
+    rw (le-ltb _ _ (c .before .before .before .before .if1 .left), le-ltb _ _ (c .before .before .before .if2 .left), ← c .before .look .ensures)
+    (no-lr (c .before .look .result) _ (c .match .keys2))
 
 scan-requires : tie.Need-scan-requires
 scan-requires c κs = search needs
@@ -53,7 +54,13 @@ scan-requires c κs = search needs
 returns-4 : tie.Need-returns-4
 unfolding checkOf startOf
 returns-4 c =
-    rw (le-ltb _ _ (c .before .before .before .before .before .before .before .if1 .left), le-ltb _ _ (c .before .before .before .before .before .before .if2 .left), ← c .before .before .before .before .look .ensures, c .before .before .first .given .1) (c .scan .ensures)
+    let seen = c .before .before .before .before in
+    rw (
+      le-ltb _ _ (seen .before .before .before .if1 .left),
+      le-ltb _ _ (seen .before .before .if2 .left),
+      ← seen .look .ensures,
+      c .before .before .first .given .1,
+    ) (c .scan .ensures)
 
 pub check-loop-spec : {M : Type 1} → statement M
 check-loop-spec =

@@ -41,7 +41,8 @@ returns c =
     let a = c .before .before .before .before .before .before .before .args in
     let i = c .before .before .before .before .before .loop .inv in
     let v = a .words .now in
-    let e : c .before .lowest .result ≡ lowestOf (a .rs1) (a .width) (pastSc v p) p (viewAt v p) = c .before .lowest .ensures ∙ rw (i .1, c .before .before .look .ensures) in
+    let e : c .before .lowest .result ≡ lowestOf (a .rs1) (a .width) (pastSc v p) p (viewAt v p) =
+    c .before .lowest .ensures ∙ rw (i .1, c .before .before .look .ensures) in
     ap (λ (r : ℕ). Rejected p r) e
     ∙ sym (scan-stop (a .rs1) (a .width) v p (omega arith) (λ z. c .if1 .taken (e ∙ z))) ∙ i .2
 
@@ -61,8 +62,10 @@ loop-again c =
     let a = c .before .before .before .before .before .before .before .before .args in
     let i = c .before .before .before .before .before .before .loop .inv in
     let v = a .words .now in
-    let e : lowestOf (a .rs1) (a .width) (pastSc v p) p (viewAt v p) ≡ 0 = rw (← i .1, ← c .before .before .before .look .ensures) (sym (c .before .before .lowest .ensures) ∙ c .before .if1 .left) in
-    (omega arith, rw (add-one, i .1, c .is-sc .ensures, c .before .before .before .look .ensures), rw add-one (scan-on (a .rs1) (a .width) v p (omega arith) e ∙ i .2))
+    let seen = c .before .before .before .look .ensures in
+    let e : lowestOf (a .rs1) (a .width) (pastSc v p) p (viewAt v p) ≡ 0 =
+    rw (← i .1, ← seen) (sym (c .before .before .lowest .ensures) ∙ c .before .if1 .left) in
+    (omega arith, rw (add-one, i .1, c .is-sc .ensures, seen), rw add-one (scan-on (a .rs1) (a .width) v p (omega arith) e ∙ i .2))
 
 returns-2 : tie.Need-returns-2 Inv-loop μ-loop
 returns-2 c =

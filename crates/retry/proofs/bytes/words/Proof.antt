@@ -37,10 +37,11 @@ loop-less c = search needs
 loop-again : tie.Need-loop-again Inv-loop μ-loop
 unfolding wordsOf
 loop-again c =
-    let i = c .before .before .loop .inv in (
+    let turn = c .before .before .loop in
+    let i = turn .inv in (
       omega arith,
       rw length-set (i .1),
-      rw add-one (take-suc-set (c .before .before .loop .found) (c .before .before .loop .i) (c .word-at .result) (omega (arith, i .1)) ∙ rw (i .2, c .word-at .ensures)),
+      rw add-one (take-suc-set (turn .found) (turn .i) (c .word-at .result) (omega (arith, i .1)) ∙ rw (i .2, c .word-at .ensures)),
     )
 
 returns : tie.Need-returns Inv-loop μ-loop

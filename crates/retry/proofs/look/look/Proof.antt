@@ -19,12 +19,15 @@ fields-requires c κs = search needs
 
 returns : tie.Need-returns
 returns c =
+    let tested = c .before .before in
     c .fields .ensures ∙ ap fieldsOf (c .before .decode .ensures)
-    ∙ looked (c .before .before .before .before .before .args .word) (sym (ap lookedAt (c .before .before .before .before .class-of .ensures)) ∙ sym (c .before .before .before .looked-at .ensures) ∙ c .before .before .if1 .taken)
+    ∙ looked (tested .before .before .before .args .word)
+    (sym (ap lookedAt (tested .before .before .class-of .ensures)) ∙ sym (tested .before .looked-at .ensures) ∙ tested .if1 .taken)
 
 returns-2 : tie.Need-returns-2
 returns-2 c =
-    passed-over (c .before .before .before .args .word) (sym (ap lookedAt (c .before .before .class-of .ensures)) ∙ sym (c .before .looked-at .ensures) ∙ c .if1 .left)
+    passed-over (c .before .before .before .args .word)
+    (sym (ap lookedAt (c .before .before .class-of .ensures)) ∙ sym (c .before .looked-at .ensures) ∙ c .if1 .left)
 
 pub look-spec : {M : Type 1} → statement M
 look-spec =

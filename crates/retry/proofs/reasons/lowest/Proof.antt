@@ -25,7 +25,13 @@ overwrites-requires c κs = search needs
 returns-3 : tie.Need-returns-3
 unfolding lowestOf
 returns-3 c =
-    rw (sym (c .before .before .before .before .before .not-permitted .ensures) ∙ c .before .before .before .before .if1 .left, sym (c .before .before .before .bad-jump .ensures) ∙ c .before .before .if2 .left, sym (c .before .overwrites .ensures) ∙ c .if3 .taken)
+    let second = c .before .before in
+    let first = second .before .before in
+    rw (
+      sym (first .before .not-permitted .ensures) ∙ first .if1 .left,
+      sym (second .before .bad-jump .ensures) ∙ second .if2 .left,
+      sym (c .before .overwrites .ensures) ∙ c .if3 .taken,
+    )
 
 other-target-requires : tie.Need-other-target-requires
 other-target-requires c κs = search needs
@@ -33,12 +39,28 @@ other-target-requires c κs = search needs
 returns-4 : tie.Need-returns-4
 unfolding lowestOf
 returns-4 c =
-    rw (sym (c .before .before .before .before .before .before .before .not-permitted .ensures) ∙ c .before .before .before .before .before .before .if1 .left, sym (c .before .before .before .before .before .bad-jump .ensures) ∙ c .before .before .before .before .if2 .left, sym (c .before .before .before .overwrites .ensures) ∙ c .before .before .if3 .left, sym (c .before .other-target .ensures) ∙ c .if4 .taken)
+    let third = c .before .before in
+    let second = third .before .before in
+    let first = second .before .before in
+    rw (
+      sym (first .before .not-permitted .ensures) ∙ first .if1 .left,
+      sym (second .before .bad-jump .ensures) ∙ second .if2 .left,
+      sym (third .before .overwrites .ensures) ∙ third .if3 .left,
+      sym (c .before .other-target .ensures) ∙ c .if4 .taken,
+    )
 
 returns-5 : tie.Need-returns-5
 unfolding lowestOf
 returns-5 c =
-    rw (sym (c .before .before .before .before .before .before .before .not-permitted .ensures) ∙ c .before .before .before .before .before .before .if1 .left, sym (c .before .before .before .before .before .bad-jump .ensures) ∙ c .before .before .before .before .if2 .left, sym (c .before .before .before .overwrites .ensures) ∙ c .before .before .if3 .left, sym (c .before .other-target .ensures) ∙ c .if4 .left)
+    let third = c .before .before in
+    let second = third .before .before in
+    let first = second .before .before in
+    rw (
+      sym (first .before .not-permitted .ensures) ∙ first .if1 .left,
+      sym (second .before .bad-jump .ensures) ∙ second .if2 .left,
+      sym (third .before .overwrites .ensures) ∙ third .if3 .left,
+      sym (c .before .other-target .ensures) ∙ c .if4 .left,
+    )
 
 pub lowest-spec : {M : Type 1} → statement M
 lowest-spec =
