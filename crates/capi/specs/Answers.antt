@@ -26,7 +26,8 @@ pub record Reported (file before after : List ℕ) (r : ℕ) : Type 0 where
       → (r ≡ length (reportOf file)) × (r ≤ room) × (take r after ≡ reportOf file) × (drop room after ≡ drop room before)
 
 -- An answer of the checker of retry loops as a number. 01: "If the answer is an enum, a definition provides this paper's number and values for each of
--- its cases. The promises use that definition." The numbers are those of loopRefusal, and a rejection's place and reason are put into one number.
+-- its cases. The promises use that definition." 0 and 6 are loopRefusal's; a rejection's place and reason
+-- are put into one number.
 abbrev pub loopNumber : LoopAnswer → ℕ
 loopNumber Accepted = loopRefusal Accepted
 loopNumber (Rejected place reason) = 256 * (place + 1) + reason

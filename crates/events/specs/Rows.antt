@@ -1,5 +1,5 @@
 -- Refusals that are tried in order (01: "Tried in this order"), of any rows with a number and a place.
--- RULES 2.1, 7.5, 8.
+-- RULES 7.5, 8.
 use Prim.Native.Nat.{ℕ, _<_}
 
 -- The row of this number applies at this place, no earlier row applies anywhere, and it applies at no lower place.

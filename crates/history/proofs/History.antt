@@ -56,8 +56,8 @@ module _ (size h a w : ℕ) where
       inr (e, apart-exact b n a w .0 (subst (λ (x : Reservation). breaksOf size h (DeviceWrite b n) x ≡ false) e f))
   came-by (Yield g) r f e = by-hart g None r e (λ s q. none-held q) (λ d q. inr (q, d))
 
-  came : (n : Notice) (r : Reservation) → observeOf size h n r ≡ Held a w → Came n r
-  unfolding observeOf
+  pub came : (n : Notice) (r : Reservation) → observeOf size h n r ≡ Held a w → (n ≡ LoadReserved h a w) ⊎ ((r ≡ Held a w) × Spares size h a w n)
+  unfolding observeOf Came
   came n r e = let s = not-none (breaksOf size h n r) (ownOf h n r) a w e in came-by n r (s .0) (s .1)
 
   -- the LR makes the reservation
@@ -109,6 +109,18 @@ module _ (size h a w : ℕ) where
     λ e. ⊎-elim (λ (q : Reserved size h a w trace). q) (λ (q : (None ≡ Held a w) × AllSpare size h a w trace). none-held (q .0)) (from-any trace None e),
     λ q. subst (λ (l : List Notice). observes size h l None ≡ Held a w) (sym (q .split)) (holds (q .before) (q .since) (q .spared) None),
   )
+
+-- 01: "Retired either way, it drops the reservation."
+module _ (size h : ℕ) where
+  pub stored-drops : (b n : ℕ) (r : Reservation) → observeOf size h (ScStored h b n) r ≡ None
+  unfolding observeOf breaksOf ownOf
+  stored-drops b n None = rw (eq-eqb h h refl)
+  stored-drops b n (Held a w) = rw (eq-eqb h h refl)
+
+  pub failed-drops : (r : Reservation) → observeOf size h (ScFailed h) r ≡ None
+  unfolding observeOf breaksOf ownOf
+  failed-drops None = rw (eq-eqb h h refl)
+  failed-drops (Held a w) = rw (eq-eqb h h refl)
 
 module _ (size h b n : ℕ) where
   found : (trace : List Notice) (r : Reservation) → observes size h trace None ≡ r → coversOf size r b n ≡ true → Since size h b n trace

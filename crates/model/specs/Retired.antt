@@ -5,7 +5,7 @@ use Prim.Native.Nat.{ℕ}
 use Rattle.model.specs.declared.Outcome.{Outcome}
 use Rattle.model.specs.declared.Outcome.the-variants.{Retired, ScStored, ScFailed, Trap, Refused}
 
--- 01: "A step that doesn't trap is retired". An SC is told by its end
+-- 01: "A step that doesn't trap is retired"; of an SC the answer says how it ended
 abbrev pub IsRetired : Outcome → Type 0
 IsRetired Retired = Unit {0}
 IsRetired ScStored = Unit {0}

@@ -68,8 +68,8 @@ sc-ends h i a v pc covered =
     (λ t. cond-cases (Ends h) (covered a (bytesOf (i .width))) _ _ (λ c. tt) (λ c. tt)) (λ f. tt)
 
 -- an instruction that neither reserves nor writes tells nothing
-module _ (base : ℕ) (m : Machine) (e : Event) (h : ℕ) (x : ℕ → ℕ) (o : Outcome) where
-  plain-quiet : (i : Instr) → Plain base m e i → noticeBy h x base (m .mem) i o ≡ N.Quiet
+module _ (base : ℕ) (m : Machine) (h : ℕ) (x : ℕ → ℕ) (o : Outcome) where
+  plain-quiet : (i : Instr) → Plain i → noticeBy h x base (m .mem) i o ≡ N.Quiet
   plain-quiet Illegal p = absurd p
   plain-quiet Ecall p = absurd p
   plain-quiet Ebreak p = absurd p
@@ -110,17 +110,17 @@ module _ (base : ℕ) (m : Machine) (v : Valid base m) where
 
     module _ (h : ℕ) (i : Instr) (r : Retires base m e h i) where
       answers : IsRetired (outcomeAt base m (Step h))
-      answers = subst (λ (d : Event). IsRetired (outcomeAt base m d)) (r .isStep) (r .retired)
+      answers = subst (λ (d : Event). IsRetired (outcomeAt base m d)) (r .theStep) (r .retired)
 
       performs : actOf base (m .mem) (m .state) e
           ≡ ofExec h
           (execute 64 i (valueAt base (m .mem) (getD (m .state .pc) h 0) 4) (regAt (m .state .x) h) (getD (m .state .pc) h 0) base (m .mem)
           (coversOf 64 (reservationOf (m .state) h)))
-      performs = ap (actOf base (m .mem) (m .state)) (r .isStep) ∙ step-act base m v h (fetched h answers .0) i (r .fetches)
+      performs = ap (actOf base (m .mem) (m .state)) (r .theStep) ∙ step-act base m v h (fetched h answers .0) i (r .fetches)
 
       pub tells-step : noticeAt base m e ≡ noticeBy h (regAt (m .state .x) h) base (m .mem) i (outcomeAt base m e)
       tells-step =
-          subst (λ (d : Event). noticeAt base m d ≡ noticeBy h (regAt (m .state .x) h) base (m .mem) i (outcomeAt base m d)) (sym (r .isStep))
+          subst (λ (d : Event). noticeAt base m d ≡ noticeBy h (regAt (m .state .x) h) base (m .mem) i (outcomeAt base m d)) (sym (r .theStep))
           (notice-step base m v h (fetched h answers .0) i (r .fetches) (untrapped (outcomeAt base m (Step h)) answers))
 
     -- ---- from the words to the notice
@@ -145,20 +145,20 @@ module _ (base : ℕ) (m : Machine) (v : Valid base m) where
     tells-silent : Silent base m e → noticeAt base m e ≡ N.Quiet
     tells-silent (refused r) = notice-none base m e (inr r)
     tells-silent (trapped t) = notice-none base m e (inl t)
-    tells-silent (plain g i r p) = tells-step g i r ∙ plain-quiet base m e g (regAt (m .state .x) g) (outcomeAt base m e) i p
+    tells-silent (plain g i r p) = tells-step g i r ∙ plain-quiet base m g (regAt (m .state .x) g) (outcomeAt base m e) i p
     tells-silent (unequal g i r q d) = tells-atomic g i Cas r q ∙ rw (ne-eqb _ _ d) refl
     tells-silent (unequalQ g i r q d) = tells-atomic g i CasPair r q ∙ rw (ne-eqb _ _ d) refl
 
     tells-device : (b n : ℕ) → DeviceWrites base m e b n → noticeAt base m e ≡ N.DeviceWrite b n
     tells-device b n d =
-        ap (noticeAt base m) (d .isDevice)
-        ∙ notice-device base m v b n (d .value) (subst (λ (c : Event). Refuses (outcomeAt base m c) → ⊥) (d .isDevice) (d .taken))
+        ap (noticeAt base m) (d .theDevice)
+        ∙ notice-device base m v b n (d .value) (subst (λ (c : Event). Refuses (outcomeAt base m c) → ⊥) (d .theDevice) (d .taken))
 
     tells-yield : (g : ℕ) → Yields base m e g → noticeAt base m e ≡ N.Yield g
     unfolding answerOf actOn
     tells-yield g y =
-        let taken = subst (λ (c : Event). Refuses (outcomeAt base m c) → ⊥) (y .isYield) (y .taken) in
-        ap (noticeAt base m) (y .isYield)
+        let taken = subst (λ (c : Event). Refuses (outcomeAt base m c) → ⊥) (y .theYield) (y .taken) in
+        ap (noticeAt base m) (y .theYield)
         ∙ notice-yield base m v g (go (ltb g (m .state .count)) refl (rw (act-valid base m v (Yield g)) at taken))
       where
         go : (t : Bool) → ltb g (m .state .count) ≡ t → (Refuses (outcomeOf (cond t (release g) (refuse 3))) → ⊥) → g < m .state .count
@@ -167,9 +167,9 @@ module _ (base : ℕ) (m : Machine) (v : Valid base m) where
 
     tells : (n : Notice) → ComesFrom base m e n → noticeAt base m e ≡ n
     tells N.Quiet c = tells-silent c
-    tells (N.LoadReserved g a w) c = tells-atomic g (c .lr) Lr (c .retires) (c .isLr) ∙ rw (c .address, c .width) refl
-    tells (N.ScStored g b n) c = tells-atomic g (c .sc) Sc (c .retires) (c .isSc) ∙ rw (c .stored, c .address, c .width) refl
-    tells (N.ScFailed g) c = tells-atomic g (c .sc) Sc (c .retires) (c .isSc) ∙ rw (c .failed) refl
+    tells (N.LoadReserved g a w) c = tells-atomic g (c .lr) Lr (c .retires) (c .operation) ∙ rw (c .address, c .width) refl
+    tells (N.ScStored g b n) c = tells-atomic g (c .sc) Sc (c .retires) (c .operation) ∙ rw (c .stored, c .address, c .width) refl
+    tells (N.ScFailed g) c = tells-atomic g (c .sc) Sc (c .retires) (c .operation) ∙ rw (c .failed) refl
     tells (N.Write g b n) c = tells-write g b n c
     tells (N.DeviceWrite b n) c = tells-device b n c
     tells (N.Yield g) c = tells-yield g c
@@ -198,14 +198,14 @@ module _ (base : ℕ) (m : Machine) (v : Valid base m) where
       from-sc : (i : Atomic) → Retires base m e h (Amo i) → i .op ≡ Sc → (o : Outcome) → outcomeAt base m e ≡ o
           → ComesFrom base m e (scNotice h (regAt (m .state .x) h) base (m .mem) (atomicAddress m h i) (atomicSize i) o)
       from-sc i r q O.Retired p = absurd (plain-sc i r q p)
-      from-sc i r q O.ScStored p = record { sc = i; retires = r; isSc = q; stored = p; address = refl; width = refl }
-      from-sc i r q O.ScFailed p = record { sc = i; retires = r; isSc = q; failed = p }
+      from-sc i r q O.ScStored p = record { sc = i; retires = r; operation = q; stored = p; address = refl; width = refl }
+      from-sc i r q O.ScFailed p = record { sc = i; retires = r; operation = q; failed = p }
       from-sc i r q (O.Trap cause value) p = absurd (subst IsRetired p (r .retired))
       from-sc i r q (O.Refused number) p = absurd (subst IsRetired p (r .retired))
 
       from-atomic : (i : Atomic) → Retires base m e h (Amo i) → (op : AtomicOp) → i .op ≡ op
           → ComesFrom base m e (atomicNotice h (regAt (m .state .x) h) base (m .mem) op i (outcomeAt base m e))
-      from-atomic i r Lr q = record { lr = i; retires = r; isLr = q; address = refl; width = refl }
+      from-atomic i r Lr q = record { lr = i; retires = r; operation = q; address = refl; width = refl }
       from-atomic i r Sc q = from-sc i r q (outcomeAt base m e) refl
       from-atomic i r Cas q =
           let want = low (bitsOf (i .width)) (regAt (m .state .x) h (i .rd)) in
@@ -239,7 +239,7 @@ module _ (base : ℕ) (m : Machine) (v : Valid base m) where
       from-step s o =
           let f = fetched h (subst (λ (d : Event). IsRetired (outcomeAt base m d)) s o) in
           let i = decodeOf (valueAt base (m .mem) (getD (m .state .pc) h 0) 4) in
-          let r : Retires base m e h i = record { isStep = s; fetches = record { inside = f .1; decodes = refl }; retired = o } in
+          let r : Retires base m e h i = record { theStep = s; fetches = record { inside = f .1; decodes = refl }; retired = o } in
           subst (ComesFrom base m e) (sym (tells-step h i r)) (from-instr i r)
 
     comes : ComesFrom base m e (noticeAt base m e)
@@ -251,11 +251,11 @@ module _ (base : ℕ) (m : Machine) (v : Valid base m) where
         (λ h s l ws to t q. subst (ComesFrom base m e) (ap actNotice q) (from-step h s (subst IsRetired (sym (ap outcomeOf q)) (access-retired h ws to t))))
         (λ a n w s q.
         subst (λ (k : ℕ). DeviceWrites base m e a k) (sym (length-toLe n w))
-        (record { value = w; isDevice = s; taken = unrefused _ (subst IsRetired (sym (ap outcomeOf q)) tt) }))
-        (λ h s l q. record { isYield = s; taken = unrefused _ (subst IsRetired (sym (ap outcomeOf q)) tt) })
+        (record { value = w; theDevice = s; taken = unrefused _ (subst IsRetired (sym (ap outcomeOf q)) tt) }))
+        (λ h s l q. record { theYield = s; taken = unrefused _ (subst IsRetired (sym (ap outcomeOf q)) tt) })
         refl
 
-    -- Each notice comes from its events alone.
+    -- Each notice comes from its events alone, in a machine that 1 and 2 don't refuse; in any other every event is refused.
     pub notice-exact : (n : Notice) → (noticeAt base m e ≡ n) ↔ ComesFrom base m e n
     notice-exact n = (λ q. subst (ComesFrom base m e) q comes, tells n)
 
@@ -266,9 +266,9 @@ module _ (base : ℕ) (m : Machine) (v : Valid base m) where
     sc-either g r = go (outcomeAt base m e) refl
       where
         go : (o : Outcome) → outcomeAt base m e ≡ o → ((b : ℕ) × (n : ℕ) × StoredSc base m e g b n) ⊎ FailedSc base m e g
-        go O.Retired p = absurd (plain-sc g (r .sc) (r .retires) (r .isSc) p)
-        go O.ScStored p = inl (_, _, record { sc = r .sc; retires = r .retires; isSc = r .isSc; stored = p; address = refl; width = refl })
-        go O.ScFailed p = inr (record { sc = r .sc; retires = r .retires; isSc = r .isSc; failed = p })
+        go O.Retired p = absurd (plain-sc g (r .sc) (r .retires) (r .operation) p)
+        go O.ScStored p = inl (_, _, record { sc = r .sc; retires = r .retires; operation = r .operation; stored = p; address = refl; width = refl })
+        go O.ScFailed p = inr (record { sc = r .sc; retires = r .retires; operation = r .operation; failed = p })
         go (O.Trap cause value) p = absurd (subst IsRetired p (r .retires .retired))
         go (O.Refused number) p = absurd (subst IsRetired p (r .retires .retired))
 

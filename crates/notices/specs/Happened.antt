@@ -1,5 +1,5 @@
--- What an event did, in terms of the event, the instruction that a hart's step performs, and the answer, and without tests. m is the machine that the
--- event is put to.
+-- What an event did, in terms of the event, the instruction that a hart's step performs, and the answer, and without tests; of an AMOCAS also whether
+-- memory held what it compares with. m is the machine that the event is put to.
 -- RULES 5, 6.2.
 use mathlib.Core.Path.{_≡_}
 use mathlib.Core.Logic.{_⊎_}
@@ -22,17 +22,36 @@ use Rattle.model.specs.Fetch.{Fetches}
 use Rattle.model.specs.Retired.{IsRetired, Traps, Refuses}
 use Rattle.model.specs.declared.Outcome.the-variants.{ScStored, ScFailed}
 
--- an atomic instruction's address, for hart g, and the number of its bytes
+-- an atomic instruction's address, for hart g, and the number of its bytes; AMOCAS.Q has 16
 abbrev pub atomicAddress : Machine → ℕ → Atomic → ℕ
 atomicAddress m g i = regAt (m .state .x) g (i .rs1)
 
 abbrev pub atomicSize : Atomic → ℕ
 atomicSize i = bytesOf (i .width)
 
+-- an instruction that neither reserves nor writes: LUI, AUIPC, JAL, JALR, a branch, a load, OP, OP-IMM, OP-32, OP-IMM-32, FENCE
+abbrev pub Plain : Instr → Type 0
+Plain Illegal = ⊥
+Plain Ecall = ⊥
+Plain Ebreak = ⊥
+Plain (Fence rd rs1 imm) = Unit {0}
+Plain (Lui rd imm) = Unit {0}
+Plain (Auipc rd imm) = Unit {0}
+Plain (Jal rd imm) = Unit {0}
+Plain (Jalr rd rs1 imm) = Unit {0}
+Plain (Branch op rs1 rs2 imm) = Unit {0}
+Plain (Load op rd rs1 imm) = Unit {0}
+Plain (Store op rs1 rs2 imm) = ⊥
+Plain (OpImm op rd rs1 imm) = Unit {0}
+Plain (OpImm32 op rd rs1 imm) = Unit {0}
+Plain (Op op rd rs1 rs2) = Unit {0}
+Plain (Op32 op rd rs1 rs2) = Unit {0}
+Plain (Amo i) = ⊥
+
 module _ (base : ℕ) (m : Machine) (e : Event) where
   -- the event is hart g's step, it performs i, and it retires
   pub record Retires (g : ℕ) (i : Instr) : Type 0 where
-    pub isStep : e ≡ Step g
+    pub theStep : e ≡ Step g
     pub fetches : Fetches base m g i
     pub retired : IsRetired (outcomeAt base m e)
 
@@ -40,7 +59,7 @@ module _ (base : ℕ) (m : Machine) (e : Event) where
   pub record RetiredLr (g a w : ℕ) : Type 0 where
     pub lr : Atomic
     pub retires : Retires g (Amo lr)
-    pub isLr : lr .op ≡ Lr
+    pub operation : lr .op ≡ Lr
     pub address : a ≡ atomicAddress m g lr
     pub width : w ≡ atomicSize lr
 
@@ -48,13 +67,13 @@ module _ (base : ℕ) (m : Machine) (e : Event) where
   pub record RetiredSc (g : ℕ) : Type 0 where
     pub sc : Atomic
     pub retires : Retires g (Amo sc)
-    pub isSc : sc .op ≡ Sc
+    pub operation : sc .op ≡ Sc
 
   -- a successful SC of hart g, of n bytes at b
   pub record StoredSc (g b n : ℕ) : Type 0 where
     pub sc : Atomic
     pub retires : Retires g (Amo sc)
-    pub isSc : sc .op ≡ Sc
+    pub operation : sc .op ≡ Sc
     pub stored : outcomeAt base m e ≡ ScStored
     pub address : b ≡ atomicAddress m g sc
     pub width : n ≡ atomicSize sc
@@ -63,7 +82,7 @@ module _ (base : ℕ) (m : Machine) (e : Event) where
   pub record FailedSc (g : ℕ) : Type 0 where
     pub sc : Atomic
     pub retires : Retires g (Amo sc)
-    pub isSc : sc .op ≡ Sc
+    pub operation : sc .op ≡ Sc
     pub failed : outcomeAt base m e ≡ ScFailed
 
   -- 01: "a retired store, AMO, equal AMOCAS": of hart g, of n bytes at b. AMOCAS.Q is of 16 bytes
@@ -83,7 +102,7 @@ module _ (base : ℕ) (m : Machine) (e : Event) where
   -- 01: "a device write that isn't refused": of n bytes at b
   pub record DeviceWrites (b n : ℕ) : Type 0 where
     pub value : ℕ
-    pub isDevice : e ≡ Device b n value
+    pub theDevice : e ≡ Device b n value
     pub taken : Refuses (outcomeAt base m e) → ⊥
 
   -- 01: "a retired store, AMO, equal AMOCAS or successful SC, or a device write that isn't refused": the event writes n bytes at b
@@ -93,27 +112,8 @@ module _ (base : ℕ) (m : Machine) (e : Event) where
 
   -- a yield of hart g that isn't refused
   pub record Yields (g : ℕ) : Type 0 where
-    pub isYield : e ≡ Yield g
+    pub theYield : e ≡ Yield g
     pub taken : Refuses (outcomeAt base m e) → ⊥
-
-  -- an instruction that neither reserves nor writes: LUI, AUIPC, JAL, JALR, a branch, a load, OP, OP-IMM, OP-32, OP-IMM-32, FENCE
-  abbrev pub Plain : Instr → Type 0
-  Plain Illegal = ⊥
-  Plain Ecall = ⊥
-  Plain Ebreak = ⊥
-  Plain (Fence rd rs1 imm) = Unit {0}
-  Plain (Lui rd imm) = Unit {0}
-  Plain (Auipc rd imm) = Unit {0}
-  Plain (Jal rd imm) = Unit {0}
-  Plain (Jalr rd rs1 imm) = Unit {0}
-  Plain (Branch op rs1 rs2 imm) = Unit {0}
-  Plain (Load op rd rs1 imm) = Unit {0}
-  Plain (Store op rs1 rs2 imm) = ⊥
-  Plain (OpImm op rd rs1 imm) = Unit {0}
-  Plain (OpImm32 op rd rs1 imm) = Unit {0}
-  Plain (Op op rd rs1 rs2) = Unit {0}
-  Plain (Op32 op rd rs1 rs2) = Unit {0}
-  Plain (Amo i) = ⊥
 
   -- the event reserves nothing, writes nothing and drops no reservation of its own: a refusal, a trap, such an instruction, or an unequal AMOCAS
   pub data Silent : Type 0 where

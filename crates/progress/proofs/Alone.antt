@@ -29,7 +29,7 @@ module _ (base h p addr : ℕ) (words : List ℕ) (lr : Atomic) where
           record {
             block = λ t. let w = writes-exact base m v e _ _ .0 t in l .noWord (w .0) (w .1) (w .2) (w .3);
             reserved = λ t. let w = writes-exact base m v e _ _ .0 t in l .noSet (w .0) (w .1) (w .2) (w .3);
-            stays = λ q. l .noYield (notice-exact base m v e (N.Yield h) .0 q .isYield);
+            stays = λ q. l .noYield (notice-exact base m v e (N.Yield h) .0 q .theYield);
           }
 
       taken : Harmless base h p addr words lr m e → LeftAlone base h p addr words lr m e
@@ -78,6 +78,12 @@ module _ (base h p addr : ℕ) (words : List ℕ) (lr : Atomic) where
                 → Finish base h p addr words lr m e ⊎ ((1 < k) × Safe base h p addr words lr A (k - 1) (nextOf base m e) es)
             on (inl d) = inl d
             on (inr d) = inr (d .0, more (k - 1) (d .1))
+
+  -- events that leave the loop alone in the notices' words do so in those of events
+  pub calm-alone : (es : List Event) (m : Machine) → Valid base m → h < m .state .count
+      → Calm base h p addr words lr (Harmless base h p addr words lr) m es → Calm base h p addr words lr (LeftAlone base h p addr words lr) m es
+  unfolding Follows
+  calm-alone = calm-by (Harmless base h p addr words lr) (LeftAlone base h p addr words lr) (λ m v u e. alone-exact m v u e .1)
 
   harmless : Follows (LeftAlone base h p addr words lr) (Harmless base h p addr words lr)
   unfolding Follows

@@ -1,6 +1,6 @@
 -- Loops that meet the start of the claim, and runs of them that finish in each of the three ways; and what a store into the set does. Computed.
 -- Assumes nothing.
-use mathlib.Core.Path.{_≡_, refl, sym}
+use mathlib.Core.Path.{_≡_, refl, sym, subst}
 use mathlib.Core.Logic.{_≢_, _⊎_, inl, inr}
 use mathlib.Core.Bool.{true, false}
 use mathlib.Core.List.{List, [], _∷_, _++_}
@@ -15,6 +15,7 @@ use Rattle.word.proofs.TestLaws.{contrary}
 use Rattle.reserve.specs.Range.{Touch, touches, insideOf, setOf}
 use Rattle.reserve.specs.Reserve.{slot, coversOf, breaksOf, ownOf, observeOf, observeAllOf}
 use Rattle.reserve.specs.declared.Reservation.the-variants.{None, Held}
+use Rattle.reserve.specs.declared.Notice.{Notice}
 use Rattle.reserve.specs.declared.Notice.the-variants as N
 use Rattle.isa.specs.Decode.{classOf, branchOf, storeOf, systemOf, sizedOf, lrOf, atomicOf, decodeOf}
 use Rattle.isa.specs.declared.Width.the-variants.{Word}
@@ -32,13 +33,17 @@ use Rattle.events.specs.declared.Event.the-variants.{Step, Device, Yield}
 use Rattle.model.specs.Act.{setReg, apply, leaves}
 use Rattle.model.specs.Perform.{Machine, fetchOf, deviceOf, actOn, actOf, answerOf, memoryOf, nextOf, runOf, outcomeAt}
 use Rattle.model.specs.Trace.{noticeAt, WritesInto}
+use Rattle.model.specs.Valid.{Valid}
 use Rattle.model.specs.declared.Outcome.{Outcome}
 use Rattle.model.specs.declared.Outcome.the-variants as O
+use Rattle.model.proofs.Valid.{valid-run}
+use Rattle.notices.specs.Happened.{WritesBytes, byHart}
+use Rattle.notices.proofs.Exact.{notice-exact, writes-exact}
 use Rattle.retry.specs.Reasons.{LrAt}
 use Rattle.retry.specs.declared.LoopAnswer.the-variants.{Accepted}
 use Rattle.retry.specs.Loop.{viewOf, pastSc, wrongOffset, clobbers, lowestOf, scanOf, startOf, checkOf}
-use Rattle.progress.specs.Claim.{Start, Harmless, Finish, bySc, left, back, Safe, Finishes, Calm, Unfinished}
-use Rattle.progress.proofs.Retry.{retry}
+use Rattle.progress.specs.Claim.{Start, LeftAlone, Harmless, Finish, bySc, left, back, Safe, Finishes, Calm, Unfinished}
+use Rattle.progress.proofs.Alone.{calm-alone, retry-alone}
 
 -- Edge 12's loop: lr.w x6,(x5); bne x6,x0,+12; sc.w x7,x8,(x5); bne x7,x0,-12.
 abbrev leaving : List ℕ
@@ -150,11 +155,11 @@ starts-shortest v = meets shortest v refl (omega arith) refl (record { inBlock =
     placed (suc (suc k)) l = absurd (omega arith)
 
 -- so the claim holds of them
-pub leaving-finishes : (v : ℕ) → Finishes 1024 0 1024 1096 leaving lr (Harmless 1024 0 1024 1096 leaving lr) (begin leaving v)
-leaving-finishes v = retry 1024 0 1024 1096 leaving lr (begin leaving v) (starts-leaving v)
+pub leaving-finishes : (v : ℕ) → Finishes 1024 0 1024 1096 leaving lr (LeftAlone 1024 0 1024 1096 leaving lr) (begin leaving v)
+leaving-finishes v = retry-alone 1024 0 1024 1096 leaving lr (begin leaving v) (starts-leaving v)
 
-pub waiting-finishes : (v : ℕ) → Finishes 1024 0 1024 1096 waiting lr (Harmless 1024 0 1024 1096 waiting lr) (begin waiting v)
-waiting-finishes v = retry 1024 0 1024 1096 waiting lr (begin waiting v) (starts-waiting v)
+pub waiting-finishes : (v : ℕ) → Finishes 1024 0 1024 1096 waiting lr (LeftAlone 1024 0 1024 1096 waiting lr) (begin waiting v)
+waiting-finishes v = retry-alone 1024 0 1024 1096 waiting lr (begin waiting v) (starts-waiting v)
 
 -- ---- runs
 
@@ -174,8 +179,8 @@ by-sc =
       success =
           record {
             sc = sc;
-            retires = record { isStep = refl; fetches = record { inside = inside-of 1024 128 1032 4 refl; decodes = refl }; retired = tt };
-            isSc = refl;
+            retires = record { theStep = refl; fetches = record { inside = inside-of 1024 128 1032 4 refl; decodes = refl }; retired = tt };
+            operation = refl;
             stored = refl;
             address = refl;
             width = refl;
@@ -187,9 +192,9 @@ by-sc =
 untold : (m : Machine) (e : Event) → noticeAt 1024 m e ≡ N.Quiet → Harmless 1024 0 1024 1096 leaving lr m e
 untold m e q = record { block = rw q (λ t. t); reserved = rw q (λ t. t); stays = λ y. let z : _≡_ {A = ℕ} 0 1 = cc in omega arith }
 
-pub by-sc-calm : Calm 1024 0 1024 1096 leaving lr (Harmless 1024 0 1024 1096 leaving lr) (begin leaving 0) mixed
+by-sc-harmless : Calm 1024 0 1024 1096 leaving lr (Harmless 1024 0 1024 1096 leaving lr) (begin leaving 0) mixed
 unfolding running Touch
-by-sc-calm = (
+by-sc-harmless = (
   λ q. contrary refl q,
   (
     λ q. record { block = λ t. absurd (omega arith); reserved = λ t. absurd (omega arith); stays = λ y. let z : _≡_ {A = ℕ} 0 1 = cc in omega arith },
@@ -199,6 +204,10 @@ by-sc-calm = (
     ),
   ),
 )
+
+pub by-sc-calm : Calm 1024 0 1024 1096 leaving lr (LeftAlone 1024 0 1024 1096 leaving lr) (begin leaving 0) mixed
+by-sc-calm =
+    calm-alone 1024 0 1024 1096 leaving lr mixed (begin leaving 0) (starts-leaving 0 .valid) (starts-leaving 0 .used) by-sc-harmless
 
 -- and neither the LR nor the branch was the finish
 pub by-sc-unfinished : Unfinished 1024 0 1024 1096 leaving lr (begin leaving 0) mixed
@@ -229,7 +238,7 @@ by-coming-back = back refl
 
 -- ---- the bound can't be smaller
 
-pub tight : Safe 1024 0 1024 1096 shortest lr (Harmless 1024 0 1024 1096 shortest lr) (length shortest - 1) (begin shortest 0) (Step 0 ∷ []) → ⊥
+pub tight : Safe 1024 0 1024 1096 shortest lr (LeftAlone 1024 0 1024 1096 shortest lr) (length shortest - 1) (begin shortest 0) (Step 0 ∷ []) → ⊥
 unfolding running
 tight s = go (s .1)
   where
@@ -248,21 +257,36 @@ tight s = go (s .1)
 abbrev next : List Event → Outcome
 next es = outcomeAt 1024 (runOf 1024 (begin leaving 0) es) (Step 0)
 
+-- the machine after the LR, and what hart 1's step writes there
+abbrev reserved : Machine
+reserved = runOf 1024 (begin leaving 0) (Step 0 ∷ [])
+
+reserved-valid : Valid 1024 reserved
+reserved-valid = valid-run 1024 (begin leaving 0) (starts-leaving 0 .valid) (Step 0 ∷ [])
+
+written : noticeAt 1024 reserved (Step 1) ≡ N.Write 1 1104 4
+unfolding running storeOf execStore
+written = refl
+
 -- After the LR, hart 1 stores into the set, beside the LR's bytes. This, and nothing else that is asked, fails; and so does the SC.
 pub record Disturbed : Type 0 where
-  pub noticed : noticeAt 1024 (runOf 1024 (begin leaving 0) (Step 0 ∷ [])) (Step 1) ≡ N.Write 1 1104 4
-  pub writes : WritesInto (noticeAt 1024 (runOf 1024 (begin leaving 0) (Step 0 ∷ [])) (Step 1)) (setOf 64 1096) 64
-  pub not-block : WritesInto (noticeAt 1024 (runOf 1024 (begin leaving 0) (Step 0 ∷ [])) (Step 1)) 1024 (4 * length leaving) → ⊥
-  pub no-yield : noticeAt 1024 (runOf 1024 (begin leaving 0) (Step 0 ∷ [])) (Step 1) ≢ N.Yield 0
+  pub writes : WritesBytes 1024 reserved (Step 1) 1104 4 × Touch 1104 4 (setOf 64 1096) 64
+  pub not-block : (b n : ℕ) → WritesBytes 1024 reserved (Step 1) b n → Touch b n 1024 (4 * length leaving) → ⊥
+  pub no-yield : Step 1 ≢ Yield 0
   pub fails : next (Step 0 ∷ Step 1 ∷ Step 0 ∷ []) ≡ O.ScFailed
 
 pub disturbed : Disturbed
 unfolding running storeOf execStore Touch
 disturbed =
     record {
-      noticed = refl;
-      writes = (1104, omega arith, omega arith, omega arith, omega arith);
-      not-block = λ t. absurd (omega arith);
+      writes = (
+        byHart 1 (inl (notice-exact 1024 reserved reserved-valid (Step 1) (N.Write 1 1104 4) .0 written)),
+        (1104, omega arith, omega arith, omega arith, omega arith),
+      );
+      not-block = λ b n w t.
+          let z : WritesInto (N.Write 1 1104 4) 1024 16 =
+          subst (λ (k : Notice). WritesInto k 1024 16) written (writes-exact 1024 reserved reserved-valid (Step 1) 1024 16 .1 (b, n, w, t)) in
+          absurd (omega (arith, z .1, z .2, z .3, z .4));
       no-yield = λ y. let z : _≡_ {A = ℕ} 0 1 = cc in omega arith;
       fails = refl;
     }

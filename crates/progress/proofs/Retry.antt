@@ -404,8 +404,8 @@ module _ (base h p addr : ℕ) (words : List ℕ) (lr : Atomic) (j : ℕ)
                   record {
                     sc = s .of;
                     retires =
-                        record { isStep = refl; fetches = subst (Fetches base m h) (s .is) fetches; retired = subst IsRetired (sym answers) tt };
-                    isSc = s .kind;
+                        record { theStep = refl; fetches = subst (Fetches base m h) (s .is) fetches; retired = subst IsRetired (sym answers) tt };
+                    operation = s .kind;
                     stored = answers;
                     address = sym src;
                     width = sym (s .width-is);

@@ -1,3 +1,3 @@
 -- When an SC of a run succeeds, by the notices of the run and by its events.
 pub mod ScHistory
-pub mod Since
+pub mod Allows

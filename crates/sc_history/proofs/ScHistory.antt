@@ -10,7 +10,7 @@ use lib.ListN.{length, getD}
 use lib.Seq.{getD-set-same}
 use borrow.Author.Tests.{eqb-true, eqb-false, ne-eqb}
 use Rattle.word.proofs.TestLaws.{bool-cases}
-use Rattle.reserve.specs.Reserve.{coversOf}
+use Rattle.reserve.specs.Reserve.{coversOf, observeOf}
 use Rattle.reserve.specs.declared.Reservation.{Reservation}
 use Rattle.reserve.specs.declared.Reservation.the-variants.{None, Held}
 use Rattle.isa.specs.declared.Atomic.{Atomic}
@@ -22,17 +22,17 @@ use Rattle.effect.specs.Execute.{regAt, execute, execAtomic}
 use Rattle.effect.proofs.TrapLaws as T
 use Rattle.events.specs.declared.Event.{Event}
 use Rattle.events.specs.declared.Event.the-variants.{Step}
-use Rattle.model.specs.Act.{Act, outcomeOf, setReg, apply, leaves}
+use Rattle.model.specs.Act.{Act, actNotice, outcomeOf, setReg, apply, leaves}
 use Rattle.model.specs.Perform.{Machine, reservationOf, ofExec, actOf, answerOf, memoryOf, nextOf, runOf, outcomeAt}
 use Rattle.model.specs.Valid.{Valid}
 use Rattle.model.specs.Retired.{Traps}
 use Rattle.model.specs.Trace.{traceOf}
 use Rattle.model.specs.declared.Outcome.the-variants.{ScStored, ScFailed, Trap}
 use Rattle.model.proofs.Valid.{valid-next, valid-run}
-use Rattle.model.proofs.Frame.{count-next, count-run, shaped-next, res-next, step-act}
+use Rattle.model.proofs.Frame.{count-next, count-run, shaped-next, res-next, res-apply, step-act}
 use Rattle.notices.specs.Happened.{atomicAddress, atomicSize}
 use Rattle.history.specs.History.{observes, Reserved, Since}
-use Rattle.history.proofs.History.{history, sc-exact}
+use Rattle.history.proofs.History.{history, sc-exact, stored-drops, failed-drops}
 use Rattle.sc_history.specs.Sc.{Reservationless, FetchesSc, StoredLeaves, FailedLeaves}
 
 -- a register that was set
@@ -50,7 +50,7 @@ module _ (base : ℕ) (m : Machine) (v : Valid base m) (h : ℕ) (u : h < m .sta
 
   act-sc : actOf base (m .mem) (m .state) (Step h) ≡ ofExec h exec
   unfolding exec covered execute execAtomic
-  act-sc = step-act base m v h u (Amo sc) (f .fetches) ∙ rw (f .isSc) refl
+  act-sc = step-act base m v h u (Amo sc) (f .fetches) ∙ rw (f .operation) refl
 
   by-exec : (e : Exec) → exec ≡ e → outcomeAt base m (Step h) ≡ outcomeOf (ofExec h e)
   unfolding answerOf
@@ -110,6 +110,13 @@ module _ (base : ℕ) (m : Machine) (v : Valid base m) (h : ℕ) (u : h < m .sta
   next-by e q = ap (λ (a : Act). record { state = apply 64 (m .state) a; mem = leaves base (m .mem) a }) (act-sc ∙ ap (ofExec h) q)
 
   module _ (shaped : Shaped (m .state)) where
+    -- the hart's reservation follows the notice
+    reserved-by : (e : Exec) → exec ≡ e
+        → reservationOf (nextOf base m (Step h) .state) h ≡ observeOf 64 h (actNotice (ofExec h e)) (reservationOf (m .state) h)
+    reserved-by e q =
+        ap (λ (n : Machine). reservationOf (n .state) h) (next-by e q)
+        ∙ res-apply 64 (m .state) h (ofExec h e) u (omega (arith, v .1 .1, shaped .reservations))
+
     -- 01: "Success writes memory and puts 0 in rd"
     pub stored-leaves : outcomeAt base m (Step h) ≡ ScStored → StoredLeaves base m h sc
     unfolding exec covered apply leaves
@@ -122,6 +129,9 @@ module _ (base : ℕ) (m : Machine) (v : Valid base m) (h : ℕ) (u : h < m .sta
           register = λ z.
               ap (λ (n : Machine). regAt (n .state .x) h (sc .rd)) q
               ∙ set-own h (sc .rd) 0 (m .state .x) (omega (arith, v .1 .1)) (shaped .registers) z;
+          reservation =
+              reserved-by _ (T.exec-sc-stored 64 (getD (m .state .pc) h 0) (sc .width) (sc .rd) (atomicAddress m h sc) _ covered (aligned d) c)
+              ∙ stored-drops 64 h _ _ (reservationOf (m .state) h);
         }
 
     -- 01: "failure puts 1 in rd and writes nothing"
@@ -137,6 +147,9 @@ module _ (base : ℕ) (m : Machine) (v : Valid base m) (h : ℕ) (u : h < m .sta
           register = λ z.
               ap (λ (n : Machine). regAt (n .state .x) h (sc .rd)) q
               ∙ set-own h (sc .rd) 1 (m .state .x) (omega (arith, v .1 .1)) (shaped .registers) z;
+          reservation =
+              reserved-by _ (T.exec-sc-failed 64 (getD (m .state .pc) h 0) (sc .width) (sc .rd) (atomicAddress m h sc) _ covered (aligned d) c)
+              ∙ failed-drops 64 h (reservationOf (m .state) h);
         }
 
 -- a used hart's reservation after a run

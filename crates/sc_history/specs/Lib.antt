@@ -1,3 +1,3 @@
 -- The words of demand 2's sentence on SC.
 pub mod Sc
-pub mod Since
+pub mod Allows

@@ -24,15 +24,17 @@ Reservationless s = (k : ℕ) → k < s .count → reservationOf s k ≡ None
 -- hart h's next step is this SC, of either width, with any ordering bits and registers
 pub record FetchesSc (base : ℕ) (m : Machine) (h : ℕ) (sc : Atomic) : Type 0 where
   pub fetches : Fetches base m h (Amo sc)
-  pub isSc : sc .op ≡ Sc
+  pub operation : sc .op ≡ Sc
 
--- 01: "Success writes memory and puts 0 in rd": the low bytes of rs2 stand at the SC's address, the rest of memory is as it was, and rd is 0, unless it
--- is x0
+-- 01: "Success writes memory and puts 0 in rd"; "Retired either way, it drops the reservation.": the low bytes of rs2 stand at the SC's address, the rest
+-- of memory is as it was, and rd is 0; x0 is anyway
 pub record StoredLeaves (base : ℕ) (m : Machine) (h : ℕ) (sc : Atomic) : Type 0 where
   pub memory : nextOf base m (Step h) .mem ≡ splice (m .mem) (atomicAddress m h sc - base) (toLe (atomicSize sc) (regAt (m .state .x) h (sc .rs2)))
   pub register : sc .rd % 32 ≢ 0 → regAt (nextOf base m (Step h) .state .x) h (sc .rd) ≡ 0
+  pub reservation : reservationOf (nextOf base m (Step h) .state) h ≡ None
 
--- 01: "failure puts 1 in rd and writes nothing"
+-- 01: "failure puts 1 in rd and writes nothing", and drops it too; x0 stays 0
 pub record FailedLeaves (base : ℕ) (m : Machine) (h : ℕ) (sc : Atomic) : Type 0 where
   pub memory : nextOf base m (Step h) .mem ≡ m .mem
   pub register : sc .rd % 32 ≢ 0 → regAt (nextOf base m (Step h) .state .x) h (sc .rd) ≡ 1
+  pub reservation : reservationOf (nextOf base m (Step h) .state) h ≡ None

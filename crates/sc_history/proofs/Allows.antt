@@ -2,9 +2,10 @@
 use Prim.Native.Nat.{ℕ, _<_}
 use native.Mathlib.Omega.{arith}
 use mathlib.Core.Path.{_≡_, refl, sym, _∙_, ap, subst}
-use mathlib.Core.Logic.{_↔_, _≢_, inl, inr, ⊎-elim}
+use mathlib.Core.Logic.{_↔_, _≢_, _⊎_, inl, inr, ⊎-elim}
 use mathlib.Core.List.{List, [], _∷_, _++_}
 use Rattle.reserve.specs.Range.{Touch, setOf}
+use Rattle.reserve.specs.Reserve.{observeOf}
 use Rattle.reserve.specs.declared.Reservation.the-variants.{Held}
 use Rattle.reserve.specs.declared.Notice.{Notice}
 use Rattle.reserve.specs.declared.Notice.the-variants as N
@@ -18,14 +19,15 @@ use Rattle.model.specs.Trace.{noticeAt, traceOf}
 use Rattle.model.specs.Retired.{Traps}
 use Rattle.model.specs.declared.Outcome.the-variants.{ScStored, ScFailed}
 use Rattle.model.proofs.Valid.{valid-next, valid-run}
-use Rattle.model.proofs.Frame.{count-next, count-run}
+use Rattle.model.proofs.Frame.{count-next, count-run, res-next}
 use Rattle.history.specs.History.{Spares, AllSpare, Reserved, Since}
-use Rattle.notices.specs.Happened.{atomicAddress, atomicSize, RetiredLr, RetiredSc, StoredSc, FailedSc, HartWrites}
+use Rattle.history.proofs.History.{came, made, kept}
+use Rattle.notices.specs.Happened.{atomicAddress, atomicSize, RetiredLr, RetiredSc, StoredSc, FailedSc, HartWrites, Silent}
 use Rattle.notices.specs.Notices.{ComesFrom}
 use Rattle.notices.proofs.Notices.{notice-yield}
 use Rattle.notices.proofs.Exact.{notice-exact, sc-either}
 use Rattle.sc_history.specs.Sc.{Reservationless, FetchesSc}
-use Rattle.sc_history.specs.Since.{LeavesReserved, AllLeave, ReservedSince, Allows}
+use Rattle.sc_history.specs.Allows.{LeavesReserved, AllLeave, ReservedSince, Allows}
 use Rattle.sc_history.proofs.ScHistory.{held-exact, sc-stored-run, sc-failed-run}
 
 -- ---- one event
@@ -38,11 +40,11 @@ module _ (base h : ℕ) (m : Machine) (v : Valid base m) (u : h < m .state .coun
   spared l (N.ScStored g b n) c = (own, λ t. l .noWrite g b n own (inr c) t)
     where
       own : g ≢ h
-      own s = l .noSc (subst (RetiredSc base m e) s (record { sc = c .sc; retires = c .retires; isSc = c .isSc }))
-  spared l (N.ScFailed g) c = λ s. l .noSc (subst (RetiredSc base m e) s (record { sc = c .sc; retires = c .retires; isSc = c .isSc }))
+      own s = l .noSc (subst (RetiredSc base m e) s (record { sc = c .sc; retires = c .retires; operation = c .operation }))
+  spared l (N.ScFailed g) c = λ s. l .noSc (subst (RetiredSc base m e) s (record { sc = c .sc; retires = c .retires; operation = c .operation }))
   spared l (N.Write g b n) c = λ d t. l .noWrite g b n d (inl c) t
   spared l (N.DeviceWrite b n) c = λ t. l .noDevice b n c t
-  spared l (N.Yield g) c = λ s. l .noYield (c .isYield ∙ ap Yield s)
+  spared l (N.Yield g) c = λ s. l .noYield (c .theYield ∙ ap Yield s)
 
   module _ (s : Spares 64 h a w (noticeAt base m e)) where
     spare : (n : Notice) → ComesFrom base m e n → Spares 64 h a w n
@@ -66,6 +68,31 @@ module _ (base h : ℕ) (m : Machine) (v : Valid base m) (u : h < m .state .coun
 
   pub leaves-exact : LeavesReserved base h m e a w ↔ Spares 64 h a w (noticeAt base m e)
   leaves-exact = (λ l. spared l (noticeAt base m e) (notice-exact base m v e (noticeAt base m e) .0 refl), leaves)
+
+  -- 01: "Not: .. a load .. a trap": an event that neither reserves nor writes nor drops breaks nothing
+  pub silent-leaves : Silent base m e → LeavesReserved base h m e a w
+  unfolding Spares
+  silent-leaves s = leaves-exact .1 (subst (Spares 64 h a w) (sym (notice-exact base m v e N.Quiet .1 s)) tt)
+
+  -- A held reservation, also one that the state was given with: the event leaves it exactly if it breaks nothing of it, or is a retired LR that makes
+  -- the same one anew.
+  pub held-next : Shaped (m .state) → reservationOf (m .state) h ≡ Held a w
+      → (reservationOf (nextOf base m e .state) h ≡ Held a w) ↔ (RetiredLr base m e h a w ⊎ LeavesReserved base h m e a w)
+  held-next shaped q = (given, taken)
+    where
+      after : reservationOf (nextOf base m e .state) h ≡ observeOf 64 h (noticeAt base m e) (Held a w)
+      after = res-next base m e v shaped h u ∙ ap (observeOf 64 h (noticeAt base m e)) q
+
+      given : reservationOf (nextOf base m e .state) h ≡ Held a w → RetiredLr base m e h a w ⊎ LeavesReserved base h m e a w
+      given o =
+          ⊎-elim (λ (n : noticeAt base m e ≡ N.LoadReserved h a w). inl (notice-exact base m v e (N.LoadReserved h a w) .0 n))
+          (λ (n : (Held a w ≡ Held a w) × Spares 64 h a w (noticeAt base m e)). inr (leaves-exact .1 (n .1)))
+          (came 64 h a w (noticeAt base m e) (Held a w) (sym after ∙ o))
+
+      taken : RetiredLr base m e h a w ⊎ LeavesReserved base h m e a w → reservationOf (nextOf base m e .state) h ≡ Held a w
+      taken (inl r) =
+          after ∙ ap (λ (n : Notice). observeOf 64 h n (Held a w)) (notice-exact base m v e (N.LoadReserved h a w) .1 r) ∙ made 64 h a w (Held a w)
+      taken (inr l) = after ∙ kept 64 h a w (noticeAt base m e) (leaves-exact .0 l)
 
 -- ---- events one after another
 
