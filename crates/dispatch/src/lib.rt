@@ -66,7 +66,10 @@ pub fn atomic(
 ) -> Done
     requires { ⌜ h < 8 ⌝ }
     requires { ⌜ CoveredInside base (length (now mem)) (coversOf 64 res) ⌝ }
-    ensures { λ r. ⌜ Meets h (execAtomic 64 m (regAt (now (x .entry)) h) pc base (now (mem .entry)) (coversOf 64 res)) base (now (mem .entry)) r (now (mem .exit)) ⌝ }
+    ensures { λ r. ⌜
+        Meets h (execAtomic 64 m (regAt (now (x .entry)) h) pc base (now (mem .entry)) (coversOf 64 res))
+        base (now (mem .entry)) r (now (mem .exit))
+        ⌝ }
 {
     let op = m.op;
     let w = m.width;
@@ -113,7 +116,10 @@ fn store(
     mem: &mut [u8],
 ) -> Done
     requires { ⌜ h < 8 ⌝ }
-    ensures { λ r. ⌜ Meets h (execStore 64 op (offset 64 (regAt (now (x .entry)) h rs1) imm) (regAt (now (x .entry)) h rs2) pc base (now (mem .entry))) base (now (mem .entry)) r (now (mem .exit)) ⌝ }
+    ensures { λ r. ⌜
+        Meets h (execStore 64 op (offset 64 (regAt (now (x .entry)) h rs1) imm) (regAt (now (x .entry)) h rs2) pc base (now (mem .entry)))
+        base (now (mem .entry)) r (now (mem .exit))
+        ⌝ }
 {
     let a = plus(reg(x, h, rs1), imm);
     exec::memory::store(op, a, reg(x, h, rs2), pc, base, h, mem)
@@ -132,7 +138,10 @@ pub fn execute(
 ) -> Done
     requires { ⌜ h < 8 ⌝ }
     requires { ⌜ CoveredInside base (length (now mem)) (coversOf 64 res) ⌝ }
-    ensures { λ r. ⌜ Meets h (execute 64 i word (regAt (now (x .entry)) h) pc base (now (mem .entry)) (coversOf 64 res)) base (now (mem .entry)) r (now (mem .exit)) ⌝ }
+    ensures { λ r. ⌜
+        Meets h (execute 64 i word (regAt (now (x .entry)) h) pc base (now (mem .entry)) (coversOf 64 res))
+        base (now (mem .entry)) r (now (mem .exit))
+        ⌝ }
 {
     let value = word as u64;
     match i {
@@ -167,7 +176,10 @@ pub fn execute_word(
 ) -> Done
     requires { ⌜ h < 8 ⌝ }
     requires { ⌜ CoveredInside base (length (now mem)) (coversOf 64 res) ⌝ }
-    ensures { λ r. ⌜ Meets h (executeWord 64 word (regAt (now (x .entry)) h) pc base (now (mem .entry)) (coversOf 64 res)) base (now (mem .entry)) r (now (mem .exit)) ⌝ }
+    ensures { λ r. ⌜
+        Meets h (executeWord 64 word (regAt (now (x .entry)) h) pc base (now (mem .entry)) (coversOf 64 res))
+        base (now (mem .entry)) r (now (mem .exit))
+        ⌝ }
 {
     execute(isa::decode(word), word, x, h, pc, base, res, mem)
 }

@@ -112,11 +112,15 @@ module _ (pc : ℕ) where
     fits-atomic covered Lr m x = fits-checked 4 5 _ _ base (length mem) _ (extends (m .width) _, (next-lt, tt))
     fits-atomic covered Sc m x = fits-sc covered (m .width) (m .rd) (x (m .rs1)) (x (m .rs2))
     fits-atomic covered Cas m x =
+        let a = x (m .rs1) in
+        let n = bytesOf (m .width) in
         fits-checked 6 7 _ _ base (length mem) _
-        (extends (m .width) _, (next-lt, swap-bytes (x (m .rs1)) (bytesOf (m .width)) (valueAt base mem (x (m .rs1)) (bytesOf (m .width))) (low (bitsOf (m .width)) (x (m .rd))) (x (m .rs2))))
+        (extends (m .width) _, (next-lt, swap-bytes a n (valueAt base mem a n) (low (bitsOf (m .width)) (x (m .rd))) (x (m .rs2))))
     fits-atomic covered CasPair m x =
+        let a = x (m .rs1) in
+        let old = valueAt base mem a 16 in
         fits-checked 6 7 _ 16 base (length mem) _
-        (pair-lt (m .rd) (valueAt base mem (x (m .rs1)) 16) (value-lt base mem bytes (x (m .rs1)) 16), (next-lt, swap-bytes (x (m .rs1)) 16 (valueAt base mem (x (m .rs1)) 16) (pairAt x (m .rd)) (pairAt x (m .rs2))))
+        (pair-lt (m .rd) old (value-lt base mem bytes a 16), (next-lt, swap-bytes a 16 old (pairAt x (m .rd)) (pairAt x (m .rs2))))
     fits-atomic covered (Rmw op) m x = fits-checked 6 7 _ _ base (length mem) _ (extends (m .width) _, (next-lt, bytes-toLe (bytesOf (m .width)) _))
 
     fits-execute : (covered : ℕ → ℕ → Bool) (i : Instr) → Imms i → (word : ℕ) (x : ℕ → ℕ) → Fits 64 (execute 64 i word x pc base mem covered)

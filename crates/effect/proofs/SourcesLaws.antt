@@ -11,7 +11,8 @@ use Rattle.isa.specs.declared.Atomic.{Atomic}
 use Rattle.effect.specs.Atomic.{execSc, execAmo, execCas, execCasPair}
 use Rattle.effect.specs.Execute.{pairAt, atomicBy, execAtomic}
 
-module _ (xlen : ℕ) (m : Atomic) (x : ℕ → ℕ) (pc base : ℕ) (mem : List ℕ) (covered : ℕ → ℕ → Bool) (v : ℕ) (same : m .rd ≡ m .rs2) (before : x (m .rd) ≡ v) where
+module _ (xlen : ℕ) (m : Atomic) (x : ℕ → ℕ) (pc base : ℕ) (mem : List ℕ) (covered : ℕ → ℕ → Bool)
+    (v : ℕ) (same : m .rd ≡ m .rs2) (before : x (m .rd) ≡ v) where
   source : x (m .rs2) ≡ v
   source = ap x (sym same) ∙ before
 

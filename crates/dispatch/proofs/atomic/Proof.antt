@@ -61,35 +61,51 @@ same-length c = search needs
 
 returns : tie.Need-returns
 unfolding execAtomic
-returns c = rw (c .before .before .enum-told .given .1, ← c .before .before .before .before .reg .ensures) (record { answer = c .lr .ensures; memory = sym (memoryBy-lr _ _ 64 _ _ _ _) })
+returns c =
+    rw (c .before .before .enum-told .given .1, ← c .before .before .before .before .reg .ensures)
+    (record { answer = c .lr .ensures; memory = sym (memoryBy-lr _ _ 64 _ _ _ _) })
 
 same-length-2 : tie.Need-same-length-2
 same-length-2 c = search needs
 
 returns-2 : tie.Need-returns-2
 unfolding execAtomic
-returns-2 c = rw (c .before .before .before .before .before .enum-told2 .given .1, ← c .before .before .before .before .before .before .before .reg .ensures, ← c .before .before .before .before .reg2 .ensures) (c .before .before .sc .ensures)
+returns-2 c =
+    let read = c .before .before .before .before in
+    let told = read .before in
+    rw (told .enum-told2 .given .1, ← told .before .before .reg .ensures, ← read .reg2 .ensures) (c .before .before .sc .ensures)
 
 same-length-3 : tie.Need-same-length-3
 same-length-3 c = search needs
 
 returns-3 : tie.Need-returns-3
 unfolding execAtomic
-returns-3 c = rw (c .before .before .before .before .before .before .enum-told3 .given .1, ← c .before .before .before .before .before .before .before .before .reg .ensures, ← c .before .before .before .before .before .reg3 .ensures, ← c .before .before .before .before .reg4 .ensures) (c .before .before .cas .ensures)
+returns-3 c =
+    let read = c .before .before .before .before in
+    let told = read .before .before in
+    rw (told .enum-told3 .given .1, ← told .before .before .reg .ensures, ← read .before .reg3 .ensures, ← read .reg4 .ensures)
+    (c .before .before .cas .ensures)
 
 same-length-4 : tie.Need-same-length-4
 same-length-4 c = search needs
 
 returns-4 : tie.Need-returns-4
 unfolding execAtomic
-returns-4 c = rw (c .before .before .before .before .before .before .enum-told4 .given .1, ← c .before .before .before .before .before .before .before .before .reg .ensures, ← c .before .before .before .before .before .reg-pair .ensures, ← c .before .before .before .before .reg-pair2 .ensures) (c .before .before .cas-pair .ensures)
+returns-4 c =
+    let read = c .before .before .before .before in
+    let told = read .before .before in
+    rw (told .enum-told4 .given .1, ← told .before .before .reg .ensures, ← read .before .reg-pair .ensures, ← read .reg-pair2 .ensures)
+    (c .before .before .cas-pair .ensures)
 
 same-length-5 : tie.Need-same-length-5
 same-length-5 c = search needs
 
 returns-5 : tie.Need-returns-5
 unfolding execAtomic
-returns-5 c = rw (c .before .before .before .before .before .before .op .given .1, ← c .before .before .before .before .before .before .before .before .reg .ensures, ← c .before .before .before .before .reg5 .ensures) (c .before .before .amo .ensures)
+returns-5 c =
+    let read = c .before .before .before .before in
+    let told = read .before .before in
+    rw (told .op .given .1, ← told .before .before .reg .ensures, ← read .reg5 .ensures) (c .before .before .amo .ensures)
 
 pub atomic-spec : {M : Type 1} → statement M
 atomic-spec =

@@ -149,7 +149,8 @@ returns-3 c = rw (c .before .before .before .i2 .given .1, ← c .before .plus .
 returns-4 : tie.Need-returns-4
 unfolding execute
 returns-4 c =
-    rw (c .before .before .before .i3 .given .1, ← c .before .plus2 .ensures) (record { answer = c .jump .ensures _; memory = sym (memoryBy-jump _ _ 64 _ _ _) })
+    rw (c .before .before .before .i3 .given .1, ← c .before .plus2 .ensures)
+    (record { answer = c .jump .ensures _; memory = sym (memoryBy-jump _ _ 64 _ _ _) })
 
 returns-5 : tie.Need-returns-5
 unfolding execute
@@ -160,7 +161,8 @@ returns-5 c =
 returns-6 : tie.Need-returns-6
 unfolding execute
 returns-6 c =
-    rw (c .before .before .before .i5 .given .1, ← c .before .plus4 .ensures) (record { answer = c .branch .ensures; memory = sym (memoryBy-branch _ _ 64 _ _ _) })
+    rw (c .before .before .before .i5 .given .1, ← c .before .plus4 .ensures)
+    (record { answer = c .branch .ensures; memory = sym (memoryBy-branch _ _ 64 _ _ _) })
 
 same-length : tie.Need-same-length
 same-length c = search needs
@@ -189,12 +191,14 @@ returns-10 c = rw (c .before .before .before .i9 .given .1, ← c .before .reg4 
 returns-11 : tie.Need-returns-11
 unfolding execute
 returns-11 c =
-    rw (c .before .before .before .before .i10 .given .1, ← c .before .before .reg5 .ensures, ← c .before .reg6 .ensures) (record { answer = c .compute3 .ensures 0; memory = refl })
+    rw (c .before .before .before .before .i10 .given .1, ← c .before .before .reg5 .ensures, ← c .before .reg6 .ensures)
+    (record { answer = c .compute3 .ensures 0; memory = refl })
 
 returns-12 : tie.Need-returns-12
 unfolding execute
 returns-12 c =
-    rw (c .before .before .before .before .i11 .given .1, ← c .before .before .reg7 .ensures, ← c .before .reg8 .ensures) (record { answer = c .compute4 .ensures 0; memory = refl })
+    rw (c .before .before .before .before .i11 .given .1, ← c .before .before .reg7 .ensures, ← c .before .reg8 .ensures)
+    (record { answer = c .compute4 .ensures 0; memory = refl })
 
 returns-13 : tie.Need-returns-13
 unfolding execute

@@ -18,7 +18,9 @@ same-length : tie.Need-same-length
 same-length c = search needs
 
 returns : tie.Need-returns
-returns c = rw (← c .before .before .before .before .before .before .reg .ensures, ← c .before .before .before .before .before .plus .ensures, ← c .before .before .before .before .reg2 .ensures) (c .before .before .store .ensures)
+returns c =
+    let read = c .before .before .before .before in
+    rw (← read .before .before .reg .ensures, ← read .before .plus .ensures, ← read .reg2 .ensures) (c .before .before .store .ensures)
 
 pub store-spec : {M : Type 1} → statement M
 store-spec =

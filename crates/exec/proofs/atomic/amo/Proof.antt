@@ -25,12 +25,15 @@ wrap-requires : tie.Need-wrap-requires
 wrap-requires c κs = search needs
 
 sub-modify-at : tie.Need-sub-modify-at
-sub-modify-at c = let i = room 6 7 _ _ _ _ _ (c .before .before .before .fault .ensures) (omega arith) (omega arith) (c .before .before .if1 .left) in omega arith
+sub-modify-at c =
+    let i = room 6 7 _ _ _ _ _ (c .before .before .before .fault .ensures) (omega arith) (omega arith) (c .before .before .if1 .left) in
+    omega arith
 
 modify-at-requires : tie.Need-modify-at-requires
 modify-at-requires c κs =
     let i = room 6 7 _ _ _ _ _ (c .before .before .before .fault .ensures) (omega arith) (omega arith) (c .before .before .if1 .left) in
-    (rw (← c .before .before .before .before .before .bytes-of .ensures .0) (omega arith), rw (← c .before .before .before .before .bits-of .ensures .0, c .before .wrap .ensures) (low-lt _ _))
+    let n = c .before .before .before .before .before .bytes-of .ensures .0 in
+    (rw (← n) (omega arith), rw (← c .before .before .before .before .bits-of .ensures .0, c .before .wrap .ensures) (low-lt _ _))
 
 sign-extend-requires : tie.Need-sign-extend-requires
 sign-extend-requires c κs = search needs

@@ -25,7 +25,9 @@ wrap-requires : tie.Need-wrap-requires
 wrap-requires c κs = search needs
 
 sub-compare-swap-at : tie.Need-sub-compare-swap-at
-sub-compare-swap-at c = let i = room 6 7 _ _ _ _ _ (c .before .before .before .fault .ensures) (omega arith) (omega arith) (c .before .before .if1 .left) in omega arith
+sub-compare-swap-at c =
+    let i = room 6 7 _ _ _ _ _ (c .before .before .before .fault .ensures) (omega arith) (omega arith) (c .before .before .if1 .left) in
+    omega arith
 
 compare-swap-at-requires : tie.Need-compare-swap-at-requires
 compare-swap-at-requires c κs =

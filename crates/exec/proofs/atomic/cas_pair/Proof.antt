@@ -15,10 +15,14 @@ unfolding execCasPair
 returns c = met-trap 6 7 _ _ _ _ _ (c .before .fault .ensures) _ (c .if1 .taken)
 
 sub-compare-swap-pair-at : tie.Need-sub-compare-swap-pair-at
-sub-compare-swap-pair-at c = let i = room 6 7 _ _ _ _ _ (c .before .before .fault .ensures) (omega arith) (omega arith) (c .before .if1 .left) in omega arith
+sub-compare-swap-pair-at c =
+    let i = room 6 7 _ _ _ _ _ (c .before .before .fault .ensures) (omega arith) (omega arith) (c .before .if1 .left) in
+    omega arith
 
 compare-swap-pair-at-requires : tie.Need-compare-swap-pair-at-requires
-compare-swap-pair-at-requires c κs = let i = room 6 7 _ _ _ _ _ (c .before .before .fault .ensures) (omega arith) (omega arith) (c .before .if1 .left) in omega arith
+compare-swap-pair-at-requires c κs =
+    let i = room 6 7 _ _ _ _ _ (c .before .before .fault .ensures) (omega arith) (omega arith) (c .before .if1 .left) in
+    omega arith
 
 same-requires : tie.Need-same-requires
 same-requires c κs = search needs
@@ -37,7 +41,8 @@ unfolding execCasPair valueAt
 returns-2 c =
     let x = c .before .before .before .before .before .before .before .before .before .before .args in
     let swap = c .before .before .before .before .before .compare-swap-pair-at in
-    met-done 6 7 _ _ _ _ _ (c .before .before .before .before .before .before .before .before .fault .ensures) _ (c .before .before .before .before .before .before .before .if1 .left)
+    let tested = c .before .before .before .before .before .before .before in
+    met-done 6 7 _ _ _ _ _ (tested .before .fault .ensures) _ (tested .if1 .left)
     (met-swap _ _ _ _ 16 (valueAt (x .base) (x .mem .now) (x .a) 16) (joined (x .want)) (joined (x .new)) (x .base) (x .mem .now) _ _
     (rw (← swap .ensures .0, ← c .before .before .same .ensures, ← c .before .swap-notice .ensures) (c .retire-pair .ensures))
     (swap .ensures .1))

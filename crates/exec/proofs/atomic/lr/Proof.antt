@@ -38,8 +38,14 @@ retire-requires c κs = search needs
 returns-2 : tie.Need-returns-2
 unfolding execLr valueAt
 returns-2 c =
-    rw (← c .before .before .before .before .before .before .bytes-of .ensures .0, ← c .before .before .bits-of .ensures .0, ← c .before .before .before .load-at .ensures, ← c .before .sign-extend .ensures)
-    (c .retire .ensures ∙ ap (doneOf _) (passed 4 5 _ _ _ _ _ (c .before .before .before .before .before .fault .ensures) _ (c .before .before .before .before .if1 .left)))
+    let tested = c .before .before .before .before in
+    rw (
+      ← tested .before .before .bytes-of .ensures .0,
+      ← c .before .before .bits-of .ensures .0,
+      ← c .before .before .before .load-at .ensures,
+      ← c .before .sign-extend .ensures,
+    )
+    (c .retire .ensures ∙ ap (doneOf _) (passed 4 5 _ _ _ _ _ (tested .before .fault .ensures) _ (tested .if1 .left)))
 
 pub lr-spec : {M : Type 1} → statement M
 lr-spec =

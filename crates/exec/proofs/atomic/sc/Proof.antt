@@ -21,10 +21,14 @@ covers-requires : tie.Need-covers-requires
 covers-requires c κs = search needs
 
 sub-store-at : tie.Need-sub-store-at
-sub-store-at c = let i = c .before .before .before .before .before .before .pre _ _ (sym (c .before .before .covers .ensures) ∙ c .before .if2 .taken) in omega arith
+sub-store-at c =
+    let i = c .before .before .before .before .before .before .pre _ _ (sym (c .before .before .covers .ensures) ∙ c .before .if2 .taken) in
+    omega arith
 
 store-at-requires : tie.Need-store-at-requires
-store-at-requires c κs = let i = c .before .before .before .before .before .before .pre _ _ (sym (c .before .before .covers .ensures) ∙ c .before .if2 .taken) in omega arith
+store-at-requires c κs =
+    let i = c .before .before .before .before .before .before .pre _ _ (sym (c .before .before .covers .ensures) ∙ c .before .if2 .taken) in
+    omega arith
 
 retire-requires : tie.Need-retire-requires
 retire-requires c κs = search needs
@@ -35,7 +39,9 @@ same-length c = search needs
 returns-2 : tie.Need-returns-2
 unfolding execSc
 returns-2 c =
-    rw (← c .before .before .before .before .before .before .before .before .bytes-of .ensures .0, eq-eqb _ _ (c .before .before .before .before .before .before .before .if1 .left), sym (c .before .before .before .before .before .before .covers .ensures) ∙ c .before .before .before .before .before .if2 .taken)
+    let tested = c .before .before .before .before .before .before .before in
+    let covered = c .before .before .before .before .before in
+    rw (← tested .before .bytes-of .ensures .0, eq-eqb _ _ (tested .if1 .left), sym (covered .before .covers .ensures) ∙ covered .if2 .taken)
     (record { answer = rw length-toLe (c .retire .ensures); memory = c .before .before .before .store-at .ensures })
 
 retire-requires-2 : tie.Need-retire-requires-2
@@ -44,7 +50,8 @@ retire-requires-2 c κs = search needs
 returns-3 : tie.Need-returns-3
 unfolding execSc
 returns-3 c =
-    rw (← c .before .before .before .before .bytes-of .ensures .0, eq-eqb _ _ (c .before .before .before .if1 .left), sym (c .before .before .covers .ensures) ∙ c .before .if2 .left)
+    let tested = c .before .before .before in
+    rw (← tested .before .bytes-of .ensures .0, eq-eqb _ _ (tested .if1 .left), sym (c .before .before .covers .ensures) ∙ c .before .if2 .left)
     (record { answer = c .retire2 .ensures; memory = refl })
 
 pub sc-spec : {M : Type 1} → statement M

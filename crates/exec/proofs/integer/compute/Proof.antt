@@ -21,7 +21,10 @@ retire-requires c κs = search needs
 
 returns : tie.Need-returns
 unfolding computed
-returns c = λ h. rw (← c .before .before .before .before .wrap .ensures, ← c .before .before .before .wrap2 .ensures, ← c .before .before .operate .ensures, ← c .before .sign-extend .ensures) (c .retire .ensures)
+returns c =
+    let done = c .before .before in
+    λ h. rw (← done .before .before .wrap .ensures, ← done .before .wrap2 .ensures, ← done .operate .ensures, ← c .before .sign-extend .ensures)
+    (c .retire .ensures)
 
 pub compute-spec : {M : Type 1} → statement M
 compute-spec =
