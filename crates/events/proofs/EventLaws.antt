@@ -15,7 +15,8 @@ module _ (count base len : ℕ) (body : List ℕ) where
   firstBad-none zero at h = refl
   firstBad-none (suc n) at h = absurd (omega arith)
 
-  pub firstBad-good : (n at : ℕ) → 0 < n → goodEvent count base len (part body at 24) ≡ true → firstBad count base len body n at ≡ firstBad count base len body (n - 1) (at + 24)
+  pub firstBad-good : (n at : ℕ) → 0 < n → goodEvent count base len (part body at 24) ≡ true
+      → firstBad count base len body n at ≡ firstBad count base len body (n - 1) (at + 24)
   unfolding firstBad
   firstBad-good zero at h e = absurd (omega arith)
   firstBad-good (suc n) at h e =

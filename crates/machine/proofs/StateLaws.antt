@@ -57,7 +57,9 @@ module _ (base len : ℕ) where
           let p = and-both (eqb (getD (s .x) (k * 32) 0) 0) _ e in
           let q = and-both (eqb (getD (s .pc) k 0 % 4) 0) _ (p .1) in
           (eqb-true _ _ (p .0), eqb-true _ _ (q .0), reservation-exact (getD (s .res) k (slot None) .reservation) .0 (q .1)),
-      λ r. rw (eq-eqb (getD (s .x) (k * 32) 0) 0 (r .0), eq-eqb (getD (s .pc) k 0 % 4) 0 (r .1), reservation-exact (getD (s .res) k (slot None) .reservation) .1 (r .2)),
+      λ r.
+          let held = reservation-exact (getD (s .res) k (slot None) .reservation) .1 (r .2) in
+          rw (eq-eqb (getD (s .x) (k * 32) 0) 0 (r .0), eq-eqb (getD (s .pc) k 0 % 4) 0 (r .1), held),
     )
 
     pub state-exact : (stateOk base len s ≡ true) ↔ StateRules base len s
@@ -87,7 +89,10 @@ module _ (base len : ℕ) where
 
     pub refusal-1 : (refusalOf base len s ≡ 1) ↔ (MemoryRules base len → ⊥)
     unfolding refusalOf
-    refusal-1 = (λ e r. absurd (go (stateOk base len s) (memory-exact .1 r) e), λ n. bool-cases (memoryOk base len) (λ t. absurd (n (memory-exact .0 t))) (λ f. rw f))
+    refusal-1 = (
+      λ e r. absurd (go (stateOk base len s) (memory-exact .1 r) e),
+      λ n. bool-cases (memoryOk base len) (λ t. absurd (n (memory-exact .0 t))) (λ f. rw f),
+    )
       where
         go : (t : Bool) → memoryOk base len ≡ true → _≡_ {A = ℕ} (cond (memoryOk base len) (cond t 0 2) 1) 1 → ⊥
         go true m e = let z : _≡_ {A = ℕ} 0 1 = rw m at e in omega arith

@@ -22,10 +22,13 @@ Inv-loop body count base len at₀ at =
 abbrev μ-loop : tie.MeasureT-loop
 μ-loop body count base len at₀ at = length body - at
 
--- what the call said of the event at the loop's place
-seen : (c : tie.After-good-event Inv-loop μ-loop) (t : Bool) → c .good-event .result ≡ t
-    → goodEvent (c .before .before .before .before .before .before .args .count) (c .before .before .before .before .before .before .args .base) (c .before .before .before .before .before .before .args .len)
-    (part (c .before .before .before .before .before .before .args .body .now) (c .before .before .before .loop .at) 24) ≡ t
+-- whether the event at the loop's place is good, and what the call said of it
+abbrev good : (c : tie.After-good-event Inv-loop μ-loop) → Bool
+good c =
+    let x = c .before .before .before .before .before .before .args in
+    goodEvent (x .count) (x .base) (x .len) (part (x .body .now) (c .before .before .before .loop .at) 24)
+
+seen : (c : tie.After-good-event Inv-loop μ-loop) (t : Bool) → c .good-event .result ≡ t → good c ≡ t
 seen c t e =
     let x = c .before .before .before .before .before .before .args in
     ap (goodEvent (x .count) (x .base) (x .len)) (sym (lent-part (x .body .now) (c .before .before .before .loop .at) 24)) ∙ sym (c .good-event .ensures) ∙ e
@@ -59,7 +62,8 @@ returns-2 : tie.Need-returns-2 Inv-loop μ-loop
 returns-2 c =
     let x = c .before .before .before .before .before .before .before .args in
     let p = c .before .before .before .before .loop in
-    (sym (p .inv .2 ∙ firstBad-bad (x .count) (x .base) (x .len) (x .body .now) _ (p .at) (omega arith) (seen (c .before) false (not-true _ (c .if2 .taken)))), omega arith)
+    let bad = seen (c .before) false (not-true _ (c .if2 .taken)) in
+    (sym (p .inv .2 ∙ firstBad-bad (x .count) (x .base) (x .len) (x .body .now) _ (p .at) (omega arith) bad), omega arith)
 
 add-at : tie.Need-add-at Inv-loop μ-loop
 add-at c = omega arith

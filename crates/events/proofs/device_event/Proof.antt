@@ -29,7 +29,9 @@ above-requires c κs = search needs
 
 returns : tie.Need-returns
 unfolding deviceEvent
-returns c = rw (c .above .ensures, c .before .before .inside .ensures, c .before .before .before .load-at .ensures, c .before .before .before .before .wide .ensures)
+returns c =
+    let read = c .before .before .before in
+    rw (c .above .ensures, c .before .before .inside .ensures, read .load-at .ensures, read .before .wide .ensures)
 
 pub device-event-spec : {M : Type 1} → statement M
 device-event-spec =

@@ -39,7 +39,9 @@ hart-event-requires c κs = search needs
 
 returns-3 : tie.Need-returns-3
 unfolding goodEvent
-returns-3 c = rw (zeros (c .before .before .before .before), ne-eqb _ _ (c .before .before .if2 .left), eq-eqb _ _ (c .before .if3 .taken)) (c .hart-event .ensures)
+returns-3 c =
+    let tested = c .before .before in
+    rw (zeros (tested .before .before), ne-eqb _ _ (tested .if2 .left), eq-eqb _ _ (c .before .if3 .taken)) (c .hart-event .ensures)
 
 hart-event-requires-2 : tie.Need-hart-event-requires-2
 hart-event-requires-2 c κs = search needs
@@ -47,11 +49,15 @@ hart-event-requires-2 c κs = search needs
 returns-4 : tie.Need-returns-4
 unfolding goodEvent
 returns-4 c =
-    rw (zeros (c .before .before .before .before .before), ne-eqb _ _ (c .before .before .before .if2 .left), ne-eqb _ _ (c .before .before .if3 .left), eq-eqb _ _ (c .before .if4 .taken)) (c .hart-event2 .ensures)
+    let tested = c .before .before .before in
+    rw (zeros (tested .before .before), ne-eqb _ _ (tested .if2 .left), ne-eqb _ _ (c .before .before .if3 .left), eq-eqb _ _ (c .before .if4 .taken))
+    (c .hart-event2 .ensures)
 
 returns-5 : tie.Need-returns-5
 unfolding goodEvent
-returns-5 c = rw (zeros (c .before .before .before .before), ne-eqb _ _ (c .before .before .if2 .left), ne-eqb _ _ (c .before .if3 .left), ne-eqb _ _ (c .if4 .left))
+returns-5 c =
+    let tested = c .before .before in
+    rw (zeros (tested .before .before), ne-eqb _ _ (tested .if2 .left), ne-eqb _ _ (c .before .if3 .left), ne-eqb _ _ (c .if4 .left))
 
 pub good-event-spec : {M : Type 1} → statement M
 good-event-spec =

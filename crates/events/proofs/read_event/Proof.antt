@@ -36,7 +36,15 @@ load-at-requires-2 c κs = search needs
 
 returns-2 : tie.Need-returns-2
 unfolding eventOf
-returns-2 c = rw (ne-eqb _ _ (c .before .before .before .before .before .if1 .left), eq-eqb _ _ (c .before .before .before .before .if2 .taken), c .load-at2 .ensures, c .before .wide2 .ensures, c .before .before .before .load-at .ensures)
+returns-2 c =
+    let tested = c .before .before .before .before in
+    rw (
+      ne-eqb _ _ (tested .before .if1 .left),
+      eq-eqb _ _ (tested .if2 .taken),
+      c .load-at2 .ensures,
+      c .before .wide2 .ensures,
+      c .before .before .before .load-at .ensures,
+    )
 
 returns-3 : tie.Need-returns-3
 unfolding eventOf

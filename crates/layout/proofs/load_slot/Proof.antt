@@ -26,7 +26,9 @@ load-at-requires-3 c κs = search needs
 
 returns-2 : tie.Need-returns-2
 unfolding reservationAt
-returns-2 c = rw (← c .before .before .before .load-at .ensures, ne-eqb _ _ (c .before .before .if1 .left), ← c .before .load-at2 .ensures, ← c .load-at3 .ensures)
+returns-2 c =
+    let tested = c .before .before in
+    rw (← tested .before .load-at .ensures, ne-eqb _ _ (tested .if1 .left), ← c .before .load-at2 .ensures, ← c .load-at3 .ensures)
 
 pub load-slot-spec : {M : Type 1} → statement M
 load-slot-spec =

@@ -46,16 +46,18 @@ loop-less c = search needs
 loop-again : tie.Need-loop-again Inv-loop μ-loop
 loop-again c =
     let b = c .before .before .before .before .args .bytes .now in
-    let k = c .before .before .loop .k in (
+    let k = c .before .before .loop .k in
+    let none = replicate 8 (slot None) in (
       search needs,
       rw (c .load-slot .ensures, c .before .before .loop .inv .1, add-one)
-          (sym (each-suc (λ h _. slot (reservationAt b (2120 + 24 * h))) k (replicate 8 (slot None)) (slot None) (omega (arith, length-replicate 8 (slot None))))),
+          (sym (each-suc (λ h _. slot (reservationAt b (2120 + 24 * h))) k none (slot None) (omega (arith, length-replicate 8 (slot None))))),
     )
 
 returns : tie.Need-returns Inv-loop μ-loop
 returns c =
+    let b = c .before .before .before .args .bytes .now in
     let e : c .before .loop .k ≡ 8 = omega arith in
-    c .before .loop .inv .1 ∙ rw e (each-table (λ h. slot (reservationAt (c .before .before .before .args .bytes .now) (2120 + 24 * h))) (replicate 8 (slot None)))
+    c .before .loop .inv .1 ∙ rw e (each-table (λ h. slot (reservationAt b (2120 + 24 * h))) (replicate 8 (slot None)))
 
 pub load-slots-spec : {M : Type 1} → statement M
 load-slots-spec =

@@ -17,7 +17,10 @@ same-length c = search needs
 
 returns : tie.Need-returns
 unfolding stateOver
-returns c = rw (c .before .before .store-slots .ensures, c .before .before .before .before .before .before .store-pcs .ensures, c .before .before .before .before .before .before .before .before .before .before .store-registers .ensures)
+returns c =
+    let slots = c .before .before in
+    let pcs = slots .before .before .before .before in
+    rw (slots .store-slots .ensures, pcs .store-pcs .ensures, pcs .before .before .before .before .store-registers .ensures)
 
 pub write-state-spec : {M : Type 1} → statement M
 write-state-spec =

@@ -1,3 +1,4 @@
+use Rattle.machine.specs.declared.State.{State}
 use borrow.Author.Needs.{needs}
 use mathlib.Core.Bool.{true}
 use mathlib.Core.Path.{_≡_, sym, _∙_}
@@ -50,7 +51,8 @@ hart-ok-requires c κs = search needs
 returns : tie.Need-returns Inv-loop μ-loop
 returns c =
     let a = c .before .before .before .before .before .before .before .args in
-    sym (all-fails (hartAt (a .base) (a .len) (record { count = a .count; x = a .x .now; pc = a .pc .now; res = a .t6 })) (c .before .before .before .before .before .before .loop .k) (a .count) (omega arith)
+    let s : State = record { count = a .count; x = a .x .now; pc = a .pc .now; res = a .t6 } in
+    sym (all-fails (hartAt (a .base) (a .len) s) (c .before .before .before .before .before .before .loop .k) (a .count) (omega arith)
     (sym (c .before .hart-ok .ensures) ∙ not-true _ (c .if1 .taken)))
 
 add-k : tie.Need-add-k Inv-loop μ-loop
@@ -61,10 +63,11 @@ loop-less c = search needs
 
 loop-again : tie.Need-loop-again Inv-loop μ-loop
 loop-again c =
-    let a = c .before .before .before .before .before .before .before .args in (
+    let turn = c .before .before .before .before .before .before in
+    let a = turn .before .args in
+    let s : State = record { count = a .count; x = a .x .now; pc = a .pc .now; res = a .t6 } in (
       search needs,
-      all-more (hartAt (a .base) (a .len) (record { count = a .count; x = a .x .now; pc = a .pc .now; res = a .t6 })) (c .before .before .before .before .before .before .loop .k) (c .before .before .before .before .before .before .loop .inv .1)
-          (sym (c .before .hart-ok .ensures) ∙ not-false _ (c .if1 .left)),
+      all-more (hartAt (a .base) (a .len) s) (turn .loop .k) (turn .loop .inv .1) (sym (c .before .hart-ok .ensures) ∙ not-false _ (c .if1 .left)),
     )
 
 returns-2 : tie.Need-returns-2 Inv-loop μ-loop

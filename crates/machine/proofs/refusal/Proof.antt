@@ -28,7 +28,11 @@ returns-2 c =
 returns-3 : tie.Need-returns-3
 unfolding refusalOf stateOk
 returns-3 c =
-    rw (sym (c .before .before .before .memory-ok .ensures) ∙ not-false _ (c .before .before .if1 .left), le-leb 1 (c .before .before .before .before .args .count) (omega arith), lt-leb _ _ (c .if3 .taken))
+    rw (
+      sym (c .before .before .before .memory-ok .ensures) ∙ not-false _ (c .before .before .if1 .left),
+      le-leb 1 (c .before .before .before .before .args .count) (omega arith),
+      lt-leb _ _ (c .if3 .taken),
+    )
 
 harts-ok-requires : tie.Need-harts-ok-requires
 harts-ok-requires c κs = search needs
