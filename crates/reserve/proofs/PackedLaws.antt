@@ -43,7 +43,8 @@ changed t u h r small here other =
     let q : k ≡ h = eqb-true k h e in
     slot-at u k low
     ∙ ap slot (ap (reservationIn u) q ∙ here)
-    ∙ sym (ap (λ (i : ℕ). getD (set (slotsIn t) h (slot r)) i (slot None)) q ∙ getD-set-same (slotsIn t) h (slot r) (slot None) (omega (arith, slots-length t, small))))
+    ∙ sym (ap (λ (i : ℕ). getD (set (slotsIn t) h (slot r)) i (slot None)) q
+    ∙ getD-set-same (slotsIn t) h (slot r) (slot None) (omega (arith, slots-length t, small))))
     (λ e.
     let ne : k ≡ h → ⊥ = eqb-false k h e in
     slot-at u k low ∙ ap slot (other k low ne) ∙ sym (getD-set-other (slotsIn t) h k (slot r) (slot None) ne ∙ slot-at t k low)))
@@ -91,7 +92,11 @@ module _ (t : List ℕ) (h a w : ℕ) where
   held long small =
       changed t three h (Held a w) small (rw (held-at long small, address-at long small, width-at long small) refl)
       (λ k low ne.
-      rw (far k ne (λ q. omega arith) (λ q. omega arith), far (8 + k) (λ q. omega arith) (λ q. ne (omega arith)) (λ q. omega arith), far (16 + k) (λ q. omega arith) (λ q. omega arith) (λ q. ne (omega arith)))
+      rw (
+        far k ne (λ q. omega arith) (λ q. omega arith),
+        far (8 + k) (λ q. omega arith) (λ q. ne (omega arith)) (λ q. omega arith),
+        far (16 + k) (λ q. omega arith) (λ q. omega arith) (λ q. ne (omega arith)),
+      )
       refl)
 
 -- a list made of the elements of another

@@ -53,7 +53,10 @@ fn replace(t: &mut [u64; 24], count: usize, h: usize, r: Reservation)
 // Breaks hart k's reservation if the notice does, and tells so.
 fn break_one(t: &mut [u64; 24], size: u64, k: usize, n: Notice) -> bool
     requires { ⌜ (0 < size) × (k < 8) ⌝ }
-    ensures { λ _. ⌜ slotsIn (now (t .exit)) ≡ set (slotsIn (now (t .entry))) k (breakSlot size n k (getD (slotsIn (now (t .entry))) k (slot Reservation.None))) ⌝ }
+    ensures { λ _. ⌜
+        slotsIn (now (t .exit))
+        ≡ set (slotsIn (now (t .entry))) k (breakSlot size n k (getD (slotsIn (now (t .entry))) k (slot Reservation.None)))
+        ⌝ }
     ensures { λ b. ⌜ b ≡ breaksOf size k n (getD (slotsIn (now (t .entry))) k (slot Reservation.None) .reservation) ⌝ }
 {
     let b = breaks(size, k, n, reservation(t, k));
@@ -91,7 +94,10 @@ fn break_all(t: &mut [u64; 24], count: usize, size: u64, n: Notice) -> u64
 // What a device write of len bytes at addr does.
 pub fn device_write(t: &mut [u64; 24], count: usize, size: u64, addr: u64, len: u64) -> u64
     requires { ⌜ (0 < size) × (count ≤ 8) ⌝ }
-    ensures { λ b. ⌜ record { slots = slotsIn (now (t .exit)); broken = b } ≡ observeAllOf size count (Notice.DeviceWrite addr len) (slotsIn (now (t .entry))) ⌝ }
+    ensures { λ b. ⌜
+        record { slots = slotsIn (now (t .exit)); broken = b }
+        ≡ observeAllOf size count (Notice.DeviceWrite addr len) (slotsIn (now (t .entry)))
+        ⌝ }
 {
     break_all(t, count, size, Notice::DeviceWrite { addr, len })
 }
@@ -99,7 +105,10 @@ pub fn device_write(t: &mut [u64; 24], count: usize, size: u64, addr: u64, len: 
 // What a yield of hart h does, at any size of the set.
 pub fn release(t: &mut [u64; 24], count: usize, h: usize)
     requires { ⌜ count ≤ 8 ⌝ }
-    ensures { λ _. ⌜ ((size : ℕ) → record { slots = slotsIn (now (t .exit)); broken = 0 } ≡ observeAllOf size count (Notice.Yield h) (slotsIn (now (t .entry)))) ⌝ }
+    ensures { λ _. ⌜
+        ((size : ℕ) → record { slots = slotsIn (now (t .exit)); broken = 0 }
+        ≡ observeAllOf size count (Notice.Yield h) (slotsIn (now (t .entry))))
+        ⌝ }
 {
     replace(t, count, h, Reservation::None);
 }

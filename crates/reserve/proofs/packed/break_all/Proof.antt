@@ -51,11 +51,13 @@ unfolding brokenOf
 loop-again c =
     let a = c .before .before .before .before .before .args in
     let l = slotsIn (a .t .now) in
-    let k = c .before .before .before .before .loop .k in
-    let i = c .before .before .before .before .loop .inv in
+    let turn = c .before .before .before .before .loop in
+    let k = turn .k in
+    let i = turn .inv in
     let one = c .before .break-one .ensures in
     let low : k < length l = omega (arith, slots-length (a .t .now)) in
-    let same : getD (slotsIn (c .before .before .before .before .loop .t)) k (slot None) ≡ getD l k (slot None) = rw (i .1) (each-past (breakSlot (a .size) (a .n)) k k l (slot None) (omega arith)) in (
+    let same : getD (slotsIn (turn .t)) k (slot None) ≡ getD l k (slot None) =
+    rw (i .1) (each-past (breakSlot (a .size) (a .n)) k k l (slot None) (omega arith)) in (
       search needs,
       rw (one .0, same, i .1, add-one) (sym (each-suc (breakSlot (a .size) (a .n)) k l (slot None) low)),
       rw (c .weight .ensures .0, one .1, same, i .2, i .3, add-one),

@@ -54,18 +54,21 @@ returns c = rw (c .enum-told .given .1) (sym (quiet-observed _ _ _))
 
 returns-2 : tie.Need-returns-2
 returns-2 c =
-    let l = slotsIn (c .before .before .before .before .before .args .t .now) in
-    rw (c .before .before .before .n .given .1, c .replace .ensures) (sym (reserved-observed _ _ l _ _ _ (omega (arith, slots-length (c .before .before .before .before .before .args .t .now)))))
+    let t = c .before .before .before .before .before .args .t .now in
+    rw (c .before .before .before .n .given .1, c .replace .ensures)
+    (sym (reserved-observed _ _ (slotsIn t) _ _ _ (omega (arith, slots-length t))))
 
 returns-3 : tie.Need-returns-3
 returns-3 c =
-    let l = slotsIn (c .before .before .before .before .before .before .before .args .t .now) in
-    rw (c .before .before .before .before .before .n2 .given .1, c .replace2 .ensures, c .before .before .break-all .ensures .0, c .before .before .break-all .ensures .1) (sym (done-observed _ _ l _ _ _ (omega (arith, slots-length (c .before .before .before .before .before .before .before .args .t .now)))))
+    let t = c .before .before .before .before .before .before .before .args .t .now in
+    let broke = c .before .before .break-all .ensures in
+    rw (c .before .before .before .before .before .n2 .given .1, c .replace2 .ensures, broke .0, broke .1)
+    (sym (done-observed _ _ (slotsIn t) _ _ _ (omega (arith, slots-length t))))
 
 returns-4 : tie.Need-returns-4
 returns-4 c =
-    let l = slotsIn (c .before .before .before .before .before .args .t .now) in
-    rw (c .before .before .before .n3 .given .1, c .replace3 .ensures) (sym (failed-observed _ _ l _ (omega (arith, slots-length (c .before .before .before .before .before .args .t .now)))))
+    let t = c .before .before .before .before .before .args .t .now in
+    rw (c .before .before .before .n3 .given .1, c .replace3 .ensures) (sym (failed-observed _ _ (slotsIn t) _ (omega (arith, slots-length t))))
 
 returns-5 : tie.Need-returns-5
 returns-5 c = rw (c .break-all2 .ensures .0, c .break-all2 .ensures .1, c .before .before .enum-told2 .given .1) (sym (write-observed _ _ _ _ _ _))

@@ -48,8 +48,11 @@ loop-again c =
     let res = c .before .before .before .before .before .args .t1 in
     let k = c .before .before .before .before .loop .k in
     let i = c .before .before .before .before .loop .inv in
-    let low : k < 8 = omega arith in
-    (search needs, rw (c .replace .ensures, lt-ltb k 8 low, i .1, add-one) (sym (each-suc (λ j s. getD res j (slot None)) k (slotsIn zeros) (slot None) (omega (arith, slots-length zeros)))))
+    let low : k < 8 = omega arith in (
+      search needs,
+      rw (c .replace .ensures, lt-ltb k 8 low, i .1, add-one)
+          (sym (each-suc (λ j s. getD res j (slot None)) k (slotsIn zeros) (slot None) (omega (arith, slots-length zeros)))),
+    )
 
 returns : tie.Need-returns Inv-loop μ-loop
 returns c =

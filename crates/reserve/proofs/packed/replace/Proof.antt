@@ -23,7 +23,9 @@ hold-requires c κs = search needs
 
 returns : tie.Need-returns
 unfolding replaced
-returns c = rw (c .enum-told .given .1, lt-ltb _ _ (c .before .before .if1 .taken)) (dropped (c .before .before .before .args .t .now) (c .before .before .before .args .h) (omega arith))
+returns c =
+    let a = c .before .before .before .args in
+    rw (c .enum-told .given .1, lt-ltb _ _ (c .before .before .if1 .taken)) (dropped (a .t .now) (a .h) (omega arith))
 
 returns-2 : tie.Need-returns-2
 unfolding replaced

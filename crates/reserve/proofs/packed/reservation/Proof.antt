@@ -32,7 +32,9 @@ element-copy-out-t15 : tie.Need-element-copy-out-t15
 element-copy-out-t15 c = search needs
 
 returns-2 : tie.Need-returns-2
-returns-2 c = rw (slot-at (c .before .before .before .before .args .t .now) (c .before .before .before .before .args .k) (c .before .before .before .before .pre), ne-eqb _ _ (c .before .before .if1 .left))
+returns-2 c =
+    let begun = c .before .before .before .before in
+    rw (slot-at (begun .args .t .now) (begun .args .k) (begun .pre), ne-eqb _ _ (c .before .before .if1 .left))
 
 pub reservation-spec : {M : Type 1} → statement M
 reservation-spec =

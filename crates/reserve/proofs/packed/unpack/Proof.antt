@@ -29,7 +29,17 @@ reservation-requires-8 c κs = search needs
 
 returns : tie.Need-returns
 unfolding slotsIn
-returns c = rw (c .reservation8 .ensures, c .before .reservation7 .ensures, c .before .before .reservation6 .ensures, c .before .before .before .reservation5 .ensures, c .before .before .before .before .reservation4 .ensures, c .before .before .before .before .before .reservation3 .ensures, c .before .before .before .before .before .before .reservation2 .ensures, c .before .before .before .before .before .before .before .reservation .ensures)
+returns c =
+    rw (
+      c .reservation8 .ensures,
+      c .before .reservation7 .ensures,
+      c .before .before .reservation6 .ensures,
+      c .before .before .before .reservation5 .ensures,
+      c .before .before .before .before .reservation4 .ensures,
+      c .before .before .before .before .before .reservation3 .ensures,
+      c .before .before .before .before .before .before .reservation2 .ensures,
+      c .before .before .before .before .before .before .before .reservation .ensures,
+    )
 
 pub unpack-spec : {M : Type 1} → statement M
 unpack-spec =
