@@ -85,7 +85,10 @@ pub fn modify_at(mem: &mut [u8], at: usize, op: AmoOp, w: Width, operand: u64) -
     requires { ⌜ at + bytesOf w ≤ length (now mem) ⌝ }
     requires { ⌜ operand < 2 ^ bitsOf w ⌝ }
     ensures { λ r. ⌜ r ≡ le (part (now (mem .entry)) at (bytesOf w)) ⌝ }
-    ensures { λ _. ⌜ now (mem .exit) ≡ splice (now (mem .entry)) at (toLe (bytesOf w) (amoOf op (bitsOf w) (le (part (now (mem .entry)) at (bytesOf w))) operand)) ⌝ }
+    ensures { λ _. ⌜
+        now (mem .exit)
+        ≡ splice (now (mem .entry)) at (toLe (bytesOf w) (amoOf op (bitsOf w) (le (part (now (mem .entry)) at (bytesOf w))) operand))
+        ⌝ }
 {
     let n = isa::bytes_of(w);
     modify(&mut mem[at..at + n], op, w, operand)

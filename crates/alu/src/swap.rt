@@ -82,7 +82,10 @@ pub fn compare_swap_pair(bytes: &mut [u8], want: Pair, new: Pair) -> Pair
 pub fn compare_swap_pair_at(mem: &mut [u8], at: usize, want: Pair, new: Pair) -> Pair
     requires { ⌜ at + 16 ≤ length (now mem) ⌝ }
     ensures { λ r. ⌜ joined r ≡ le (part (now (mem .entry)) at 16) ⌝ }
-    ensures { λ _. ⌜ now (mem .exit) ≡ cond (eqb (le (part (now (mem .entry)) at 16)) (joined want)) (splice (now (mem .entry)) at (toLe 16 (joined new))) (now (mem .entry)) ⌝ }
+    ensures { λ _. ⌜
+        now (mem .exit)
+        ≡ cond (eqb (le (part (now (mem .entry)) at 16)) (joined want)) (splice (now (mem .entry)) at (toLe 16 (joined new))) (now (mem .entry))
+        ⌝ }
 {
     let end = at + 16;
     compare_swap_pair(&mut mem[at..end], want, new)

@@ -9,7 +9,7 @@ use lib.ListN.{length}
 use lib.Dec.{ltb, leb}
 use borrow.Author.Tests.{ltb-true, ltb-false, leb-true, leb-false, le-leb, ne-eqb}
 use Rattle.word.specs.Bytes.{toLe}
-use Rattle.word.proofs.TestLaws.{bool-cases, contrary}
+use Rattle.word.proofs.TestLaws.{bool-cases, contrary, never}
 use Rattle.reserve.specs.Range.{insideOf}
 use Rattle.reserve.proofs.RangeLaws.{inside-of, of-inside}
 use Rattle.machine.specs.State.{memoryOk, stateOk, refusalOf}
@@ -24,9 +24,6 @@ use Rattle.model.specs.Perform.{stepOf, ofExec, deviceOf, actOn, actOf, answerO
 use Rattle.model.specs.declared.Outcome.{Outcome}
 use Rattle.model.specs.declared.Outcome.the-variants as O
 use Rattle.answers.specs.Refusals.{NoHart, BadSize, Beyond, RefusalRow, badMemory, badState, noHart, badSize, beyond, FirstRefusal, Unrefused}
-
-pub never : {P : Type 0} {k n : ℕ} → ltb k n ≡ false → k < n → P
-never {k = k} {n = n} e l = absurd (omega (arith, ltb-false k n e, l))
 
 -- ---- the answers apart
 

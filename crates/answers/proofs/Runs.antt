@@ -6,7 +6,7 @@ use mathlib.Core.List.{List}
 use native.Mathlib.Omega.{arith}
 use lib.ListN.{length, take}
 use borrow.Author.Tests.{ne-eqb}
-use Rattle.word.proofs.TestLaws.{bool-cases, contrary}
+use Rattle.word.proofs.TestLaws.{bool-cases, contrary, never}
 use Rattle.machine.specs.State.{memoryOk, stateOk, refusalOf}
 use Rattle.machine.specs.Rules.{MemoryRules, StateRules}
 use Rattle.machine.specs.declared.State.{State}
@@ -22,7 +22,6 @@ use Rattle.model.specs.Run.{Result, refusedRun, performedRun, performedCount, r
 use Rattle.model.specs.declared.Verdict.{Verdict}
 use Rattle.model.specs.declared.Verdict.the-variants.{Performed, Refused}
 use Rattle.answers.specs.Runs.{RunRow, wrongMemory, wrongState, wrongBody, RunRefused, RunUnrefused}
-use Rattle.answers.proofs.Refused.{never}
 
 -- ---- the verdicts apart
 

@@ -8,7 +8,7 @@ use native.Mathlib.Omega.{arith}
 use lib.ListN.{length}
 use lib.Dec.{eqb}
 use borrow.Author.Tests.{eqb-true, eqb-false}
-use Rattle.word.proofs.TestLaws.{bool-cases, contrary}
+use Rattle.word.proofs.TestLaws.{bool-cases, contrary, never}
 use Rattle.reserve.specs.Range.{Inside, insideOf}
 use Rattle.reserve.proofs.RangeLaws.{inside-of, of-inside}
 use Rattle.isa.specs.Decode.{decodeOf}
@@ -30,7 +30,7 @@ use Rattle.effect.proofs.TrapLaws.{branch-traps, branch-taken, branch-passed, e
 use Rattle.model.specs.Perform.{fetchOf}
 use Rattle.answers.specs.Causes.{Reach, nowhere, jumps, reads, writes, writesIf, reachOf, TrapRow, StepRow, FirstTrap, Untrapped}
 use Rattle.answers.specs.Causes.{unfetched, unknown, called, halted, misalignedTarget, misalignedRead, misalignedWrite, outsideRead, outsideWrite}
-use Rattle.answers.proofs.Refused.{first-same, never}
+use Rattle.answers.proofs.Refused.{first-same}
 
 -- ---- traps apart
 

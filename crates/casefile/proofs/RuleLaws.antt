@@ -10,7 +10,7 @@ use lib.ListN.{length, drop, length-drop}
 use lib.Seq.{take-all}
 use borrow.Author.Tests.{ltb-true, ltb-false, leb-true, eqb-true, eqb-false, eq-eqb, le-ltb, le-leb}
 use Rattle.word.specs.Memory.{part}
-use Rattle.word.proofs.TestLaws.{bool-cases, contrary, and-both}
+use Rattle.word.proofs.TestLaws.{bool-cases, contrary, never, and-both}
 use Rattle.events.specs.Events.{checkedOf}
 use Rattle.events.specs.Rules.{WrongEvents}
 use Rattle.events.specs.declared.Checked.{Checked}
@@ -32,9 +32,6 @@ use Rattle.casefile.proofs.HartsLaws.{harts-exact}
 
 eq-cases : {P : Type 0} (a b : ℕ) → (a ≡ b → eqb a b ≡ true → P) → ((a ≡ b → ⊥) → eqb a b ≡ false → P) → P
 eq-cases a b f g = bool-cases (eqb a b) (λ t. f (eqb-true a b t) t) (λ t. g (eqb-false a b t) t)
-
-never : {P : Type 0} {k n : ℕ} → ltb k n ≡ false → k < n → P
-never {k = k} {n = n} e l = absurd (omega (arith, ltb-false k n e, l))
 
 -- a row that is wrong at a place stands at p or later, if it is right where its place is below p
 from-place : {A : Type 0} (p q k : ℕ) → q ≡ k → (A → ⊥) → (k < p → A) → p ≤ q

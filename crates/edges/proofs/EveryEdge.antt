@@ -4,6 +4,7 @@ use Rattle.word.specs.Bytes.{le, toLe}
 use Rattle.word.specs.Memory.{part, splice}
 use Rattle.word.specs.Word.{low, toInt, ofInt, signExtend}
 use Rattle.word.specs.Each.{allBelow}
+use Rattle.word.proofs.ChooseLaws.{_also_}
 use Rattle.isa.specs.Decode as D
 use Rattle.alu.specs.Alu.{aluOf}
 use Rattle.alu.specs.Amo.{minOf, maxOf, amoOf}
@@ -19,10 +20,6 @@ use Rattle.model.specs.Perform.{fetchOf, deviceOf, actOn, actOf, answerOf, memo
 use Rattle.retry.specs.Loop.{viewOf, pastSc, wrongOffset, clobbers, lowestOf, scanOf, startOf, checkOf}
 use Rattle.edges.specs.Edge.{All}
 use Rattle.edges.specs.Edges.{edges}
-
-infixr 20 _also_
-_also_ : {A B : Type 0} → A → B → A × B
-p also q = (p, q)
 
 pub every-edge : All edges
 unfolding le toLe part splice low toInt ofInt signExtend allBelow

@@ -8,7 +8,7 @@ use borrow.Author.Tests.{eqb-true}
 use lib.Dec.{eqb}
 use Rattle.word.specs.Word.{signExtend}
 use Rattle.word.proofs.WordLaws.{signExtend-lt}
-use Rattle.word.proofs.ChooseLaws.{cond-all, select-rows, select-all}
+use Rattle.word.proofs.ChooseLaws.{cond-all, select-rows, select-all, _also_}
 use Rattle.isa.specs.Fields.{bits, rdOf, rs1Of, rs2Of, funct3Of, funct5Of, funct6Of, funct7Of, immI, immS, immU, lowB, lowJ}
 use Rattle.isa.specs.Decode as D
 use Rattle.isa.specs.Wf.{Regs, Imms, Pairs}
@@ -124,14 +124,16 @@ module _ (P : Instr → Type 0) (w : ℕ)
   unfolding D.atomicOf
   from-atomic =
       select-rows P (funct5Of w) D.atomics (D.of w) Illegal
-      (from-rmw _, (from-rmw _, (from-lr, (from-sized Sc sc, (from-rmw _, (from-cas, (from-rmw _, (from-rmw _, (from-rmw _, (from-rmw _, (from-rmw _, (from-rmw _, tt))))))))))))
+      (from-rmw _ also from-rmw _ also from-lr also from-sized Sc sc also from-rmw _ also from-cas also from-rmw _
+      also from-rmw _ also from-rmw _ also from-rmw _ also from-rmw _ also from-rmw _ also tt)
       illegal
 
   pub decoded : P (D.decodeOf w)
   unfolding D.decodeOf
   decoded =
       select-rows P (D.classOf w) D.decoders (D.of w) Illegal
-      (from-load, (from-misc-mem, (from-op-imm, (auipc, (from-op-imm-32, (from-store, (from-atomic, (from-op, (lui, (from-op-32, (from-branch, (from-jalr, (jal, (from-system, tt))))))))))))))
+      (from-load also from-misc-mem also from-op-imm also auipc also from-op-imm-32 also from-store also from-atomic
+      also from-op also lui also from-op-32 also from-branch also from-jalr also jal also from-system also tt)
       illegal
 
 pub regs-below : (w : ℕ) → Regs (D.decodeOf w)

@@ -22,7 +22,8 @@ use Rattle.isa.specs.declared.Width.{Width}
 use Rattle.isa.specs.declared.Width.the-variants.{Word, Double}
 use Rattle.isa.specs.declared.Atomic.{Atomic}
 use Rattle.isa.specs.declared.Instr.{Instr}
-use Rattle.isa.specs.declared.Instr.the-variants.{Illegal, Lui, Auipc, Jal, Jalr, Branch, Load, Store, OpImm, OpImm32, Op, Op32, Fence, Ecall, Ebreak, Amo}
+use Rattle.isa.specs.declared.Instr.the-variants.{Illegal, Lui, Auipc, Jal, Jalr, Branch, Load, Store}
+use Rattle.isa.specs.declared.Instr.the-variants.{OpImm, OpImm32, Op, Op32, Fence, Ecall, Ebreak, Amo}
 
 -- The classes: the names of the manual's "RISC-V base opcode map", numbered in its order. 0 is every other value.
 abbrev pub LOAD : ℕ

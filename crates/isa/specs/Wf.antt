@@ -7,7 +7,8 @@ use Rattle.isa.specs.declared.Width.{Width}
 use Rattle.isa.specs.declared.Width.the-variants.{Double}
 use Rattle.isa.specs.declared.Atomic.{Atomic}
 use Rattle.isa.specs.declared.Instr.{Instr}
-use Rattle.isa.specs.declared.Instr.the-variants.{Illegal, Lui, Auipc, Jal, Jalr, Branch, Load, Store, OpImm, OpImm32, Op, Op32, Fence, Ecall, Ebreak, Amo}
+use Rattle.isa.specs.declared.Instr.the-variants.{Illegal, Lui, Auipc, Jal, Jalr, Branch, Load, Store}
+use Rattle.isa.specs.declared.Instr.the-variants.{OpImm, OpImm32, Op, Op32, Fence, Ecall, Ebreak, Amo}
 
 -- its register numbers are below 32
 abbrev pub Regs : Instr → Type 0

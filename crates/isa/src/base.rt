@@ -6,7 +6,8 @@ use crate::LoadOp;
 use crate::StoreOp;
 use crate::fields;
 ghost use mathlib.Core.Path.{_≡_};
-ghost use Rattle.isa.specs.Decode.{luiOf, auipcOf, jalOf, jalrOf, branchAs, branchOf, loadAs, loadOf, storeAs, storeOf, shiftAs, shiftOf, opImmAs, opImmOf, shift32As, shift32Of, opImm32Of, opAs, opOf, op32As, op32Of, miscMemOf, systemOf};
+ghost use Rattle.isa.specs.Decode.{luiOf, auipcOf, jalOf, jalrOf, branchAs, branchOf, loadAs, loadOf, storeAs, storeOf, miscMemOf, systemOf};
+ghost use Rattle.isa.specs.Decode.{shiftAs, shiftOf, opImmAs, opImmOf, shift32As, shift32Of, opImm32Of, opAs, opOf, op32As, op32Of};
 
 // The keys of the definition's tables `shifts`, `shifts32`, `ops` and `ops32`: `key funct f3` there is funct * 8 + funct3 here. An instruction and
 // its form of 32 bits have one key, and so have a register's shift and an immediate's, but for SRAI, which has funct6.

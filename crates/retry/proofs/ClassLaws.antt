@@ -7,7 +7,7 @@ use Prim.Native.Nat.{ℕ}
 use lib.Dec.{eqb}
 use borrow.Author.Tests.{eqb-true}
 use Rattle.word.specs.Choose.{Row, _⇒_, select}
-use Rattle.word.proofs.ChooseLaws.{cond-all, cond-cases, select-rows, select-all}
+use Rattle.word.proofs.ChooseLaws.{cond-all, cond-cases, select-rows, select-all, _also_}
 use Rattle.isa.specs.Fields.{bits, rdOf, rs1Of, rs2Of, funct3Of, funct5Of, funct6Of, funct7Of, immI}
 use Rattle.isa.specs.Decode as D
 use Rattle.isa.specs.declared.AluOp.the-variants.{Add}
@@ -122,10 +122,6 @@ module _ (c w : ℕ) where
       let s : (op : AtomicOp) → InClass c (D.sizedOf op w) = λ op. from-sized op e in
       select-rows (InClass c) (funct5Of w) D.atomics (D.of w) I.Illegal
       (s _, (s _, (from-lr e, (s _, (s _, (from-cas e, (s _, (s _, (s _, (s _, (s _, (s _, tt)))))))))))) tt
-
-infixr 20 _also_
-_also_ : {A B : Type 0} → A → B → A × B
-p also q = (p, q)
 
 pub in-class : (w : ℕ) → InClass (D.classOf w) (D.decodeOf w)
 unfolding D.decodeOf

@@ -8,7 +8,7 @@ use native.Mathlib.Omega.{arith}
 use lib.Dec.{ltb}
 use lib.ListN.{length, getD}
 use borrow.Author.Tests.{ltb-true, ltb-false}
-use Rattle.word.proofs.TestLaws.{bool-cases}
+use Rattle.word.proofs.TestLaws.{bool-cases, never}
 use Rattle.isa.specs.Width.{bytesOf}
 use Rattle.isa.specs.Decode.{decodeOf}
 use Rattle.isa.specs.declared.Atomic.{Atomic}
@@ -21,9 +21,6 @@ use Rattle.retry.specs.Reasons.{LrAt, NotLr, NotPermitted, BadOffset, Le
 use Rattle.retry.specs.Reasons.{Reason, one, two, three, four, five, six, Unreasoned, Lowest, Sized, Exactly}
 use Rattle.retry.proofs.ViewLaws.{SeenLr, seen, Seen, lr-view}
 use Rattle.retry.proofs.PlaceLaws.{past-none, past-first, two-true, two-false, three-true, three-false, four-true, four-false, five-true, five-false}
-
-never : {P : Type 0} {k n : ℕ} → ltb k n ≡ false → k < n → P
-never {k = k} {n = n} e l = absurd (omega (arith, ltb-false k n e, l))
 
 -- ---- reasons by their numbers
 

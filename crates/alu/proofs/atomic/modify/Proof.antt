@@ -19,8 +19,10 @@ load-le-requires c κs = omega (arith, c .before .before .pre .0, bytes-most (c 
 
 amo-requires : tie.Need-amo-requires
 amo-requires c κs =
-    let x = c .before .before .before .before .args in
-    (rw (c .before .load-le .ensures) (le-fits (x .w) (x .bytes .now) (λ i. c .before .before .before .slice-known .given i .fits) (c .before .before .before .before .pre .0)), c .before .before .before .before .pre .1)
+    let begun = c .before .before .before .before in
+    let x = begun .args in
+    let fits = le-fits (x .w) (x .bytes .now) (λ i. c .before .before .before .slice-known .given i .fits) (begun .pre .0) in
+    (rw (c .before .load-le .ensures) fits, begun .pre .1)
 
 store-le-requires : tie.Need-store-le-requires
 store-le-requires c κs = search needs
@@ -30,11 +32,12 @@ same-length c = search needs
 
 returns : tie.Need-returns
 returns c =
-    let x = c .before .before .before .before .before .before .before .before .args in
+    let begun = c .before .before .before .before .before .before .before .before in
+    let x = begun .args in
     let old = c .before .before .before .before .before .load-le .ensures in (
       old,
       c .before .before .store-le .ensures
-          ∙ ap₂ toLe (c .before .before .before .before .before .before .before .before .pre .0) (c .before .before .before .amo .ensures ∙ ap (λ (m : ℕ). amoOf (x .op) (bitsOf (x .w)) m (x .operand)) old),
+          ∙ ap₂ toLe (begun .pre .0) (c .before .before .before .amo .ensures ∙ ap (λ (m : ℕ). amoOf (x .op) (bitsOf (x .w)) m (x .operand)) old),
     )
 
 pub modify-spec : {M : Type 1} → statement M

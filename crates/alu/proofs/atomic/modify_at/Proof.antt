@@ -47,7 +47,8 @@ returns c =
     lent-part mem (x .at) (n .result) ∙ ap (part mem (x .at)) (n .ensures .0) in (
       m .ensures .0 ∙ ap le seen,
       lent-splice mem (x .at) (n .result) _ _
-          (m .ensures .1 ∙ ap (λ (l : List ℕ). toLe (bytesOf (x .w)) (amoOf (x .op) (bitsOf (x .w)) (le l) (x .operand))) seen) (length-toLe _ _ ∙ sym (n .ensures .0)),
+          (m .ensures .1 ∙ ap (λ (l : List ℕ). toLe (bytesOf (x .w)) (amoOf (x .op) (bitsOf (x .w)) (le l) (x .operand))) seen)
+          (length-toLe _ _ ∙ sym (n .ensures .0)),
     )
 
 pub modify-at-spec : {M : Type 1} → statement M

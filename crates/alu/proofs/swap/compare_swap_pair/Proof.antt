@@ -34,15 +34,18 @@ same-length c = search needs
 
 returns : tie.Need-returns
 returns c =
-    let x = c .before .before .before .before .before .before .before .before .before .before .before .before .before .before .before .args in
+    let tested = c .before .before .before .before .before .before .before .before in
+    let begun = tested .before .before .before .before .before .before .before in
+    let x = begun .args in
     let bs = x .bytes .now in
-    let low = c .before .before .before .before .before .before .before .before .before .before .before .before .load-at in
-    let high = c .before .before .before .before .before .before .before .before .before .before .load-at2 in
-    let old : low .result + 2 ^ 64 * high .result ≡ le bs = rw (low .ensures, high .ensures) (le-pair 8 bs (c .before .before .before .before .before .before .before .before .before .before .before .before .before .before .before .pre)) in (
+    let low = tested .before .before .before .before .load-at in
+    let high = tested .before .before .load-at2 in
+    let old : low .result + 2 ^ 64 * high .result ≡ le bs = rw (low .ensures, high .ensures) (le-pair 8 bs (begun .pre)) in (
       old,
-      rw (← old, sym (c .before .before .before .before .before .before .before .before .before .same .ensures) ∙ c .before .before .before .before .before .before .before .before .if1 .taken)
-          (c .before .before .store-at2 .ensures ∙ ap (λ (l : List ℕ). splice l 8 (toLe 8 (x .new .high))) (c .before .before .before .before .before .before .store-at .ensures)
-          ∙ splice-pair 8 bs (x .new .low) (x .new .high) (c .before .before .before .before .before .before .before .before .before .before .before .before .before .before .before .pre) (omega arith)),
+      rw (← old, sym (tested .before .same .ensures) ∙ tested .if1 .taken)
+          (c .before .before .store-at2 .ensures
+          ∙ ap (λ (l : List ℕ). splice l 8 (toLe 8 (x .new .high))) (c .before .before .before .before .before .before .store-at .ensures)
+          ∙ splice-pair 8 bs (x .new .low) (x .new .high) (begun .pre) (omega arith)),
     )
 
 same-length-2 : tie.Need-same-length-2
@@ -50,10 +53,11 @@ same-length-2 c = search needs
 
 returns-2 : tie.Need-returns-2
 returns-2 c =
-    let bs = c .before .before .before .before .before .before .before .args .bytes .now in
+    let begun = c .before .before .before .before .before .before .before in
+    let bs = begun .args .bytes .now in
     let low = c .before .before .before .before .load-at in
     let high = c .before .before .load-at2 in
-    let old : low .result + 2 ^ 64 * high .result ≡ le bs = rw (low .ensures, high .ensures) (le-pair 8 bs (c .before .before .before .before .before .before .before .pre)) in
+    let old : low .result + 2 ^ 64 * high .result ≡ le bs = rw (low .ensures, high .ensures) (le-pair 8 bs (begun .pre)) in
     (old, rw (← old, sym (c .before .same .ensures) ∙ c .if1 .left) refl)
 
 pub compare-swap-pair-spec : {M : Type 1} → statement M

@@ -19,7 +19,8 @@ imm-i-requires c κs = search needs
 returns : tie.Need-returns
 unfolding jalrOf
 returns c =
-    rw (← c .before .before .before .before .funct3 .ensures .0, eq-eqb _ _ (c .before .before .before .if1 .taken), c .before .before .rd .ensures, c .before .rs1 .ensures, c .imm-i .ensures)
+    let tested = c .before .before .before in
+    rw (← tested .before .funct3 .ensures .0, eq-eqb _ _ (tested .if1 .taken), c .before .before .rd .ensures, c .before .rs1 .ensures, c .imm-i .ensures)
 
 returns-2 : tie.Need-returns-2
 unfolding jalrOf

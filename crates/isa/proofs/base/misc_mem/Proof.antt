@@ -22,7 +22,9 @@ cast-t8 c = search needs
 returns : tie.Need-returns
 unfolding miscMemOf
 returns c =
-    let w = c .before .before .before .before .args .word in let e : w / 1048576 % 4096 ≡ w / 1048576 = omega arith in rw (← c .before .before .before .funct3 .ensures .0, eq-eqb _ _ (c .before .before .if1 .taken), c .before .rd .ensures, c .rs1 .ensures, e)
+    let w = c .before .before .before .before .args .word in
+    let e : w / 1048576 % 4096 ≡ w / 1048576 = omega arith in
+    rw (← c .before .before .before .funct3 .ensures .0, eq-eqb _ _ (c .before .before .if1 .taken), c .before .rd .ensures, c .rs1 .ensures, e)
 
 returns-2 : tie.Need-returns-2
 unfolding miscMemOf

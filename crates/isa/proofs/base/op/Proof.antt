@@ -102,8 +102,9 @@ returns-10 c =
 returns-11 : tie.Need-returns-11
 unfolding opOf
 returns-11 c =
+    let k = c .before .before .funct7 .result * 8 + c .before .funct3 .result in
     rw (← c .before .before .funct7 .ensures .0, ← c .before .funct3 .ensures .0)
-    (sym (select-none (c .before .before .funct7 .result * 8 + c .before .funct3 .result) ops (opAs (c .before .before .before .args .word)) Illegal (c .match .rest)))
+    (sym (select-none k ops (opAs (c .before .before .before .args .word)) Illegal (c .match .rest)))
 
 pub op-spec : {M : Type 1} → statement M
 op-spec =

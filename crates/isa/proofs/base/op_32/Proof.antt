@@ -62,8 +62,9 @@ returns-5 c =
 returns-6 : tie.Need-returns-6
 unfolding op32Of
 returns-6 c =
+    let k = c .before .before .funct7 .result * 8 + c .before .funct3 .result in
     rw (← c .before .before .funct7 .ensures .0, ← c .before .funct3 .ensures .0)
-    (sym (select-none (c .before .before .funct7 .result * 8 + c .before .funct3 .result) ops32 (op32As (c .before .before .before .args .word)) Illegal (c .match .rest)))
+    (sym (select-none k ops32 (op32As (c .before .before .before .args .word)) Illegal (c .match .rest)))
 
 pub op-32-spec : {M : Type 1} → statement M
 op-32-spec =

@@ -46,8 +46,9 @@ returns-3 c =
 returns-4 : tie.Need-returns-4
 unfolding shiftOf
 returns-4 c =
+    let k = c .before .before .funct6 .result * 8 + c .before .funct3 .result in
     rw (← c .before .before .funct6 .ensures .0, ← c .before .funct3 .ensures .0)
-    (sym (select-none (c .before .before .funct6 .result * 8 + c .before .funct3 .result) shifts (shiftAs (c .before .before .before .args .word)) Illegal (c .match .rest)))
+    (sym (select-none k shifts (shiftAs (c .before .before .before .args .word)) Illegal (c .match .rest)))
 
 pub shift-spec : {M : Type 1} → statement M
 shift-spec =

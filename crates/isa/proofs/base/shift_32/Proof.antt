@@ -46,8 +46,9 @@ returns-3 c =
 returns-4 : tie.Need-returns-4
 unfolding shift32Of
 returns-4 c =
+    let k = c .before .before .funct7 .result * 8 + c .before .funct3 .result in
     rw (← c .before .before .funct7 .ensures .0, ← c .before .funct3 .ensures .0)
-    (sym (select-none (c .before .before .funct7 .result * 8 + c .before .funct3 .result) shifts32 (shift32As (c .before .before .before .args .word)) Illegal (c .match .rest)))
+    (sym (select-none k shifts32 (shift32As (c .before .before .before .args .word)) Illegal (c .match .rest)))
 
 pub shift-32-spec : {M : Type 1} → statement M
 shift-32-spec =
