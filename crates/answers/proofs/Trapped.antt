@@ -1,7 +1,7 @@
 -- What a hart fetches traps exactly by the table of traps. Assumes nothing.
 use Prim.Native.Nat.{ℕ, _%_, _≤_, _<_}
 use mathlib.Core.Path.{_≡_, refl, sym, _∙_, ap, subst}
-use mathlib.Core.Logic.{inl, inr, ⊎-elim, _↔_}
+use mathlib.Core.Logic.{inl, inr, ⊎-elim}
 use mathlib.Core.Bool.{Bool, true, false, cond}
 use mathlib.Core.List.{List}
 use native.Mathlib.Omega.{arith}
@@ -28,7 +28,7 @@ use Rattle.effect.specs.Execute.{atomicBy, execAtomic, execute, executeWord}
 use Rattle.effect.proofs.TrapLaws.{misaligned-traps, outside-traps, access-retires, jump-traps, jump-retires}
 use Rattle.effect.proofs.TrapLaws.{branch-traps, branch-taken, branch-passed, exec-sc-traps, exec-sc-stored, exec-sc-failed}
 use Rattle.model.specs.Perform.{fetchOf}
-use Rattle.answers.specs.Causes.{Reach, nowhere, jumps, reads, writes, writesIf, reachOf, TrapRow, StepRow, FirstTrap, Untrapped}
+use Rattle.answers.specs.Causes.{Reach, nowhere, jumps, reads, writes, writesIf, reachOf, TrapRow, FirstTrap, Untrapped}
 use Rattle.answers.specs.Causes.{unfetched, unknown, called, halted, misalignedTarget, misalignedRead, misalignedWrite, outsideRead, outsideWrite}
 use Rattle.answers.proofs.Refused.{first-same}
 

@@ -1,7 +1,7 @@
 -- When a run is refused (01: "It tries 1 and 2, then the body by 11 with the place counted from the body's first byte, before it performs any"), row by
 -- row and without tests.
 -- RULES 8.
-use Prim.Native.Nat.{ℕ, _<_}
+use Prim.Native.Nat.{ℕ}
 use mathlib.Core.Path.{_≡_}
 use mathlib.Core.List.{List}
 use lib.ListN.{length}

@@ -1,8 +1,8 @@
 -- What holds of every case that is read. Assumes nothing.
-use mathlib.Core.Path.{_≡_, refl, sym, ap, _∙_, subst}
-use mathlib.Core.Bool.{Bool, true, false, cond}
+use mathlib.Core.Path.{_≡_, refl, sym, subst}
+use mathlib.Core.Bool.{true}
 use mathlib.Core.List.{List}
-use Prim.Native.Nat.{ℕ, zero, suc, _+_, _*_, _-_, _/_, _%_, _^_, _≤_, _<_}
+use Prim.Native.Nat.{ℕ, zero, suc, _+_, _*_, _-_, _/_, _%_, _≤_}
 use native.Mathlib.Omega.{arith}
 use lib.Dec.{eqb}
 use lib.ListN.{length, drop, length-drop}
@@ -17,7 +17,7 @@ use Rattle.events.specs.Events.{goodEvent, firstBad, checkedOf, Within}
 use Rattle.events.specs.declared.Checked.{Checked}
 use Rattle.events.specs.declared.Checked.the-variants.{Good, Bad}
 use Rattle.casefile.specs.Table.{tableOf, InsideFile}
-use Rattle.casefile.specs.Harts.{baseOf, countOf, hartsOk, stateOf, noState}
+use Rattle.casefile.specs.Harts.{baseOf, countOf, hartsOk, stateOf}
 use Rattle.casefile.specs.Case.{refusedCase, lengthOk, checkedCase, bodiesOf, partsOf, caseOf, SoundCase}
 use Rattle.casefile.specs.declared.Found.{Found}
 use Rattle.casefile.specs.declared.Found.the-variants.{Refused, Bodies}

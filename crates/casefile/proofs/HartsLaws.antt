@@ -1,22 +1,18 @@
 -- A harts body: its test says what the rules say, and the state that it is keeps the rules of refusal 2. Assumes nothing.
-use mathlib.Core.Path.{_≡_, refl, sym, ap, ap₂, _∙_}
+use mathlib.Core.Path.{_≡_, ap, ap₂, _∙_}
 use mathlib.Core.Logic.{_↔_}
-use mathlib.Core.Bool.{Bool, true, false, cond, _&&_}
+use mathlib.Core.Bool.{true}
 use mathlib.Core.List.{List}
 use Prim.Native.Nat.{ℕ, _+_, _*_, _-_, _/_, _%_, _^_, _≤_, _<_}
 use native.Mathlib.Omega.{arith}
 use lib.Dec.{leb, eqb}
 use lib.ListN.{length, getD, replicate, length-replicate, getD-replicate}
 use borrow.Author.Tests.{eqb-true, leb-true, eq-eqb, le-leb}
-use Rattle.word.specs.Each.{each, allBelow}
 use Rattle.word.proofs.TestLaws.{and-both}
 use Rattle.word.proofs.EachLaws.{each-at, each-past, length-each, all-at, all-intro}
 use Rattle.reserve.specs.Reserve.{slot}
-use Rattle.reserve.specs.declared.Slot.{Slot}
-use Rattle.reserve.specs.declared.Reservation.{Reservation}
 use Rattle.reserve.specs.declared.Reservation.the-variants.{None}
-use Rattle.machine.specs.Rules.{ReservationRules, HartRules, StateRules, Shaped}
-use Rattle.machine.specs.declared.State.{State}
+use Rattle.machine.specs.Rules.{HartRules, StateRules, Shaped}
 use Rattle.casefile.specs.Harts.{baseOf, countOf, zeroOf, registerOf, pcOf, hartsOk, HartsRules, stateOf, noState}
 
 module _ (body : List ℕ) where

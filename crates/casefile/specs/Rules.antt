@@ -1,7 +1,7 @@
 -- Refusals 7 to 11 (01, "The case file"), row by row and without tests: when a file is refused, by which number, and at which place.
 -- RULES 7.5.
 use mathlib.Core.Path.{_≡_}
-use Prim.Native.Nat.{ℕ, _+_, _%_, _≤_, _<_}
+use Prim.Native.Nat.{ℕ, _+_, _%_, _≤_}
 use mathlib.Core.List.{List}
 use lib.ListN.{length}
 use Rattle.word.specs.Memory.{part}

@@ -1,7 +1,7 @@
 -- The table of contents of a case file (01, "The case file"): refusals 7 and 8.
 -- RULES 7.1, 7.5.
 use Prim.Native.Nat.{ℕ, _+_, _^_, _≤_, _<_}
-use mathlib.Core.Bool.{Bool, cond, _||_}
+use mathlib.Core.Bool.{cond, _||_}
 use mathlib.Core.List.{List}
 use lib.Dec.{ltb, eqb}
 use lib.ListN.{length}

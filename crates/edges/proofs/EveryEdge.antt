@@ -11,8 +11,7 @@ use Rattle.alu.specs.Amo.{minOf, maxOf, amoOf}
 use Rattle.reserve.specs.Range.{touches, insideOf}
 use Rattle.reserve.specs.Reserve.{coversOf, breaksOf, ownOf, observeOf, brokenOf, observeAllOf}
 use Rattle.machine.specs.State.{memoryOk, reservationOk, hartOk, stateOk, refusalOf}
-use Rattle.effect.specs.Integer.{computed, execJump, holdsOf, execBranch}
-use Rattle.effect.specs.Memory.{faultOf, checked, valueAt, execLoad, execStore}
+use Rattle.effect.specs.Memory.{faultOf, checked, valueAt, execStore}
 use Rattle.effect.specs.Atomic.{execLr, execSc, execAmo, execCas, execCasPair}
 use Rattle.effect.specs.Execute.{regAt, pairAt, execAtomic, execute, executeWord}
 use Rattle.model.specs.Act.{setReg, leaves, apply}

@@ -1,16 +1,15 @@
 -- What a row of the table of edges says (01, "Edges, proved together").
 -- RULES 10.
 use mathlib.Core.Path.{_≡_}
-use mathlib.Core.List.{List, [], _∷_, _++_}
-use Prim.Native.Nat.{ℕ, _+_, _*_}
-use lib.ListN.{getD, set, replicate, length}
+use mathlib.Core.List.{List, [], _∷_}
+use Prim.Native.Nat.{ℕ, _+_}
+use lib.ListN.{set, replicate}
 use Rattle.word.specs.Bytes.{le, toLe}
 use Rattle.word.specs.Memory.{part, splice}
 use Rattle.reserve.specs.Reserve.{slot}
 use Rattle.reserve.specs.declared.Reservation.the-variants.{None}
 use Rattle.isa.specs.Decode.{decodeOf}
 use Rattle.isa.specs.declared.Instr.{Instr}
-use Rattle.machine.specs.declared.State.{State}
 use Rattle.effect.specs.Execute.{regAt}
 use Rattle.events.specs.declared.Event.{Event}
 use Rattle.model.specs.Perform.{Machine, answerOf, nextOf, runOf}

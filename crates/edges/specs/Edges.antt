@@ -2,16 +2,14 @@
 -- RULES 10.
 use mathlib.Core.Bool.{false}
 use mathlib.Core.List.{List, [], _∷_}
-use Prim.Native.Nat.{ℕ}
 use Rattle.isa.specs.declared.AtomicOp.the-variants.{Lr, Sc}
 use Rattle.isa.specs.declared.Width.the-variants.{Word}
 use Rattle.isa.specs.declared.Instr.the-variants.{Amo}
 use Rattle.events.specs.declared.Event.{Event}
 use Rattle.events.specs.declared.Event.the-variants.{Step, Device}
-use Rattle.model.specs.declared.Outcome.{Outcome}
 use Rattle.model.specs.declared.Outcome.the-variants.{Retired, ScStored, ScFailed, Trap}
 use Rattle.retry.specs.declared.LoopAnswer.the-variants.{Accepted, Rejected}
-use Rattle.edges.specs.Edge.{Edge, decodes, runs, checks, Bytes, _at_is_, Register, x_is_}
+use Rattle.edges.specs.Edge.{Edge, decodes, runs, checks, _at_is_, x_is_}
 
 abbrev step : Event
 step = Step 0

@@ -1,8 +1,8 @@
 -- What every instruction writes to registers fits them, and memory keeps its length and stays bytes. Assumes nothing.
-use Prim.Native.Nat.{ℕ, zero, suc, _+_, _-_, _/_, _%_, _^_, _≤_, _<_}
+use Prim.Native.Nat.{ℕ, _+_, _-_, _/_, _%_, _^_, _≤_, _<_}
 use mathlib.Core.Path.{_≡_, refl}
 use mathlib.Core.Bool.{Bool, true, false}
-use mathlib.Core.List.{List, [], _∷_}
+use mathlib.Core.List.{List}
 use native.Mathlib.Nat.{mod-lt, div-lt-iff-lt-mul}
 use native.Mathlib.Omega.{arith}
 use lib.ListN.{length}
@@ -10,7 +10,6 @@ use lib.Dec.{eqb, lit<, lit≤}
 use lib.Pow.{pow-pos}
 use Rattle.word.specs.Word.{low, signExtend}
 use Rattle.word.specs.Bytes.{toLe, IsBytes}
-use Rattle.word.specs.Memory.{part}
 use Rattle.word.proofs.BytesLaws.{bytes-toLe}
 use Rattle.word.proofs.WordLaws.{signExtend-lt}
 use Rattle.word.proofs.MemoryLaws.{part-lt, length-splice}
@@ -28,7 +27,7 @@ use Rattle.isa.specs.declared.AtomicOp.the-variants.{Lr, Sc, Cas, CasPair, Rmw}
 use Rattle.isa.specs.declared.Atomic.{Atomic}
 use Rattle.isa.specs.declared.Instr.{Instr}
 use Rattle.isa.specs.declared.Instr.the-variants.{Illegal, Lui, Auipc, Jal, Jalr, Branch, Load, Store, OpImm, OpImm32, Op, Op32, Fence, Ecall, Ebreak, Amo}
-use Rattle.effect.specs.Effect.{none, pair, Access, nothing, reserve, store, scStored, scFailed, Exec, trap, effect, offset, nextPc, stored}
+use Rattle.effect.specs.Effect.{none, pair, Access, nothing, reserve, store, scStored, scFailed, Exec, trap, offset, nextPc, stored}
 use Rattle.effect.specs.Integer.{computed, execJump, clearBit0, holdsOf, execBranch}
 use Rattle.effect.specs.Memory.{faultOf, checked, valueAt, loadBytes, extended, storeBytes, execLoad, execStore}
 use Rattle.effect.specs.Atomic.{swapped, pairWrites, execLr, execSc, execAmo, execCas, execCasPair}

@@ -2,21 +2,17 @@
 use Prim.Native.Nat.{ℕ, _%_, _<_}
 use mathlib.Core.Path.{_≡_, refl}
 use mathlib.Core.Bool.{Bool, true, false}
-use mathlib.Core.List.{List}
 use native.Mathlib.Omega.{arith}
 use borrow.Author.Tests.{eq-eqb, ne-eqb}
 use Rattle.word.proofs.TestLaws.{bool-cases}
 use Rattle.reserve.specs.Range.{Inside, insideOf}
 use Rattle.reserve.proofs.RangeLaws.{inside-of, of-inside}
 use Rattle.isa.specs.Width.{bytesOf}
-use Rattle.isa.specs.Decode.{decodeOf}
 use Rattle.isa.specs.declared.Width.{Width}
-use Rattle.isa.specs.declared.Instr.the-variants.{Illegal, Ecall, Ebreak}
 use Rattle.effect.specs.Effect.{Exec, trap, effect, none, one, nothing, scFailed, scStored, nextPc}
 use Rattle.effect.specs.Integer.{execJump, execBranch}
 use Rattle.effect.specs.Memory.{faultOf, checked}
 use Rattle.effect.specs.Atomic.{execSc}
-use Rattle.effect.specs.Execute.{execute, executeWord}
 use Rattle.word.specs.Bytes.{toLe}
 
 -- causes 4 to 7: an access of n bytes at a, in a memory of len bytes at base. A load or LR has causes 4 and 5, a store or AMO 6 and 7

@@ -7,7 +7,6 @@ use lib.ListN.{length}
 use Rattle.word.specs.Memory.{splice}
 use Rattle.reserve.specs.declared.Notice.{Notice}
 use Rattle.reserve.specs.declared.Notice.the-variants.{Quiet, LoadReserved, ScStored, ScFailed, Write}
-use Rattle.effect.specs.declared.Effect.{Effect}
 use Rattle.effect.specs.declared.Done.{Done}
 use Rattle.effect.specs.declared.Done.the-variants.{Retired, Trap}
 

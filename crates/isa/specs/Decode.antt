@@ -1,6 +1,7 @@
 -- What a word is: a table for each opcode, as in the manual's "RV32/64G instruction set listings", and Zacas for AMOCAS. A word that no
 -- table has is Illegal.
--- RULES: `classes` 4.1.1; loads and stores 4.2; jumps and branches 4.3; integer words 4.1.4; FENCE, ECALL, EBREAK 4.1.5; atomics 4.4; which words are legal 4.1.3.
+-- RULES: `classes` 4.1.1; loads and stores 4.2; jumps and branches 4.3; integer words 4.1.4; FENCE, ECALL, EBREAK 4.1.5; atomics 4.4; which words are
+-- legal 4.1.3.
 use Prim.Native.Nat.{ℕ, _+_, _*_, _%_}
 use mathlib.Core.Bool.{Bool, cond, _&&_}
 use mathlib.Core.List.{List, [], _∷_}
@@ -20,7 +21,6 @@ use Rattle.isa.specs.declared.AtomicOp.{AtomicOp}
 use Rattle.isa.specs.declared.AtomicOp.the-variants.{Lr, Sc, Cas, CasPair, Rmw}
 use Rattle.isa.specs.declared.Width.{Width}
 use Rattle.isa.specs.declared.Width.the-variants.{Word, Double}
-use Rattle.isa.specs.declared.Atomic.{Atomic}
 use Rattle.isa.specs.declared.Instr.{Instr}
 use Rattle.isa.specs.declared.Instr.the-variants.{Illegal, Lui, Auipc, Jal, Jalr, Branch, Load, Store}
 use Rattle.isa.specs.declared.Instr.the-variants.{OpImm, OpImm32, Op, Op32, Fence, Ecall, Ebreak, Amo}

@@ -1,16 +1,14 @@
 -- The tests of refusals 1 and 2 say what the rules of 01 say. Assumes nothing.
-use mathlib.Core.Path.{_≡_, refl, sym, _∙_}
+use mathlib.Core.Path.{_≡_, refl}
 use mathlib.Core.Logic.{_↔_, _⊎_, inl, inr, ⊎-elim}
 use mathlib.Core.Bool.{Bool, true, false, cond, _&&_, _||_}
-use Prim.Native.Nat.{ℕ, zero, suc, _*_, _%_, _^_, _≤_, _<_}
+use Prim.Native.Nat.{ℕ, _*_, _%_, _^_}
 use native.Mathlib.Omega.{arith}
-use lib.Dec.{eqb, leb, ltb}
+use lib.Dec.{eqb, leb}
 use lib.ListN.{getD}
 use borrow.Author.Tests.{eqb-true, leb-true, eq-eqb, le-leb}
-use Rattle.word.specs.Each.{allBelow}
-use Rattle.word.proofs.TestLaws.{bool-cases, contrary, and-both, or-either}
+use Rattle.word.proofs.TestLaws.{bool-cases, and-both, or-either}
 use Rattle.word.proofs.EachLaws.{all-at, all-intro}
-use Rattle.reserve.specs.Range.{insideOf, Inside}
 use Rattle.reserve.specs.Reserve.{slot}
 use Rattle.reserve.specs.declared.Reservation.{Reservation}
 use Rattle.reserve.specs.declared.Reservation.the-variants.{None, Held}

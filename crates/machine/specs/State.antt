@@ -2,7 +2,6 @@
 -- RULES 1.1, 1.2, 1.3, 2.1.
 use Prim.Native.Nat.{ℕ, _*_, _%_, _^_}
 use mathlib.Core.Bool.{Bool, true, cond, _&&_, _||_}
-use mathlib.Core.List.{List}
 use lib.Dec.{eqb, leb}
 use lib.ListN.{getD}
 use Rattle.word.specs.Each.{allBelow}

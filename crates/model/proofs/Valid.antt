@@ -1,36 +1,33 @@
 -- Every event keeps a machine that refusals 1 and 2 don't refuse one of that kind. Assumes nothing.
-use mathlib.Core.Path.{_≡_, refl, sym, ap, _∙_, subst}
+use mathlib.Core.Path.{_≡_, refl, sym, _∙_, subst}
 use mathlib.Core.Logic.{⊎-elim}
-use mathlib.Core.Bool.{Bool, true, false, cond, _&&_}
+use mathlib.Core.Bool.{cond, _&&_}
 use mathlib.Core.List.{List, [], _∷_}
 use Prim.Native.Nat.{ℕ, zero, suc, _+_, _-_, _*_, _%_, _≤_, _<_}
 use native.Mathlib.Omega.{arith}
 use lib.Dec.{eqb, ltb, leb}
 use lib.ListN.{length, getD, set, List·getD-eq-default}
 use lib.Seq.{getD-set-other}
-use borrow.Author.Tests.{eqb-true, eqb-false, ltb-true, eq-eqb}
+use borrow.Author.Tests.{eqb-false, ltb-true, eq-eqb}
 use Rattle.word.specs.Bytes.{toLe}
-use Rattle.word.specs.Memory.{splice}
 use Rattle.word.specs.Each.{each}
 use Rattle.word.proofs.BytesLaws.{length-toLe}
 use Rattle.word.proofs.MemoryLaws.{length-splice}
 use Rattle.word.proofs.WordLaws.{split-lt}
 use Rattle.word.proofs.ChooseLaws.{cond-all, cond-cases}
-use Rattle.word.proofs.TestLaws.{bool-cases, and-both}
+use Rattle.word.proofs.TestLaws.{bool-cases}
 use Rattle.word.proofs.EachLaws.{each-at, length-each}
 use Rattle.reserve.specs.Range.{Inside, insideOf}
 use Rattle.reserve.specs.Reserve.{slot, coversOf, breaksOf, ownOf, observeOf, observeSlot, observeAllOf}
 use Rattle.reserve.specs.declared.Reservation.{Reservation}
 use Rattle.reserve.specs.declared.Reservation.the-variants.{None, Held}
-use Rattle.reserve.specs.declared.Slot.{Slot}
 use Rattle.reserve.specs.declared.Notice.{Notice}
 use Rattle.reserve.specs.declared.Notice.the-variants.{Quiet, LoadReserved, ScStored, ScFailed, Write, DeviceWrite, Yield}
 use Rattle.reserve.proofs.RangeLaws.{inside-of, cover-inside, none-covers}
-use Rattle.machine.specs.Rules.{MemoryRules, ReservationRules, HartRules, StateRules}
-use Rattle.machine.specs.State.{refusalOf}
+use Rattle.machine.specs.Rules.{MemoryRules, ReservationRules, StateRules}
 use Rattle.machine.specs.declared.State.{State}
 use Rattle.machine.proofs.StateLaws.{refusal-0}
-use Rattle.effect.specs.Effect.{Writes, none, one, pair, Access, nothing, reserve, store, scStored, scFailed, Exec, trap, effect, stored, noticeOf}
+use Rattle.effect.specs.Effect.{Writes, none, one, pair, Access, nothing, reserve, store, scStored, scFailed, Exec, trap, effect, noticeOf}
 use Rattle.effect.specs.Atomic.{CoveredInside}
 use Rattle.effect.specs.Execute.{regAt}
 use Rattle.effect.specs.Memory.{valueAt}
@@ -39,7 +36,7 @@ use Rattle.effect.proofs.Sound.{sound}
 use Rattle.effect.proofs.Fits.{length-stored}
 use Rattle.events.specs.declared.Event.{Event}
 use Rattle.events.specs.declared.Event.the-variants.{Step, Device, Yield as YieldOf}
-use Rattle.model.specs.Act.{Act, refuse, fault, change, put, release, setReg, written, slotsAfter, apply, leaves}
+use Rattle.model.specs.Act.{Act, refuse, fault, change, put, release, setReg, written, apply, leaves}
 use Rattle.model.specs.Perform.{Machine, reservationOf, fetchOf, stepOf, ofExec, deviceOf, actOn, actOf, answerOf, memoryOf, nextOf, runOf}
 use Rattle.model.specs.Valid.{Valid, ActOk}
 

@@ -11,7 +11,6 @@ use Rattle.events.specs.Events.{checkedOf, eventsOf}
 use Rattle.events.specs.declared.Checked.{Checked}
 use Rattle.events.specs.declared.Checked.the-variants.{Good, Bad}
 use Rattle.model.specs.Perform.{Machine, runOf}
-use Rattle.model.specs.declared.Verdict.{Verdict}
 use Rattle.model.specs.declared.Verdict.the-variants.{Performed, Refused}
 use Rattle.model.specs.declared.Ran.{Ran}
 

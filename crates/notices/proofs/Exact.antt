@@ -7,7 +7,6 @@ use lib.Dec.{eqb, ltb}
 use lib.ListN.{length, getD}
 use borrow.Author.Tests.{eqb-true, eqb-false, eq-eqb, ne-eqb, ltb-true}
 use Rattle.word.specs.Word.{low}
-use Rattle.word.specs.Bytes.{toLe}
 use Rattle.word.proofs.BytesLaws.{length-toLe}
 use Rattle.word.proofs.ChooseLaws.{cond-cases}
 use Rattle.reserve.specs.Range.{Touch, Inside, insideOf}
@@ -22,23 +21,22 @@ use Rattle.isa.specs.declared.AtomicOp.the-variants.{Lr, Sc, Cas, CasPair, Rmw}
 use Rattle.isa.specs.declared.Atomic.{Atomic}
 use Rattle.isa.specs.declared.Instr.{Instr}
 use Rattle.isa.specs.declared.Instr.the-variants.{Illegal, Lui, Auipc, Jal, Jalr, Branch, Load, Store, OpImm, OpImm32, Op, Op32, Fence, Ecall, Ebreak, Amo}
-use Rattle.effect.specs.Effect.{Exec, trap, Writes, Access}
+use Rattle.effect.specs.Effect.{Exec, trap}
 use Rattle.effect.specs.Memory.{valueAt}
 use Rattle.effect.specs.Atomic.{execSc}
 use Rattle.effect.specs.Execute.{regAt, pairAt, atomicBy, execAtomic, execute, executeWord}
 use Rattle.events.specs.declared.Event.{Event}
-use Rattle.events.specs.declared.Event.the-variants.{Step, Device, Yield}
+use Rattle.events.specs.declared.Event.the-variants.{Step, Yield}
 use Rattle.model.specs.Act.{Act, refuse, release, actNotice, outcomeOf}
-use Rattle.model.specs.Perform.{Machine, reservationOf, fetchOf, stepOf, ofExec, actOn, actOf, answerOf, outcomeAt}
+use Rattle.model.specs.Perform.{Machine, reservationOf, fetchOf, ofExec, actOn, actOf, answerOf, outcomeAt}
 use Rattle.model.specs.Valid.{Valid}
 use Rattle.model.specs.Trace.{noticeAt, WritesInto}
-use Rattle.model.specs.Fetch.{Fetches}
 use Rattle.model.specs.Retired.{IsRetired, Traps, Refuses}
 use Rattle.model.specs.declared.Outcome.{Outcome}
 use Rattle.model.specs.declared.Outcome.the-variants as O
 use Rattle.model.proofs.Valid.{act-valid}
 use Rattle.model.proofs.Frame.{acts, step-act}
-use Rattle.notices.specs.Happened.{atomicAddress, atomicSize, Retires, RetiredLr, RetiredSc, StoredSc, FailedSc, PlainWrite, store, amo, amocas, amocasQ}
+use Rattle.notices.specs.Happened.{atomicAddress, atomicSize, Retires, RetiredSc, StoredSc, FailedSc, PlainWrite, store, amo, amocas, amocasQ}
 use Rattle.notices.specs.Happened.{DeviceWrites, WritesBytes, byHart, byDevice, Yields, Plain, Silent, refused, trapped, plain, unequal, unequalQ}
 use Rattle.notices.specs.Notices.{scNotice, atomicNotice, noticeBy, ComesFrom}
 use Rattle.notices.proofs.Notices.{access-retired, notice-none, notice-step, notice-device, notice-yield}

@@ -1,23 +1,21 @@
 -- The notice of each event: of a retired step what its instruction and its answer tell, of a trap and a refusal none. Assumes nothing.
-use mathlib.Core.Path.{_≡_, refl, sym, _∙_, ap, subst}
-use mathlib.Core.Logic.{_↔_, _⊎_, inl, inr, ⊎-elim}
+use mathlib.Core.Path.{_≡_, refl, sym, ap, subst}
+use mathlib.Core.Logic.{_⊎_, inl, inr, ⊎-elim}
 use mathlib.Core.Bool.{Bool, true, false, cond, _&&_}
 use mathlib.Core.List.{List}
 use Prim.Native.Nat.{ℕ, _%_, _<_}
-use lib.Dec.{eqb, ltb, leb}
+use lib.Dec.{eqb, leb}
 use lib.ListN.{length, getD}
-use borrow.Author.Tests.{ltb-true, lt-ltb}
+use borrow.Author.Tests.{lt-ltb}
 use Rattle.word.specs.Word.{low}
 use Rattle.word.specs.Bytes.{toLe}
 use Rattle.word.proofs.BytesLaws.{length-toLe}
 use Rattle.word.proofs.ChooseLaws.{cond-cases}
-use Rattle.reserve.specs.Range.{Inside, insideOf}
+use Rattle.reserve.specs.Range.{insideOf}
 use Rattle.reserve.specs.Reserve.{coversOf}
 use Rattle.reserve.specs.declared.Notice.{Notice}
-use Rattle.reserve.specs.declared.Notice.the-variants.{Quiet, LoadReserved, ScStored, ScFailed, Write, DeviceWrite, Yield}
-use Rattle.reserve.proofs.RangeLaws.{inside-of}
+use Rattle.reserve.specs.declared.Notice.the-variants.{Quiet, LoadReserved, ScStored, Write, DeviceWrite, Yield}
 use Rattle.isa.specs.Width.{bitsOf, bytesOf}
-use Rattle.isa.specs.Decode.{decodeOf}
 use Rattle.isa.specs.declared.AtomicOp.{AtomicOp}
 use Rattle.isa.specs.declared.AtomicOp.the-variants.{Lr, Sc, Cas, CasPair, Rmw}
 use Rattle.isa.specs.declared.Atomic.{Atomic}
@@ -27,20 +25,19 @@ use Rattle.effect.specs.Effect.{Writes, Access, nothing, reserve, store, scStor
 use Rattle.effect.specs.Integer.{execJump, execBranch}
 use Rattle.effect.specs.Memory.{faultOf, checked, valueAt, storeBytes, execLoad, execStore}
 use Rattle.effect.specs.Atomic.{swapped, execLr, execSc, execAmo, execCas, execCasPair}
-use Rattle.effect.specs.Execute.{regAt, pairAt, atomicBy, execAtomic, execute, executeWord}
+use Rattle.effect.specs.Execute.{regAt, pairAt, atomicBy, execAtomic, execute}
 use Rattle.events.specs.declared.Event.{Event}
 use Rattle.events.specs.declared.Event.the-variants.{Step, Device, Yield as YieldOf}
 use Rattle.model.specs.Act.{Act, refuse, fault, change, put, release, actNotice, outcomeOf}
-use Rattle.model.specs.Perform.{Machine, reservationOf, fetchOf, stepOf, ofExec, deviceOf, actOn, actOf, answerOf, outcomeAt}
+use Rattle.model.specs.Perform.{Machine, reservationOf, ofExec, deviceOf, actOn, actOf, answerOf, outcomeAt}
 use Rattle.model.specs.Valid.{Valid}
 use Rattle.model.specs.Retired.{IsRetired, Traps, Refuses}
 use Rattle.model.specs.Trace.{noticeAt}
 use Rattle.model.specs.Fetch.{Fetches}
 use Rattle.model.specs.declared.Outcome.{Outcome}
-use Rattle.model.specs.declared.Outcome.the-variants as O
 use Rattle.model.proofs.Valid.{act-valid}
 use Rattle.model.proofs.Frame.{step-act}
-use Rattle.notices.specs.Notices.{scNotice, atomicNotice, noticeBy}
+use Rattle.notices.specs.Notices.{atomicNotice, noticeBy}
 
 -- ---- the notice of each instruction
 

@@ -1,7 +1,6 @@
 -- What reservations learn of an event: of a retired step by its instruction and its answer, and of each notice from which events alone it comes.
 -- `actNotice` and `noticeOf`, by which a trace is defined, are proved to say both.
 -- RULES 5.
-use mathlib.Core.Path.{_≡_}
 use mathlib.Core.Bool.{cond}
 use mathlib.Core.List.{List}
 use Prim.Native.Nat.{ℕ}

@@ -1,4 +1,3 @@
-use mathlib.Core.Path.{_≡_, sym, _∙_, ap, subst}
 use borrow.Author.Tests.{eq-eqb, ne-eqb}
 use Rattle.capi.specs.Answers.{loopAnswer}
 use borrow.Author.Needs.{needs}

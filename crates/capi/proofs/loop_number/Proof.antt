@@ -1,7 +1,5 @@
-use mathlib.Core.Path.{_≡_, sym, _∙_, ap, subst}
-use Prim.Native.Nat.{_≤_}
+use mathlib.Core.Path.{sym, _∙_, ap, subst}
 use native.Mathlib.Omega.{arith}
-use Rattle.retry.specs.declared.LoopAnswer.{LoopAnswer}
 use Rattle.capi.specs.Answers.{loopNumber}
 use Rattle.capi.proofs.LoopLaws.{Small, small-check}
 use borrow.Author.Needs.{needs}

@@ -1,4 +1,3 @@
-use native.Mathlib.Omega.{arith}
 use Rattle.word.proofs.MemoryLaws.{part-lt}
 use borrow.Author.Needs.{needs}
 use Rattle.casefile.proofs.field.Statement.{statement}

@@ -1,4 +1,4 @@
-use mathlib.Core.Path.{_≡_, sym, ap, _∙_}
+use mathlib.Core.Path.{sym, ap, _∙_}
 use Prim.Native.Nat.{ℕ, _+_, _*_}
 use native.Mathlib.Omega.{arith}
 use lib.ListN.{length}
@@ -8,11 +8,6 @@ use Rattle.casefile.specs.Harts.{hartsOk}
 use borrow.Author.Needs.{needs}
 use Rattle.casefile.proofs.harts_ok.Statement.{statement}
 use Rattle.casefile.proofs.harts_ok.Tie as tie
-use Rattle.casefile.proofs.harts_ok.Reads as reads
-use Rattle.casefile.proofs.harts_ok.Lts as lts
-use Rattle.casefile.proofs.pcs_ok.Reads as pcs-ok-reads
-use Rattle.casefile.proofs.field.Reads as field-reads
-use Rattle.word.proofs.bytes.load_at.Reads as load-at-reads
 
 returns : tie.Need-returns
 unfolding hartsOk

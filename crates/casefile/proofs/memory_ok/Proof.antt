@@ -2,8 +2,6 @@ use mathlib.Core.Path.{refl}
 use Rattle.casefile.specs.Case.{lengthOk}
 use Rattle.casefile.proofs.memory_ok.Statement.{statement}
 use Rattle.casefile.proofs.memory_ok.Tie as tie
-use Rattle.casefile.proofs.memory_ok.Reads as reads
-use Rattle.casefile.proofs.memory_ok.Lts as lts
 
 returns : tie.Need-returns
 unfolding lengthOk

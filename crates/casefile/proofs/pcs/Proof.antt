@@ -1,17 +1,14 @@
 use borrow.Author.Needs.{needs}
-use mathlib.Core.Path.{_≡_, refl, sym, ap, _∙_}
+use mathlib.Core.Path.{_≡_, sym, _∙_}
 use Prim.Native.Nat.{ℕ, _-_, _≤_}
 use native.Mathlib.Omega.{arith}
 use native.Mathlib.Numerals.{add-one}
-use lib.ListN.{length, replicate, length-replicate}
+use lib.ListN.{replicate, length-replicate}
 use Rattle.word.specs.Each.{each}
 use Rattle.word.proofs.EachLaws.{each-suc}
 use Rattle.casefile.specs.Harts.{pcOf}
 use Rattle.casefile.proofs.pcs.Statement.{statement}
 use Rattle.casefile.proofs.pcs.Tie as tie
-use Rattle.casefile.proofs.pcs.Reads as reads
-use Rattle.casefile.proofs.pcs.Lts as lts
-use Rattle.word.proofs.bytes.load_at.Reads as load-at-reads
 
 abbrev Inv-loop : tie.InvT-loop
 Inv-loop body count pc₀ h₀ pc h = (h ≤ count) × (pc ≡ each (λ k _. pcOf body k) h (replicate 8 0))

@@ -1,5 +1,5 @@
 use borrow.Author.Needs.{needs}
-use mathlib.Core.Path.{_≡_, refl, sym, ap, _∙_}
+use mathlib.Core.Path.{_≡_, sym, ap, _∙_}
 use mathlib.Core.Bool.{true}
 use Prim.Native.Nat.{ℕ, _-_, _%_, _≤_}
 use native.Mathlib.Omega.{arith}
@@ -10,9 +10,6 @@ use Rattle.word.proofs.EachLaws.{all-none, all-more, all-fails}
 use Rattle.casefile.specs.Harts.{pcOf}
 use Rattle.casefile.proofs.pcs_ok.Statement.{statement}
 use Rattle.casefile.proofs.pcs_ok.Tie as tie
-use Rattle.casefile.proofs.pcs_ok.Reads as reads
-use Rattle.casefile.proofs.pcs_ok.Lts as lts
-use Rattle.word.proofs.bytes.load_at.Reads as load-at-reads
 
 abbrev Inv-loop : tie.InvT-loop
 Inv-loop body count h₀ h = (h ≤ count) × (allBelow (λ k. eqb (pcOf body k % 4) 0) h ≡ true)

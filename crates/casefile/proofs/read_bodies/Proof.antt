@@ -9,22 +9,12 @@ use borrow.Author.Tests.{not-true, not-false}
 use Rattle.word.specs.Memory.{part}
 use Rattle.events.specs.Events.{checkedOf, Within}
 use Rattle.events.specs.declared.Checked.{Checked}
-use Rattle.events.specs.declared.Checked.the-variants.{Bad}
 use Rattle.casefile.specs.Harts.{baseOf, countOf, hartsOk, HartsRules}
 use Rattle.casefile.specs.Case.{lengthOk, bodiesOf}
 use Rattle.casefile.proofs.HartsLaws.{harts-exact}
 use borrow.Author.Needs.{needs}
 use Rattle.casefile.proofs.read_bodies.Statement.{statement}
 use Rattle.casefile.proofs.read_bodies.Tie as tie
-use Rattle.casefile.proofs.read_bodies.Reads as reads
-use Rattle.casefile.proofs.read_bodies.Lts as lts
-use Rattle.casefile.proofs.field.Reads as field-reads
-use Rattle.casefile.proofs.harts_ok.Reads as harts-ok-reads
-use Rattle.casefile.proofs.memory_ok.Reads as memory-ok-reads
-use Rattle.casefile.proofs.read_state.Reads as read-state-reads
-use Rattle.casefile.proofs.refused.Reads as refused-reads
-use Rattle.events.proofs.check.Reads as check-reads
-use Rattle.word.proofs.bytes.load_at.Reads as load-at-reads
 
 abbrev harts : (c : tie.Else1) → List ℕ
 harts c = take (c .before .before .before .before .args .memory - 40) (drop 40 (c .before .before .before .before .args .file .now))

@@ -8,11 +8,6 @@ use Rattle.casefile.proofs.CaseLaws.{read-sound}
 use borrow.Author.Needs.{needs}
 use Rattle.casefile.proofs.read_case.Statement.{statement}
 use Rattle.casefile.proofs.read_case.Tie as tie
-use Rattle.casefile.proofs.read_case.Reads as reads
-use Rattle.casefile.proofs.read_case.Lts as lts
-use Rattle.casefile.proofs.read_bodies.Reads as read-bodies-reads
-use Rattle.casefile.proofs.read_table.Reads as read-table-reads
-use Rattle.casefile.proofs.refused.Reads as refused-reads
 
 read-table-requires : tie.Need-read-table-requires
 read-table-requires c κs = search needs

@@ -1,4 +1,4 @@
-use mathlib.Core.Path.{_≡_, refl, sym, ap, _∙_}
+use mathlib.Core.Path.{_≡_, sym, _∙_}
 use mathlib.Core.Bool.{true}
 use native.Mathlib.Omega.{arith}
 use lib.Dec.{eqb}
@@ -7,9 +7,6 @@ use Rattle.casefile.specs.Table.{fieldAt, entryOf}
 use borrow.Author.Needs.{needs}
 use Rattle.casefile.proofs.read_entry.Statement.{statement}
 use Rattle.casefile.proofs.read_entry.Tie as tie
-use Rattle.casefile.proofs.read_entry.Reads as reads
-use Rattle.casefile.proofs.read_entry.Lts as lts
-use Rattle.casefile.proofs.field.Reads as field-reads
 
 kind : (c : tie.Else1)
     → eqb (fieldAt (c .before .before .before .args .file .now) (c .before .before .before .args .place)) (c .before .before .before .args .kind) ≡ true

@@ -1,12 +1,7 @@
-use mathlib.Core.Path.{refl, sym}
 use Rattle.casefile.specs.Harts.{stateOf}
 use borrow.Author.Needs.{needs}
 use Rattle.casefile.proofs.read_state.Statement.{statement}
 use Rattle.casefile.proofs.read_state.Tie as tie
-use Rattle.casefile.proofs.read_state.Reads as reads
-use Rattle.casefile.proofs.read_state.Lts as lts
-use Rattle.casefile.proofs.pcs.Reads as pcs-reads
-use Rattle.casefile.proofs.registers.Reads as registers-reads
 
 registers-requires : tie.Need-registers-requires
 registers-requires c κs = search needs

@@ -1,4 +1,4 @@
-use mathlib.Core.Path.{_≡_, refl, sym, ap, _∙_, subst}
+use mathlib.Core.Path.{_≡_, sym, _∙_, subst}
 use mathlib.Core.Bool.{true, false}
 use mathlib.Core.List.{List}
 use Prim.Native.Nat.{ℕ}
@@ -7,14 +7,10 @@ use lib.Dec.{ltb, eqb}
 use lib.ListN.{length}
 use borrow.Author.Tests.{lt-ltb, le-ltb, eq-eqb, ne-eqb}
 use Rattle.casefile.specs.Table.{fieldAt, entryOf, tableOf, EndsWithin}
-use Rattle.casefile.specs.declared.Entry.the-variants.{Wrong, Ends}
+use Rattle.casefile.specs.declared.Entry.the-variants.{Ends}
 use borrow.Author.Needs.{needs}
 use Rattle.casefile.proofs.read_table.Statement.{statement}
 use Rattle.casefile.proofs.read_table.Tie as tie
-use Rattle.casefile.proofs.read_table.Reads as reads
-use Rattle.casefile.proofs.read_table.Lts as lts
-use Rattle.casefile.proofs.field.Reads as field-reads
-use Rattle.casefile.proofs.read_entry.Reads as read-entry-reads
 
 -- the file, past the three tests, and where an entry ends
 abbrev file : (c : tie.Else3) → List ℕ

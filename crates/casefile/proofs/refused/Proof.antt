@@ -2,8 +2,6 @@ use mathlib.Core.Path.{refl}
 use Rattle.casefile.specs.Harts.{noState}
 use Rattle.casefile.proofs.refused.Statement.{statement}
 use Rattle.casefile.proofs.refused.Tie as tie
-use Rattle.casefile.proofs.refused.Reads as reads
-use Rattle.casefile.proofs.refused.Lts as lts
 
 returns : tie.Need-returns
 unfolding noState

@@ -2,9 +2,6 @@ use borrow.Author.Tests.{eq-eqb, ne-eqb}
 use borrow.Author.Needs.{needs}
 use Rattle.casefile.proofs.register.Statement.{statement}
 use Rattle.casefile.proofs.register.Tie as tie
-use Rattle.casefile.proofs.register.Reads as reads
-use Rattle.casefile.proofs.register.Lts as lts
-use Rattle.word.proofs.bytes.load_at.Reads as load-at-reads
 
 returns : tie.Need-returns
 returns c = rw (eq-eqb _ _ (c .if1 .taken))

@@ -1,17 +1,14 @@
 use borrow.Author.Needs.{needs}
-use mathlib.Core.Path.{_≡_, refl, sym, ap, _∙_}
+use mathlib.Core.Path.{_≡_, sym, _∙_}
 use Prim.Native.Nat.{ℕ, _*_, _-_, _/_, _%_, _≤_}
 use native.Mathlib.Omega.{arith}
 use native.Mathlib.Numerals.{add-one}
-use lib.ListN.{length, replicate, length-replicate}
+use lib.ListN.{replicate, length-replicate}
 use Rattle.word.specs.Each.{each}
 use Rattle.word.proofs.EachLaws.{each-suc}
 use Rattle.casefile.specs.Harts.{registerOf}
 use Rattle.casefile.proofs.registers.Statement.{statement}
 use Rattle.casefile.proofs.registers.Tie as tie
-use Rattle.casefile.proofs.registers.Reads as reads
-use Rattle.casefile.proofs.registers.Lts as lts
-use Rattle.casefile.proofs.register.Reads as register-reads
 
 abbrev Inv-loop : tie.InvT-loop
 Inv-loop body count x₀ i₀ x i = (i ≤ 32 * count) × (x ≡ each (λ k _. registerOf body (k / 32) (k % 32)) i (replicate 256 0))

@@ -1,4 +1,4 @@
-use mathlib.Core.Path.{_≡_, refl, sym, ap, _∙_}
+use mathlib.Core.Path.{sym, ap, _∙_}
 use native.Mathlib.Omega.{arith}
 use Prim.Native.Nat.{_+_, _-_}
 use lib.ListN.{drop, drop-of-length-le, length-drop}
@@ -7,9 +7,6 @@ use Rattle.word.specs.Bytes.{le}
 use borrow.Author.Needs.{needs}
 use Rattle.events.proofs.above.Statement.{statement}
 use Rattle.events.proofs.above.Tie as tie
-use Rattle.events.proofs.above.Reads as reads
-use Rattle.events.proofs.above.Lts as lts
-use Rattle.word.proofs.bytes.load_le.Reads as load-le-reads
 
 returns : tie.Need-returns
 unfolding le

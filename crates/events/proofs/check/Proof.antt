@@ -1,4 +1,4 @@
-use mathlib.Core.Path.{_≡_, refl, sym, ap, _∙_}
+use mathlib.Core.Path.{_≡_, sym, ap, _∙_}
 use mathlib.Core.Bool.{Bool, true, false}
 use Prim.Native.Nat.{ℕ, _+_, _-_, _/_, _%_, _≤_}
 use native.Mathlib.Nat.{sub-zero}
@@ -11,9 +11,6 @@ use Rattle.events.specs.Events.{checkedOf, firstBad, goodEvent}
 use Rattle.events.proofs.EventLaws.{firstBad-none, firstBad-good, firstBad-bad}
 use Rattle.events.proofs.check.Statement.{statement}
 use Rattle.events.proofs.check.Tie as tie
-use Rattle.events.proofs.check.Reads as reads
-use Rattle.events.proofs.check.Lts as lts
-use Rattle.events.proofs.good_event.Reads as good-event-reads
 
 abbrev Inv-loop : tie.InvT-loop
 Inv-loop body count base len at₀ at =

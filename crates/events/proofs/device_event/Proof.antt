@@ -2,12 +2,6 @@ use Rattle.events.specs.Events.{deviceEvent}
 use borrow.Author.Needs.{needs}
 use Rattle.events.proofs.device_event.Statement.{statement}
 use Rattle.events.proofs.device_event.Tie as tie
-use Rattle.events.proofs.device_event.Reads as reads
-use Rattle.events.proofs.device_event.Lts as lts
-use Rattle.events.proofs.above.Reads as above-reads
-use Rattle.reserve.proofs.inside.Reads as inside-reads
-use Rattle.word.proofs.bytes.load_at.Reads as load-at-reads
-use Rattle.word.proofs.bytes.wide.Reads as wide-reads
 
 shared-slice-read-wide : tie.Need-shared-slice-read-wide
 shared-slice-read-wide c = search needs

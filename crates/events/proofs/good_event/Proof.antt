@@ -1,4 +1,4 @@
-use mathlib.Core.Path.{_≡_, refl, sym, ap, _∙_}
+use mathlib.Core.Path.{_≡_, sym, _∙_}
 use mathlib.Core.Bool.{true}
 use lib.Dec.{eqb}
 use borrow.Author.Tests.{eq-eqb, ne-eqb}
@@ -8,11 +8,6 @@ use Rattle.events.specs.Events.{goodEvent}
 use borrow.Author.Needs.{needs}
 use Rattle.events.proofs.good_event.Statement.{statement}
 use Rattle.events.proofs.good_event.Tie as tie
-use Rattle.events.proofs.good_event.Reads as reads
-use Rattle.events.proofs.good_event.Lts as lts
-use Rattle.events.proofs.device_event.Reads as device-event-reads
-use Rattle.events.proofs.hart_event.Reads as hart-event-reads
-use Rattle.word.proofs.bytes.load_at.Reads as load-at-reads
 
 zeros : (c : tie.Else1) → eqb (le (part (c .before .before .before .args .e .now) 3 5)) 0 ≡ true
 zeros c = eq-eqb _ _ (sym (c .before .load-at .ensures) ∙ c .if1 .left)

@@ -2,10 +2,6 @@ use Rattle.events.specs.Events.{hartEvent}
 use borrow.Author.Needs.{needs}
 use Rattle.events.proofs.hart_event.Statement.{statement}
 use Rattle.events.proofs.hart_event.Tie as tie
-use Rattle.events.proofs.hart_event.Reads as reads
-use Rattle.events.proofs.hart_event.Lts as lts
-use Rattle.word.proofs.bytes.load_at.Reads as load-at-reads
-use Rattle.word.proofs.bytes.wide.Reads as wide-reads
 
 shared-slice-read-wide : tie.Need-shared-slice-read-wide
 shared-slice-read-wide c = search needs

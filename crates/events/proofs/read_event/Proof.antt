@@ -1,13 +1,8 @@
 use borrow.Author.Tests.{eq-eqb, ne-eqb}
-use mathlib.Core.Path.{sym, _∙_}
 use Rattle.events.specs.Events.{eventOf}
 use borrow.Author.Needs.{needs}
 use Rattle.events.proofs.read_event.Statement.{statement}
 use Rattle.events.proofs.read_event.Tie as tie
-use Rattle.events.proofs.read_event.Reads as reads
-use Rattle.events.proofs.read_event.Lts as lts
-use Rattle.word.proofs.bytes.load_at.Reads as load-at-reads
-use Rattle.word.proofs.bytes.wide.Reads as wide-reads
 
 shared-slice-read-kind : tie.Need-shared-slice-read-kind
 shared-slice-read-kind c = search needs

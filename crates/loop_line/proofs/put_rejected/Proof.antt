@@ -27,11 +27,16 @@ same-length c = search needs
 
 returns : tie.Need-returns
 returns c =
-    let a = c .before .before .before .before .before .before .before .before .before .before .before .before .before .before .before .before .before .before .put-bytes .ensures in
-    let b = c .before .before .before .before .before .before .before .before .before .before .before .before .before .before .put-decimal .ensures in
-    let d = c .before .before .before .before .before .before .before .before .before .before .put-byte .ensures in
-    let e = c .before .before .before .before .before .before .put-decimal2 .ensures in
-    let f = c .before .before .put-byte2 .ensures in
+    let fifth = c .before .before in
+    let fourth = fifth .before .before .before .before in
+    let third = fourth .before .before .before .before in
+    let second = third .before .before .before .before in
+    let first = second .before .before .before .before in
+    let a = first .put-bytes .ensures in
+    let b = second .put-decimal .ensures in
+    let d = third .put-byte .ensures in
+    let e = fourth .put-decimal2 .ensures in
+    let f = fifth .put-byte2 .ensures in
     (then a (then (b .0) (then d (then (e .0) f))), omega (arith, a .end, b .1, d .end, e .1, f .end))
 
 pub put-rejected-spec : {M : Type 1} → statement M

@@ -2,9 +2,6 @@ use Rattle.machine.specs.State.{hartOk}
 use borrow.Author.Needs.{needs}
 use Rattle.machine.proofs.hart_ok.Statement.{statement}
 use Rattle.machine.proofs.hart_ok.Tie as tie
-use Rattle.machine.proofs.hart_ok.Reads as reads
-use Rattle.machine.proofs.hart_ok.Lts as lts
-use Rattle.machine.proofs.reservation_ok.Reads as reservation-ok-reads
 
 reservation-ok-requires : tie.Need-reservation-ok-requires
 reservation-ok-requires c κs = search needs

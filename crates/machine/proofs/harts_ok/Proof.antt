@@ -2,7 +2,7 @@ use Rattle.machine.specs.declared.State.{State}
 use borrow.Author.Needs.{needs}
 use mathlib.Core.Bool.{true}
 use mathlib.Core.Path.{_≡_, sym, _∙_}
-use Prim.Native.Nat.{ℕ, _-_, _≤_}
+use Prim.Native.Nat.{_-_, _≤_}
 use native.Mathlib.Omega.{arith}
 use borrow.Author.Tests.{not-true, not-false}
 use Rattle.word.specs.Each.{allBelow}
@@ -10,9 +10,6 @@ use Rattle.word.proofs.EachLaws.{all-none, all-more, all-fails}
 use Rattle.machine.specs.State.{hartAt}
 use Rattle.machine.proofs.harts_ok.Statement.{statement}
 use Rattle.machine.proofs.harts_ok.Tie as tie
-use Rattle.machine.proofs.harts_ok.Reads as reads
-use Rattle.machine.proofs.harts_ok.Lts as lts
-use Rattle.machine.proofs.hart_ok.Reads as hart-ok-reads
 
 abbrev Inv-loop : tie.InvT-loop
 Inv-loop base len count x pc res k₀ k =

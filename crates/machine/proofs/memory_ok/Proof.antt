@@ -2,8 +2,6 @@ use mathlib.Core.Path.{refl}
 use Rattle.machine.specs.State.{memoryOk}
 use Rattle.machine.proofs.memory_ok.Statement.{statement}
 use Rattle.machine.proofs.memory_ok.Tie as tie
-use Rattle.machine.proofs.memory_ok.Reads as reads
-use Rattle.machine.proofs.memory_ok.Lts as lts
 
 returns : tie.Need-returns
 unfolding memoryOk

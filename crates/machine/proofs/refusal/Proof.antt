@@ -1,17 +1,10 @@
-use mathlib.Core.Path.{_≡_, sym, _∙_}
+use mathlib.Core.Path.{sym, _∙_}
 use borrow.Author.Tests.{lt-leb, le-leb, not-true, not-false}
 use native.Mathlib.Omega.{arith}
-use lib.Dec.{leb}
-use mathlib.Core.Bool.{true, false}
-use Prim.Native.Nat.{ℕ}
 use Rattle.machine.specs.State.{stateOk, refusalOf}
 use borrow.Author.Needs.{needs}
 use Rattle.machine.proofs.refusal.Statement.{statement}
 use Rattle.machine.proofs.refusal.Tie as tie
-use Rattle.machine.proofs.refusal.Reads as reads
-use Rattle.machine.proofs.refusal.Lts as lts
-use Rattle.machine.proofs.harts_ok.Reads as harts-ok-reads
-use Rattle.machine.proofs.memory_ok.Reads as memory-ok-reads
 
 memory-ok-requires : tie.Need-memory-ok-requires
 memory-ok-requires c κs = search needs

@@ -1,7 +1,6 @@
 use mathlib.Core.Bool.{true}
 use mathlib.Core.Path.{_≡_}
 use mathlib.Core.Logic.{⊎-elim}
-use Prim.Native.Nat.{ℕ, _<_}
 use native.Mathlib.Omega.{arith}
 use lib.Dec.{eqb}
 use borrow.Author.Tests.{eqb-true}
@@ -10,9 +9,6 @@ use Rattle.machine.specs.State.{reservationOk}
 use borrow.Author.Needs.{needs}
 use Rattle.machine.proofs.reservation_ok.Statement.{statement}
 use Rattle.machine.proofs.reservation_ok.Tie as tie
-use Rattle.machine.proofs.reservation_ok.Reads as reads
-use Rattle.machine.proofs.reservation_ok.Lts as lts
-use Rattle.reserve.proofs.inside.Reads as inside-reads
 
 enum-told : tie.Need-enum-told
 enum-told c = search needs

@@ -4,14 +4,6 @@ use Rattle.alu.specs.Amo.{amoOf}
 use borrow.Author.Needs.{needs}
 use Rattle.alu.proofs.atomic.amo.Statement.{statement}
 use Rattle.alu.proofs.atomic.amo.Tie as tie
-use Rattle.alu.proofs.atomic.amo.Reads as reads
-use Rattle.alu.proofs.atomic.amo.Lts as lts
-use Rattle.alu.proofs.atomic.max_signed.Reads as max-signed-reads
-use Rattle.alu.proofs.atomic.max_unsigned.Reads as max-unsigned-reads
-use Rattle.alu.proofs.atomic.min_signed.Reads as min-signed-reads
-use Rattle.alu.proofs.atomic.min_unsigned.Reads as min-unsigned-reads
-use Rattle.alu.proofs.integer.add.Reads as add-reads
-use Rattle.isa.proofs.bits_of.Reads as bits-of-reads
 
 enum-told : tie.Need-enum-told
 enum-told c = search needs

@@ -3,10 +3,6 @@ use Rattle.word.proofs.CodeLaws.{plain-lt}
 use borrow.Author.Needs.{needs}
 use Rattle.alu.proofs.atomic.less_at.Statement.{statement}
 use Rattle.alu.proofs.atomic.less_at.Tie as tie
-use Rattle.alu.proofs.atomic.less_at.Reads as reads
-use Rattle.alu.proofs.atomic.less_at.Lts as lts
-use Rattle.word.proofs.num.to_i32.Reads as to-i32-reads
-use Rattle.word.proofs.num.to_i64.Reads as to-i64-reads
 
 enum-told : tie.Need-enum-told
 enum-told c = search needs

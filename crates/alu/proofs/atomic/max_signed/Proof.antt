@@ -3,9 +3,6 @@ use Rattle.alu.specs.Amo.{maxOf}
 use borrow.Author.Needs.{needs}
 use Rattle.alu.proofs.atomic.max_signed.Statement.{statement}
 use Rattle.alu.proofs.atomic.max_signed.Tie as tie
-use Rattle.alu.proofs.atomic.max_signed.Reads as reads
-use Rattle.alu.proofs.atomic.max_signed.Lts as lts
-use Rattle.alu.proofs.atomic.less_at.Reads as less-at-reads
 
 less-at-requires : tie.Need-less-at-requires
 less-at-requires c κs = search needs

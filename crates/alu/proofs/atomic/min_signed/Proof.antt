@@ -3,9 +3,6 @@ use Rattle.alu.specs.Amo.{minOf}
 use borrow.Author.Needs.{needs}
 use Rattle.alu.proofs.atomic.min_signed.Statement.{statement}
 use Rattle.alu.proofs.atomic.min_signed.Tie as tie
-use Rattle.alu.proofs.atomic.min_signed.Reads as reads
-use Rattle.alu.proofs.atomic.min_signed.Lts as lts
-use Rattle.alu.proofs.atomic.less_at.Reads as less-at-reads
 
 less-at-requires : tie.Need-less-at-requires
 less-at-requires c κs = search needs

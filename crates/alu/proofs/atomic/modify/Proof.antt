@@ -8,11 +8,6 @@ use Rattle.alu.proofs.AmoLaws.{bytes-most, le-fits}
 use borrow.Author.Needs.{needs}
 use Rattle.alu.proofs.atomic.modify.Statement.{statement}
 use Rattle.alu.proofs.atomic.modify.Tie as tie
-use Rattle.alu.proofs.atomic.modify.Reads as reads
-use Rattle.alu.proofs.atomic.modify.Lts as lts
-use Rattle.alu.proofs.atomic.amo.Reads as amo-reads
-use Rattle.word.proofs.bytes.load_le.Reads as load-le-reads
-use Rattle.word.proofs.bytes.store_le.Reads as store-le-reads
 
 load-le-requires : tie.Need-load-le-requires
 load-le-requires c κs = omega (arith, c .before .before .pre .0, bytes-most (c .before .before .args .w))

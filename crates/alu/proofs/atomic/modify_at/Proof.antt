@@ -11,10 +11,6 @@ use Rattle.alu.specs.Amo.{amoOf}
 use borrow.Author.Needs.{needs}
 use Rattle.alu.proofs.atomic.modify_at.Statement.{statement}
 use Rattle.alu.proofs.atomic.modify_at.Tie as tie
-use Rattle.alu.proofs.atomic.modify_at.Reads as reads
-use Rattle.alu.proofs.atomic.modify_at.Lts as lts
-use Rattle.alu.proofs.atomic.modify.Reads as modify-reads
-use Rattle.isa.proofs.bytes_of.Reads as bytes-of-reads
 
 bytes-of-requires : tie.Need-bytes-of-requires
 bytes-of-requires c κs = search needs

@@ -5,10 +5,6 @@ use Rattle.word.proofs.WordLaws.{low-low}
 use borrow.Author.Needs.{needs}
 use Rattle.alu.proofs.integer.add.Statement.{statement}
 use Rattle.alu.proofs.integer.add.Tie as tie
-use Rattle.alu.proofs.integer.add.Reads as reads
-use Rattle.alu.proofs.integer.add.Lts as lts
-use Rattle.std.proofs.num.wrapping_add_u64.Reads as wrapping-add-u64-reads
-use Rattle.word.proofs.num.wrap.Reads as wrap-reads
 
 wrapping-add-u64-requires : tie.Need-wrapping-add-u64-requires
 wrapping-add-u64-requires c κs = search needs

@@ -3,8 +3,6 @@ use native.Mathlib.Nat.{mod-lt}
 use borrow.Author.Needs.{needs}
 use Rattle.alu.proofs.integer.amount.Statement.{statement}
 use Rattle.alu.proofs.integer.amount.Tie as tie
-use Rattle.alu.proofs.integer.amount.Reads as reads
-use Rattle.alu.proofs.integer.amount.Lts as lts
 
 rem-result : tie.Need-rem-result
 rem-result c = search needs

@@ -3,9 +3,6 @@ use Rattle.word.proofs.CodeLaws.{plain-lt}
 use borrow.Author.Needs.{needs}
 use Rattle.alu.proofs.integer.less.Statement.{statement}
 use Rattle.alu.proofs.integer.less.Tie as tie
-use Rattle.alu.proofs.integer.less.Reads as reads
-use Rattle.alu.proofs.integer.less.Lts as lts
-use Rattle.word.proofs.num.to_signed.Reads as to-signed-reads
 
 to-signed-requires : tie.Need-to-signed-requires
 to-signed-requires c κs = search needs

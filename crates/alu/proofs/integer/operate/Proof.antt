@@ -8,14 +8,6 @@ use Rattle.alu.proofs.AluLaws.{byte-is}
 use borrow.Author.Needs.{needs}
 use Rattle.alu.proofs.integer.operate.Statement.{statement}
 use Rattle.alu.proofs.integer.operate.Tie as tie
-use Rattle.alu.proofs.integer.operate.Reads as reads
-use Rattle.alu.proofs.integer.operate.Lts as lts
-use Rattle.alu.proofs.integer.add.Reads as add-reads
-use Rattle.alu.proofs.integer.amount.Reads as amount-reads
-use Rattle.alu.proofs.integer.less.Reads as less-reads
-use Rattle.alu.proofs.integer.shift_left.Reads as shift-left-reads
-use Rattle.alu.proofs.integer.shift_signed.Reads as shift-signed-reads
-use Rattle.alu.proofs.integer.subtract.Reads as subtract-reads
 
 enum-told : tie.Need-enum-told
 enum-told c = search needs

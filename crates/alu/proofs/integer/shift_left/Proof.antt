@@ -4,9 +4,6 @@ use Rattle.word.proofs.WordLaws.{low-low}
 use borrow.Author.Needs.{needs}
 use Rattle.alu.proofs.integer.shift_left.Statement.{statement}
 use Rattle.alu.proofs.integer.shift_left.Tie as tie
-use Rattle.alu.proofs.integer.shift_left.Reads as reads
-use Rattle.alu.proofs.integer.shift_left.Lts as lts
-use Rattle.word.proofs.num.wrap.Reads as wrap-reads
 
 shl-wrap : tie.Need-shl-wrap
 shl-wrap c = search needs

@@ -5,11 +5,6 @@ use Rattle.alu.proofs.AluLaws.{low-shr}
 use borrow.Author.Needs.{needs}
 use Rattle.alu.proofs.integer.shift_signed.Statement.{statement}
 use Rattle.alu.proofs.integer.shift_signed.Tie as tie
-use Rattle.alu.proofs.integer.shift_signed.Reads as reads
-use Rattle.alu.proofs.integer.shift_signed.Lts as lts
-use Rattle.word.proofs.num.from_i64.Reads as from-i64-reads
-use Rattle.word.proofs.num.to_signed.Reads as to-signed-reads
-use Rattle.word.proofs.num.wrap.Reads as wrap-reads
 
 to-signed-requires : tie.Need-to-signed-requires
 to-signed-requires c κs = search needs

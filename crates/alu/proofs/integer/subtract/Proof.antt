@@ -3,10 +3,6 @@ use Rattle.alu.proofs.AluLaws.{low-sub}
 use borrow.Author.Needs.{needs}
 use Rattle.alu.proofs.integer.subtract.Statement.{statement}
 use Rattle.alu.proofs.integer.subtract.Tie as tie
-use Rattle.alu.proofs.integer.subtract.Reads as reads
-use Rattle.alu.proofs.integer.subtract.Lts as lts
-use Rattle.std.proofs.num.wrapping_sub_u64.Reads as wrapping-sub-u64-reads
-use Rattle.word.proofs.num.wrap.Reads as wrap-reads
 
 wrapping-sub-u64-requires : tie.Need-wrapping-sub-u64-requires
 wrapping-sub-u64-requires c κs = search needs

@@ -4,10 +4,6 @@ use borrow.Author.Tests.{eq-eqb, ne-eqb}
 use borrow.Author.Needs.{needs}
 use Rattle.alu.proofs.swap.compare_swap.Statement.{statement}
 use Rattle.alu.proofs.swap.compare_swap.Tie as tie
-use Rattle.alu.proofs.swap.compare_swap.Reads as reads
-use Rattle.alu.proofs.swap.compare_swap.Lts as lts
-use Rattle.word.proofs.bytes.load_le.Reads as load-le-reads
-use Rattle.word.proofs.bytes.store_le.Reads as store-le-reads
 
 load-le-requires : tie.Need-load-le-requires
 load-le-requires c κs = search needs

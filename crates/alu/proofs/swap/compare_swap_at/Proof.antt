@@ -10,9 +10,6 @@ use Rattle.alu.proofs.LentLaws.{lent-cond}
 use borrow.Author.Needs.{needs}
 use Rattle.alu.proofs.swap.compare_swap_at.Statement.{statement}
 use Rattle.alu.proofs.swap.compare_swap_at.Tie as tie
-use Rattle.alu.proofs.swap.compare_swap_at.Reads as reads
-use Rattle.alu.proofs.swap.compare_swap_at.Lts as lts
-use Rattle.alu.proofs.swap.compare_swap.Reads as compare-swap-reads
 
 add-compare-swap : tie.Need-add-compare-swap
 add-compare-swap c = search needs

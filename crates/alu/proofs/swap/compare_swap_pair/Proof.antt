@@ -8,11 +8,6 @@ use Rattle.alu.proofs.PairLaws.{le-pair, splice-pair}
 use borrow.Author.Needs.{needs}
 use Rattle.alu.proofs.swap.compare_swap_pair.Statement.{statement}
 use Rattle.alu.proofs.swap.compare_swap_pair.Tie as tie
-use Rattle.alu.proofs.swap.compare_swap_pair.Reads as reads
-use Rattle.alu.proofs.swap.compare_swap_pair.Lts as lts
-use Rattle.alu.proofs.swap.same.Reads as same-reads
-use Rattle.word.proofs.bytes.load_at.Reads as load-at-reads
-use Rattle.word.proofs.bytes.store_at.Reads as store-at-reads
 
 load-at-requires : tie.Need-load-at-requires
 load-at-requires c κs = search needs

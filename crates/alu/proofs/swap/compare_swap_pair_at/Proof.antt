@@ -11,9 +11,6 @@ use Rattle.alu.proofs.LentLaws.{lent-cond}
 use borrow.Author.Needs.{needs}
 use Rattle.alu.proofs.swap.compare_swap_pair_at.Statement.{statement}
 use Rattle.alu.proofs.swap.compare_swap_pair_at.Tie as tie
-use Rattle.alu.proofs.swap.compare_swap_pair_at.Reads as reads
-use Rattle.alu.proofs.swap.compare_swap_pair_at.Lts as lts
-use Rattle.alu.proofs.swap.compare_swap_pair.Reads as compare-swap-pair-reads
 
 add-end : tie.Need-add-end
 add-end c = search needs

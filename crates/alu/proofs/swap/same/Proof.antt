@@ -6,8 +6,6 @@ use Rattle.alu.specs.Pair.{joined}
 use Rattle.alu.proofs.PairLaws.{same-low, same-high}
 use Rattle.alu.proofs.swap.same.Statement.{statement}
 use Rattle.alu.proofs.swap.same.Tie as tie
-use Rattle.alu.proofs.swap.same.Reads as reads
-use Rattle.alu.proofs.swap.same.Lts as lts
 
 returns : tie.Need-returns
 returns c =

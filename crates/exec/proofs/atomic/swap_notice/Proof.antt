@@ -1,4 +1,3 @@
-use borrow.Author.Needs.{needs}
 use Rattle.exec.proofs.atomic.swap_notice.Statement.{statement}
 use Rattle.exec.proofs.atomic.swap_notice.Tie as tie
 

@@ -4,10 +4,6 @@ use Rattle.word.specs.Word.{signExtend}
 use borrow.Author.Needs.{needs}
 use Rattle.isa.proofs.fields.imm_b.Statement.{statement}
 use Rattle.isa.proofs.fields.imm_b.Tie as tie
-use Rattle.isa.proofs.fields.imm_b.Reads as reads
-use Rattle.isa.proofs.fields.imm_b.Lts as lts
-use Rattle.isa.proofs.fields.low_b.Reads as low-b-reads
-use Rattle.word.proofs.num.sign_extend.Reads as sign-extend-reads
 
 mul-sign-extend : tie.Need-mul-sign-extend
 mul-sign-extend c = search needs

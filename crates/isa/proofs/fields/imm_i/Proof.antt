@@ -4,9 +4,6 @@ use Rattle.word.specs.Word.{signExtend}
 use borrow.Author.Needs.{needs}
 use Rattle.isa.proofs.fields.imm_i.Statement.{statement}
 use Rattle.isa.proofs.fields.imm_i.Tie as tie
-use Rattle.isa.proofs.fields.imm_i.Reads as reads
-use Rattle.isa.proofs.fields.imm_i.Lts as lts
-use Rattle.word.proofs.num.sign_extend.Reads as sign-extend-reads
 
 cast-sign-extend : tie.Need-cast-sign-extend
 cast-sign-extend c = search needs

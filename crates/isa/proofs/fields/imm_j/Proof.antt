@@ -4,10 +4,6 @@ use Rattle.word.specs.Word.{signExtend}
 use borrow.Author.Needs.{needs}
 use Rattle.isa.proofs.fields.imm_j.Statement.{statement}
 use Rattle.isa.proofs.fields.imm_j.Tie as tie
-use Rattle.isa.proofs.fields.imm_j.Reads as reads
-use Rattle.isa.proofs.fields.imm_j.Lts as lts
-use Rattle.isa.proofs.fields.low_j.Reads as low-j-reads
-use Rattle.word.proofs.num.sign_extend.Reads as sign-extend-reads
 
 mul-sign-extend : tie.Need-mul-sign-extend
 mul-sign-extend c = search needs

@@ -4,9 +4,6 @@ use Rattle.word.specs.Word.{signExtend}
 use borrow.Author.Needs.{needs}
 use Rattle.isa.proofs.fields.imm_u.Statement.{statement}
 use Rattle.isa.proofs.fields.imm_u.Tie as tie
-use Rattle.isa.proofs.fields.imm_u.Reads as reads
-use Rattle.isa.proofs.fields.imm_u.Lts as lts
-use Rattle.word.proofs.num.sign_extend.Reads as sign-extend-reads
 
 mul-sign-extend : tie.Need-mul-sign-extend
 mul-sign-extend c = search needs
