@@ -51,7 +51,7 @@ fn max_unsigned(a: u64, b: u64) -> u64
 }
 
 // What the operation leaves in memory.
-pub fn amo(op: AmoOp, w: Width, old: u64, operand: u64) -> u64
+fn amo(op: AmoOp, w: Width, old: u64, operand: u64) -> u64
     requires { ⌜ (old < 2 ^ bitsOf w) × (operand < 2 ^ bitsOf w) ⌝ }
     ensures { λ r. ⌜ r ≡ amoOf op (bitsOf w) old operand ⌝ }
 {
@@ -69,7 +69,7 @@ pub fn amo(op: AmoOp, w: Width, old: u64, operand: u64) -> u64
 }
 
 // The read-modify-write of the lent bytes: their old number.
-pub fn modify(bytes: &mut [u8], op: AmoOp, w: Width, operand: u64) -> u64
+fn modify(bytes: &mut [u8], op: AmoOp, w: Width, operand: u64) -> u64
     requires { ⌜ length (now bytes) ≡ bytesOf w ⌝ }
     requires { ⌜ operand < 2 ^ bitsOf w ⌝ }
     ensures { λ r. ⌜ r ≡ le (now (bytes .entry)) ⌝ }

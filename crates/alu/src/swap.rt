@@ -19,7 +19,7 @@ pub struct Pair {
 }
 
 // Sets the lent bytes to new if their number is the wanted one: their old number.
-pub fn compare_swap(bytes: &mut [u8], want: u64, new: u64) -> u64
+fn compare_swap(bytes: &mut [u8], want: u64, new: u64) -> u64
     requires { ⌜ length (now bytes) ≤ 8 ⌝ }
     ensures { λ r. ⌜ r ≡ le (now (bytes .entry)) ⌝ }
     ensures { λ _. ⌜ now (bytes .exit) ≡ cond (eqb (le (now (bytes .entry))) want) (toLe (length (now (bytes .entry))) new) (now (bytes .entry)) ⌝ }
@@ -55,7 +55,7 @@ pub fn same(p: Pair, q: Pair) -> bool
 }
 
 // Sets the sixteen lent bytes to new if their number is the wanted one: their old number.
-pub fn compare_swap_pair(bytes: &mut [u8], want: Pair, new: Pair) -> Pair
+fn compare_swap_pair(bytes: &mut [u8], want: Pair, new: Pair) -> Pair
     requires { ⌜ length (now bytes) ≡ 16 ⌝ }
     ensures { λ r. ⌜ joined r ≡ le (now (bytes .entry)) ⌝ }
     ensures { λ _. ⌜ now (bytes .exit) ≡ cond (eqb (le (now (bytes .entry))) (joined want)) (toLe 16 (joined new)) (now (bytes .entry)) ⌝ }

@@ -1,5 +1,5 @@
 // The functions that C and Rust call: include/floecavern.h says how. None has a precondition.
-pub mod steps;
+mod steps;
 
 use retry::LoopAnswer;
 ghost use mathlib.Core.Path.{_≡_};

@@ -55,7 +55,7 @@ fn plus(a: u64, imm: u64) -> u64
 }
 
 // An atomic instruction of hart h, whose reservation is res.
-pub fn atomic(
+fn atomic(
     m: Atomic,
     x: &[u64; 256],
     h: usize,
@@ -126,7 +126,7 @@ fn store(
 }
 
 // An instruction of hart h, whose reservation is res. The word is the value of cause 2.
-pub fn execute(
+fn execute(
     i: Instr,
     word: u32,
     x: &[u64; 256],

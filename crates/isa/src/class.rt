@@ -2,7 +2,7 @@
 ghost use mathlib.Core.Path.{_≡_};
 ghost use Rattle.isa.specs.Decode.{classOf};
 
-pub const NONE: u8 = 0;
+const NONE: u8 = 0;
 
 pub const LOAD: u8 = 1;
 
