@@ -43,6 +43,12 @@ verdictIn r = r .ran .verdict
 -- ---- the rows decide
 
 module _ (base : ℕ) (mem : List ℕ) (s : State) (body : List ℕ) where
+  -- a row of 11 is one of the body
+  of-body : (p : ℕ) → RunRow base mem s body 11 p → WrongEvents (s .count) base (length mem) body p
+  of-body p (wrongMemory q z r) = absurd (omega arith)
+  of-body p (wrongState q z r) = absurd (omega arith)
+  of-body p (wrongBody q r) = r
+
   none-below : (n : ℕ) → (1 < n → MemoryRules base (length mem)) → (2 < n → StateRules base (length mem) s)
       → (11 < n → NoneWrong (s .count) base (length mem) body) → (k p : ℕ) → k < n → RunRow base mem s body k p → ⊥
   none-below n a b c k p l (wrongMemory q z r) = r (a (omega arith))
@@ -53,12 +59,6 @@ module _ (base : ℕ) (mem : List ℕ) (s : State) (body : List ℕ) where
   most k p (wrongMemory q z r) = omega arith
   most k p (wrongState q z r) = omega arith
   most k p (wrongBody q r) = omega arith
-
-  -- a row of 11 is one of the body
-  of-body : (p : ℕ) → RunRow base mem s body 11 p → WrongEvents (s .count) base (length mem) body p
-  of-body p (wrongMemory q z r) = absurd (omega arith)
-  of-body p (wrongState q z r) = absurd (omega arith)
-  of-body p (wrongBody q r) = r
 
   -- one number and one place
   pub run-refused-one : (m p n q : ℕ) → RunRefused base mem s body m p → RunRefused base mem s body n q → (m ≡ n) × (p ≡ q)

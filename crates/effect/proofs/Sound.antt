@@ -133,7 +133,7 @@ module _ (xlen : ℕ) (enough : 2 ≤ xlen) (pc : ℕ) (aligned : pc % 4 ≡ 0) 
     sound-atomic Sc m x = sound-sc (m .width) (m .rd) (x (m .rs1)) (x (m .rs2))
     sound-atomic Cas m x = sound-cas (m .width) (m .rd) (x (m .rs1)) (x (m .rd)) (x (m .rs2))
     sound-atomic CasPair m x = sound-cas-pair (m .rd) (x (m .rs1)) (pairAt x (m .rd)) (pairAt x (m .rs2))
-    sound-atomic (Rmw op) m x = sound-amo op (m .width) (m .rd) (x (m .rs1)) (x (m .rs2))
+    sound-atomic (Rmw op) m x = sound-amo op (m .width) (m .rd) (x (m .rs1)) _
 
     pub sound-execute : (i : Instr) (word : ℕ) (x : ℕ → ℕ) → Sound base (length mem) (execute xlen i word x pc base mem covered)
     unfolding execute execAtomic

@@ -38,6 +38,24 @@ module _ (size h a w : ℕ) where
   unreached : (g b n : ℕ) → g ≢ h → (not (eqb g h) && touches b n (setOf size a) size) ≡ false → Touch b n (setOf size a) size → ⊥
   unreached g b n d f = apart-exact b n (setOf size a) size .0 (rw (ne-eqb g h d) at f)
 
+  -- the LR makes the reservation
+  pub made : (r : Reservation) → observeOf size h (LoadReserved h a w) r ≡ Held a w
+  unfolding observeOf breaksOf ownOf
+  made None = rw (eq-eqb h h refl)
+  made (Held b v) = rw (eq-eqb h h refl)
+
+  -- what spares it keeps it
+  pub kept : (n : Notice) → Spares size h a w n → observeOf size h n (Held a w) ≡ Held a w
+  unfolding observeOf breaksOf ownOf Spares
+  kept Quiet s = refl
+  kept (LoadReserved g b v) s = rw (ne-eqb g h s)
+  kept (ScStored g b n) s = rw (ne-eqb g h (s .0), apart-exact b n (setOf size a) size .1 (s .1))
+  kept (ScFailed g) s = rw (ne-eqb g h s)
+  kept (Write g b n) s =
+      bool-cases (eqb g h) (λ t. rw t) (λ t. rw (t, apart-exact b n (setOf size a) size .1 (s (eqb-false g h t))))
+  kept (DeviceWrite b n) s = rw (apart-exact b n a w .1 s)
+  kept (Yield g) s = rw (ne-eqb g h s)
+
   -- where a reservation that is held after a notice comes from: the notice made it, or spared it
   Came : Notice → Reservation → Type 0
   Came n r = (n ≡ LoadReserved h a w) ⊎ ((r ≡ Held a w) × Spares size h a w n)
@@ -59,24 +77,6 @@ module _ (size h a w : ℕ) where
   pub came : (n : Notice) (r : Reservation) → observeOf size h n r ≡ Held a w → (n ≡ LoadReserved h a w) ⊎ ((r ≡ Held a w) × Spares size h a w n)
   unfolding observeOf Came
   came n r e = let s = not-none (breaksOf size h n r) (ownOf h n r) a w e in came-by n r (s .0) (s .1)
-
-  -- the LR makes the reservation
-  pub made : (r : Reservation) → observeOf size h (LoadReserved h a w) r ≡ Held a w
-  unfolding observeOf breaksOf ownOf
-  made None = rw (eq-eqb h h refl)
-  made (Held b v) = rw (eq-eqb h h refl)
-
-  -- what spares it keeps it
-  pub kept : (n : Notice) → Spares size h a w n → observeOf size h n (Held a w) ≡ Held a w
-  unfolding observeOf breaksOf ownOf Spares
-  kept Quiet s = refl
-  kept (LoadReserved g b v) s = rw (ne-eqb g h s)
-  kept (ScStored g b n) s = rw (ne-eqb g h (s .0), apart-exact b n (setOf size a) size .1 (s .1))
-  kept (ScFailed g) s = rw (ne-eqb g h s)
-  kept (Write g b n) s =
-      bool-cases (eqb g h) (λ t. rw t) (λ t. rw (t, apart-exact b n (setOf size a) size .1 (s (eqb-false g h t))))
-  kept (DeviceWrite b n) s = rw (apart-exact b n a w .1 s)
-  kept (Yield g) s = rw (ne-eqb g h s)
 
   pub all-kept : (ns : List Notice) → AllSpare size h a w ns → observes size h ns (Held a w) ≡ Held a w
   all-kept [] s = refl

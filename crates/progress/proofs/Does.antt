@@ -30,7 +30,7 @@ use Rattle.model.specs.Act.{setReg, written}
 use Rattle.retry.specs.Loop.{atomicView, viewOf}
 use Rattle.retry.specs.declared.View.{View}
 use Rattle.retry.specs.declared.View.the-variants.{Lr, Sc, Plain, Jump, Branch, Other}
-use Rattle.retry.proofs.Accepted.{Keeps}
+use Rattle.retry.proofs.ShapeLaws.{Keeps}
 
 -- it retires, goes to a place with an access, and leaves every register that a write of rd leaves
 pub record Moves (e : Exec) (rd to : ℕ) (t : Access) : Type 0 where

@@ -52,7 +52,7 @@ use Rattle.retry.specs.declared.LoopAnswer.the-variants.{Accepted}
 use Rattle.retry.specs.declared.View.{View}
 use Rattle.retry.specs.declared.View.the-variants.{Lr, Sc, Plain, Jump, Branch, Other}
 use Rattle.retry.proofs.ViewLaws.{Seen, SeenLr, SeenSc, seen, lr-view}
-use Rattle.retry.proofs.Accepted.{Ahead, Home, Keeps, Before, After, Block, block}
+use Rattle.retry.proofs.ShapeLaws.{Ahead, Home, Keeps, Before, After, Block, block}
 use Rattle.progress.specs.Claim.{hartPc, isStep, StoresAtLr, FineAs, Fine, Start, Harmless, Finish, bySc, left, back}
 use Rattle.progress.specs.Claim.{Safe, Finishes, Calm, Unfinished, steps, NextStep}
 use Rattle.progress.proofs.Does.{Moves, Does, does, does-lr, does-sc}

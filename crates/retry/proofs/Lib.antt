@@ -5,4 +5,4 @@ pub mod BlockLaws
 pub mod ViewLaws
 pub mod PlaceLaws
 pub mod ReasonLaws
-pub mod Accepted
+pub mod ShapeLaws

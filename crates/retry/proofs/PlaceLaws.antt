@@ -62,6 +62,18 @@ is-above : (offset : ℕ) → Above offset → isAbove offset ≡ true
 is-above offset a = both (ltb 0 offset) (ltb offset (2 ^ 63)) (lt-ltb 0 offset (a .0)) (lt-ltb offset (2 ^ 63) (a .1))
 
 module _ (past : Bool) (place offset : ℕ) where
+  right : wrongOffset past place offset ≡ false → WrongBy (past ≡ true) place offset → ⊥
+  unfolding wrongOffset WrongBy
+  right t (inl odd) =
+      odd (eqb-true (offset % 4) 0 (not-false (eqb (offset % 4) 0) (or-left (not (eqb (offset % 4) 0)) _ t)))
+  right t (inr low) =
+      let f : (not (isAbove offset) && not (past && toStart place offset)) ≡ false = or-right (not (eqb (offset % 4) 0)) _ t in
+      bool-cases (isAbove offset) (λ a. low .0 (above offset a))
+      (λ a.
+      let home = not-false (past && toStart place offset) (and-second (not (isAbove offset)) _ f (not-of (isAbove offset) a)) in
+      let s = and-both past (toStart place offset) home in
+      low .1 (s .0, eqb-true ((4 * place + offset) % 2 ^ 64) 0 (s .1)))
+
   wrong : wrongOffset past place offset ≡ true → WrongBy (past ≡ true) place offset
   unfolding wrongOffset WrongBy
   wrong t = ⊎-elim odd low (or-either (not (eqb (offset % 4) 0)) (not (isAbove offset) && not (past && toStart place offset)) t)
@@ -78,18 +90,6 @@ module _ (past : Bool) (place offset : ℕ) where
                 contrary (both past (toStart place offset) (h .0) (eq-eqb ((4 * place + offset) % 2 ^ 64) 0 (h .1)))
                 (not-true (past && toStart place offset) (s .1))),
           )
-
-  right : wrongOffset past place offset ≡ false → WrongBy (past ≡ true) place offset → ⊥
-  unfolding wrongOffset WrongBy
-  right t (inl odd) =
-      odd (eqb-true (offset % 4) 0 (not-false (eqb (offset % 4) 0) (or-left (not (eqb (offset % 4) 0)) _ t)))
-  right t (inr low) =
-      let f : (not (isAbove offset) && not (past && toStart place offset)) ≡ false = or-right (not (eqb (offset % 4) 0)) _ t in
-      bool-cases (isAbove offset) (λ a. low .0 (above offset a))
-      (λ a.
-      let home = not-false (past && toStart place offset) (and-second (not (isAbove offset)) _ f (not-of (isAbove offset) a)) in
-      let s = and-both past (toStart place offset) home in
-      low .1 (s .0, eqb-true ((4 * place + offset) % 2 ^ 64) 0 (s .1)))
 
 clobbers-true : (rs1 rd : ℕ) → clobbers rs1 rd ≡ true → (rd ≡ rs1) × (rs1 ≡ 0 → ⊥)
 unfolding clobbers
