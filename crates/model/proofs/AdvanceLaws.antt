@@ -101,9 +101,9 @@ module _ (base : ℕ) (m : Machine) (v : Valid base m) (e : Event) {act : Act} (
       → mem ≡ leaves base (m .mem) act
       → Advances base e m r (record { state = record { count = m .state .count; x = x; pc = pc; res = res }; mem = mem })
   unfolding answerOf memoryOf nextOf apply
-  advances answered registers pcs slots memory =
+  advances answer registers pcs slots memory =
       let d = act-valid base m v e ∙ is in
-      record { outcome = rw d answered; machine = rw (d, registers, pcs, slots, memory) }
+      record { outcome = rw d answer; machine = rw (d, registers, pcs, slots, memory) }
 
 pub take-events : (k n : ℕ) (body : List ℕ) → k ≤ n → take k (firstEvents n body) ≡ firstEvents k body
 unfolding firstEvents

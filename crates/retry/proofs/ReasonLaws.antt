@@ -143,18 +143,18 @@ module _ (ws : List ℕ) (lr : Atomic) (first : LrAt ws 0 lr) where
       bool-cases (ltb k p) (λ t. h k r (ltb-true k p t) q)
       (λ t. let e : k ≡ p = omega (arith, ltb-false k p t) in f r (subst (λ (n : ℕ). Reason ws n r) e q))
 
-  answered : (p r : ℕ) (rest : LoopAnswer) → At ws p r → ((k s : ℕ) → k < p → Reason ws k s → ⊥)
+  settles : (p r : ℕ) (rest : LoopAnswer) → At ws p r → ((k s : ℕ) → k < p → Reason ws k s → ⊥)
       → (((k s : ℕ) → k < suc p → Reason ws k s → ⊥) → Decides ws rest) → Decides ws (orElse p r rest)
-  answered p zero rest (clear z f) h go = go (one-more p h f)
-  answered p zero rest (found n a b) h go = absurd (n refl)
-  answered p (suc r) rest (clear z f) h go = absurd (omega arith)
-  answered p (suc r) rest (found n a b) h go = record { applies = a; lowestPlace = h; lowestReason = b }
+  settles p zero rest (clear z f) h go = go (one-more p h f)
+  settles p zero rest (found n a b) h go = absurd (n refl)
+  settles p (suc r) rest (clear z f) h go = absurd (omega arith)
+  settles p (suc r) rest (found n a b) h go = record { applies = a; lowestPlace = h; lowestReason = b }
 
   scanned : (n p : ℕ) → p + n ≡ length ws → ((k r : ℕ) → k < p → Reason ws k r → ⊥) → Decides ws (scanOf rs1 width ws n p)
   unfolding scanOf
   scanned zero p e h = ended p (pastSc ws p) refl (omega arith) h
   scanned (suc n) p e h =
-      answered p (lowestOf rs1 width (pastSc ws p) p (viewAt ws p)) (scanOf rs1 width ws n (suc p)) (at-place p (omega arith)) h
+      settles p (lowestOf rs1 width (pastSc ws p) p (viewAt ws p)) (scanOf rs1 width ws n (suc p)) (at-place p (omega arith)) h
       (λ more. scanned n (suc p) (omega arith) more)
 
 -- ---- the whole block
