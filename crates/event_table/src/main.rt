@@ -10,6 +10,7 @@ ghost use mathlib.Core.Bool.{cond};
 ghost use Prim.Native.Nat.{_+_, _%_, _^_, _≤_, min};
 ghost use lib.Dec.{ltb};
 ghost use lib.ListN.{length, take};
+ghost use Rattle.io.specs.Counts.{Counts};
 ghost use Rattle.model.specs.Perform.{answerOf};
 ghost use Rattle.event_table.specs.Build.{firstOf, itemKind, patchOf, eventIn};
 
@@ -79,9 +80,11 @@ fn take(c: Case, mem: &mut [u8; 8192], item: &[u8; 24]) -> Case
     build::first(std::num::wrapping_add_u64(c.number, 1))
 }
 
-// Reads the next item; whether there was one.
-fn read(item: &mut [u8; 24]) -> bool {
-    io::read_full(STDIN_FILENO, item) == 24
+// Reads the next item: how many of its bytes there were.
+fn read(item: &mut [u8; 24]) -> usize
+    ensures { λ r. ⌜ Counts r (now (item .exit)) ⌝ }
+{
+    io::read_full(STDIN_FILENO, item)
 }
 
 fn main() {
@@ -91,7 +94,7 @@ fn main() {
     let mut c = build::first(0);
     let mut left: u64 = 1000000;
     while 0 < left {
-        if !read(&mut item) {
+        if read(&mut item) != 24 {
             return;
         }
         c = take(c, &mut mem, &item);
