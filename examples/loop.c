@@ -12,18 +12,21 @@
 int main(void)
 {
     /* A word more than a block may have: a longer one is refused whatever its words, so that the rest is only counted. */
-    static uint8_t words[4 * 17], rest[4096];
-    size_t n = fread(words, 1, sizeof words, stdin), total = n, more;
+    static uint32_t words[17];
+    static uint8_t rest[4096];
+    size_t total = fread(words, 1, sizeof words, stdin), more;
     while ((more = fread(rest, 1, sizeof rest, stdin)) > 0)
         total += more;
-    uint64_t r = total % 4 == 0 ? floecavern_check_loop(words, n) : FLOECAVERN_BAD_SIZE;
-    if (r == FLOECAVERN_BAD_SIZE)
+    if (total % 4 != 0) {
         printf("bad input: length is not a multiple of 4\n");
-    else if (r == FLOECAVERN_LOOP_ACCEPTED)
-        printf("accepted\n");
-    else if (r == FLOECAVERN_LOOP_REFUSED)
-        printf("refused 6\n");
+        return 0;
+    }
+    floecavern_verdict verdict = floecavern_check_words(words, total / 4 > 17 ? 17 : total / 4);
+    if (verdict.refusal != FLOECAVERN_REFUSAL_NONE)
+        printf("refused %d\n", (int)verdict.refusal);
+    else if (verdict.reason != FLOECAVERN_REASON_NONE)
+        printf("rejected %" PRIu64 " %d\n", verdict.place, (int)verdict.reason);
     else
-        printf("rejected %" PRIu64 " %" PRIu64 "\n", FLOECAVERN_LOOP_PLACE(r), FLOECAVERN_LOOP_REASON(r));
+        printf("accepted\n");
     return 0;
 }

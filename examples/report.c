@@ -1,16 +1,17 @@
-/* Prints the lines of a case file: report FILE. From the repository's root:
+/* Prints the lines of a case file: report FILE. Says on standard error why a file is refused. From the repository's root:
  *
  *   rt staticlib capi
  *   cc -Wall -Wextra -Iinclude examples/report.c target/staticlib/libcapi.a -o target/report
  *   target/report crates/floecavern/stdin
  */
+#include <inttypes.h>
 #include <stdio.h>
 
 #include "floecavern.h"
 
 /* A byte more than a case file may have, so that a longer file is seen to be longer. */
 static uint8_t file[65537];
-static uint8_t out[FLOECAVERN_REPORT_ROOM];
+static floecavern_text text;
 
 int main(int argc, char **argv)
 {
@@ -29,6 +30,8 @@ int main(int argc, char **argv)
         return 1;
     }
     fclose(f);
-    uint64_t r = floecavern_report(file, n, out, sizeof out);
-    return fwrite(out, 1, r, stdout) == r ? 0 : 1;
+    floecavern_refused_at refused = floecavern_report_text(file, n, &text);
+    if (refused.refusal != FLOECAVERN_REFUSAL_NONE)
+        fprintf(stderr, "%s: %s (byte %" PRIu64 ")\n", argv[1], floecavern_refusal_text(refused.refusal), refused.place);
+    return fwrite(text.bytes, 1, text.len, stdout) == text.len ? 0 : 1;
 }

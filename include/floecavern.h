@@ -13,12 +13,31 @@
  * The machine is performed in two ways: floecavern_report takes a whole case file; floecavern_step,
  * floecavern_device_write, floecavern_yield and floecavern_run take a state and a memory that the caller keeps.
  * floecavern_check_loop looks at a block of words alone.
+ *
+ * Those six functions take bytes and answer a number. The second half of this file is the typed form, for programs:
+ * inline functions over the six, with a machine, events and outcomes as structs. Compiles as C89 to C17 and as C++.
  */
 #ifndef FLOECAVERN_H
 #define FLOECAVERN_H
 
 #include <stddef.h>
 #include <stdint.h>
+#include <string.h>
+
+/* The version of this interface: of this header, of rust/ and of python/ alike. */
+#define FLOECAVERN_VERSION "0.2.0"
+#define FLOECAVERN_VERSION_MAJOR 0
+#define FLOECAVERN_VERSION_MINOR 2
+#define FLOECAVERN_VERSION_PATCH 0
+
+/* A condition that must hold where this is compiled: name is an identifier that no other assertion has. */
+#if defined(__cplusplus) && __cplusplus >= 201103L
+#define FLOECAVERN_ASSERT(name, condition) static_assert(condition, #name)
+#elif !defined(__cplusplus) && defined(__STDC_VERSION__) && __STDC_VERSION__ >= 201112L
+#define FLOECAVERN_ASSERT(name, condition) _Static_assert(condition, #name)
+#else
+#define FLOECAVERN_ASSERT(name, condition) typedef char floecavern_assert_##name[(condition) ? 1 : -1]
+#endif
 
 #ifdef __cplusplus
 extern "C" {
@@ -112,6 +131,11 @@ typedef struct {
 
 #define FLOECAVERN_STATE_SIZE 2312
 
+FLOECAVERN_ASSERT(a_state_is_2312_bytes, sizeof(floecavern_state) == FLOECAVERN_STATE_SIZE);
+FLOECAVERN_ASSERT(x_stands_at_8, offsetof(floecavern_state, x) == 8);
+FLOECAVERN_ASSERT(pc_stands_at_2056, offsetof(floecavern_state, pc) == 2056);
+FLOECAVERN_ASSERT(reservations_stand_at_2120, offsetof(floecavern_state, reservation) == 2120);
+
 /* The memory is the caller's bytes: mem_len of them, 64 to 1048576 and a multiple of 64, at the address base, a multiple
  * of 64 and at most 2^40.
  *
@@ -144,9 +168,13 @@ typedef struct {
  * A memory of a wrong length, as a wrong base, is refusal 1 and no bad size.
  *
  * The macros below are for answers to events and runs, not for those of floecavern_check_loop; some use r twice. */
-#define FLOECAVERN_RETIRED 0
-#define FLOECAVERN_SC_STORED 1
-#define FLOECAVERN_SC_FAILED 2
+typedef enum {
+    FLOECAVERN_RETIRED = 0,
+    FLOECAVERN_SC_STORED = 1,
+    FLOECAVERN_SC_FAILED = 2,
+    FLOECAVERN_TRAP = 256,   /* 256 + cause, in an answer */
+    FLOECAVERN_REFUSED = 512 /* 512 + number, in an answer */
+} floecavern_kind;
 
 #define FLOECAVERN_IS_TRAP(r) ((r) >= 256 && (r) < 512)
 #define FLOECAVERN_CAUSE(r) ((r) - 256)
@@ -187,6 +215,397 @@ uint64_t floecavern_run(uint8_t *state, size_t state_len, uint64_t base, uint8_t
                         const uint8_t *events, size_t events_len, size_t budget, uint8_t *ran, size_t ran_len);
 
 #define FLOECAVERN_PERFORMED 0
+
+/* ---- The typed form ----
+ *
+ * Inline functions over the six above. Sizes are right by type; a NULL or a length that no buffer can have is refused
+ * by the model's own number, as each function says. What is asked is that machine, text, event and bytes are not NULL,
+ * that a length is that of the buffer before it, and that a machine, its memory and a text overlap no other argument. */
+#if defined(__GNUC__)
+#define FLOECAVERN_INLINE static __inline__
+#elif defined(__cplusplus) || (defined(__STDC_VERSION__) && __STDC_VERSION__ >= 199901L)
+#define FLOECAVERN_INLINE static inline
+#else
+#define FLOECAVERN_INLINE static
+#endif
+
+/* Causes, by the names that the privileged manual has for them. */
+typedef enum {
+    FLOECAVERN_CAUSE_INSTRUCTION_ADDRESS_MISALIGNED = 0,
+    FLOECAVERN_CAUSE_INSTRUCTION_ACCESS_FAULT = 1,
+    FLOECAVERN_CAUSE_ILLEGAL_INSTRUCTION = 2,
+    FLOECAVERN_CAUSE_BREAKPOINT = 3,
+    FLOECAVERN_CAUSE_LOAD_ADDRESS_MISALIGNED = 4,
+    FLOECAVERN_CAUSE_LOAD_ACCESS_FAULT = 5,
+    FLOECAVERN_CAUSE_STORE_ADDRESS_MISALIGNED = 6,
+    FLOECAVERN_CAUSE_STORE_ACCESS_FAULT = 7,
+    FLOECAVERN_CAUSE_ENVIRONMENT_CALL = 8
+} floecavern_cause;
+
+/* Refusals: 1 to 5 of an event, 6 of a block, 7 to 11 of a case file, 1, 2 and 11 of a run. */
+typedef enum {
+    FLOECAVERN_REFUSAL_NONE = 0,
+    FLOECAVERN_REFUSAL_MEMORY = 1,
+    FLOECAVERN_REFUSAL_STATE = 2,
+    FLOECAVERN_REFUSAL_HART = 3,
+    FLOECAVERN_REFUSAL_DEVICE_SIZE = 4,
+    FLOECAVERN_REFUSAL_DEVICE_ADDRESS = 5,
+    FLOECAVERN_REFUSAL_BLOCK = 6,
+    FLOECAVERN_REFUSAL_FILE_LENGTH = 7,
+    FLOECAVERN_REFUSAL_TABLE = 8,
+    FLOECAVERN_REFUSAL_HARTS_BODY = 9,
+    FLOECAVERN_REFUSAL_MEMORY_BODY = 10,
+    FLOECAVERN_REFUSAL_EVENTS = 11
+} floecavern_refusal;
+
+/* Why a block of words is rejected. */
+typedef enum {
+    FLOECAVERN_REASON_NONE = 0,
+    FLOECAVERN_REASON_NO_LR = 1,
+    FLOECAVERN_REASON_NOT_PERMITTED = 2,
+    FLOECAVERN_REASON_JUMP = 3,
+    FLOECAVERN_REASON_WRITES_RS1 = 4,
+    FLOECAVERN_REASON_OTHER_SC = 5,
+    FLOECAVERN_REASON_NO_SC = 6
+} floecavern_reason;
+
+/* A short text for a cause, a refusal or a reason, of any number. */
+FLOECAVERN_INLINE const char *floecavern_cause_text(uint64_t cause)
+{
+    switch (cause) {
+    case 0: return "instruction address misaligned";
+    case 1: return "instruction access fault";
+    case 2: return "illegal instruction";
+    case 3: return "breakpoint";
+    case 4: return "load address misaligned";
+    case 5: return "load access fault";
+    case 6: return "store/AMO address misaligned";
+    case 7: return "store/AMO access fault";
+    case 8: return "environment call";
+    default: return "no cause of the model";
+    }
+}
+
+FLOECAVERN_INLINE const char *floecavern_refusal_text(uint64_t refusal)
+{
+    switch (refusal) {
+    case 0: return "not refused";
+    case 1: return "the memory's length or base is wrong";
+    case 2: return "the state is wrong";
+    case 3: return "the hart is not below the count";
+    case 4: return "a device write of 0 or more than 8 bytes";
+    case 5: return "a device write not wholly in memory";
+    case 6: return "a block of fewer than 2 or more than 16 words";
+    case 7: return "the file's length is not 40 to 65536";
+    case 8: return "the table of contents is wrong";
+    case 9: return "the harts body is wrong";
+    case 10: return "the memory body's length is wrong";
+    case 11: return "an event or the length of the events is wrong";
+    default: return "no refusal of the model";
+    }
+}
+
+FLOECAVERN_INLINE const char *floecavern_reason_text(uint64_t reason)
+{
+    switch (reason) {
+    case 0: return "not rejected";
+    case 1: return "place 0 is not an LR";
+    case 2: return "a word that a retry loop may not hold";
+    case 3: return "a jump or branch that a retry loop may not make";
+    case 4: return "the LR's rs1 is written before the SC";
+    case 5: return "the SC has another width or rs1 than the LR";
+    case 6: return "no SC";
+    default: return "no reason of the model";
+    }
+}
+
+/* What an event came to. cause and value are a trap's, refusal is a refusal's; they are 0 with every other kind. */
+typedef struct {
+    floecavern_kind kind;
+    floecavern_cause cause;
+    floecavern_refusal refusal;
+    uint64_t value;
+} floecavern_outcome;
+
+/* What a run did: how many events it performed; or, if refusal is not FLOECAVERN_REFUSAL_NONE, none, and the place of
+ * refusal 11, counted in bytes from the first event (0 with 1 and 2). */
+typedef struct {
+    floecavern_refusal refusal;
+    uint64_t performed;
+    uint64_t place;
+} floecavern_ran;
+
+/* What the checker says of a block: accepted if reason and refusal are both NONE. */
+typedef struct {
+    floecavern_refusal refusal;
+    floecavern_reason reason;
+    uint64_t place;
+} floecavern_verdict;
+
+/* An event, laid out as an events body has it, so that an array of events is a body. The functions below make them. */
+typedef struct {
+    uint8_t kind;
+    uint8_t hart;
+    uint8_t size;
+    uint8_t zeros[5];
+    uint64_t addr;
+    uint64_t data;
+} floecavern_event;
+
+#define FLOECAVERN_EVENT_SIZE 24
+#define FLOECAVERN_EVENT_STEP 1
+#define FLOECAVERN_EVENT_DEVICE_WRITE 2
+#define FLOECAVERN_EVENT_YIELD 3
+
+FLOECAVERN_ASSERT(an_event_is_24_bytes, sizeof(floecavern_event) == FLOECAVERN_EVENT_SIZE);
+FLOECAVERN_ASSERT(an_address_stands_at_8, offsetof(floecavern_event, addr) == 8);
+FLOECAVERN_ASSERT(data_stands_at_16, offsetof(floecavern_event, data) == 16);
+
+/* A hart or a size has one byte. A number that does not fit becomes 255, which every run refuses, so that no event
+ * turns into another one. */
+FLOECAVERN_INLINE uint8_t floecavern_event_byte(size_t number)
+{
+    return (uint8_t)(number > 255 ? 255 : number);
+}
+
+FLOECAVERN_INLINE floecavern_event floecavern_event_make(int kind, size_t hart, size_t size, uint64_t addr, uint64_t data)
+{
+    floecavern_event event;
+    memset(&event, 0, sizeof event);
+    event.kind = (uint8_t)kind;
+    event.hart = floecavern_event_byte(hart);
+    event.size = floecavern_event_byte(size);
+    event.addr = addr;
+    event.data = data;
+    return event;
+}
+
+FLOECAVERN_INLINE floecavern_event floecavern_event_step(size_t hart)
+{
+    return floecavern_event_make(FLOECAVERN_EVENT_STEP, hart, 0, 0, 0);
+}
+
+/* Data above the size is left out, as floecavern_device_write leaves it out: a run refuses an event that has it. */
+FLOECAVERN_INLINE floecavern_event floecavern_event_device_write(uint64_t addr, size_t size, uint64_t data)
+{
+    uint64_t low = size < 8 ? data & (((uint64_t)1 << (8 * size)) - 1) : data;
+    return floecavern_event_make(FLOECAVERN_EVENT_DEVICE_WRITE, 0, size, addr, low);
+}
+
+FLOECAVERN_INLINE floecavern_event floecavern_event_yield_hart(size_t hart)
+{
+    return floecavern_event_make(FLOECAVERN_EVENT_YIELD, hart, 0, 0, 0);
+}
+
+/* Writes the 24 bytes of an event, such as a case file has. */
+FLOECAVERN_INLINE void floecavern_event_encode(const floecavern_event *event, uint8_t *bytes)
+{
+    memcpy(bytes, event, sizeof *event);
+}
+
+/* A machine: its state, and where its memory is, mem_len bytes of the caller's at the address base. All of it may be
+ * read and written between calls. A mem of NULL is a memory of 0 bytes, which is refused by 1. */
+typedef struct {
+    floecavern_state state;
+    uint64_t base;
+    uint8_t *mem;
+    size_t mem_len;
+} floecavern_machine;
+
+/* Bytes to point at where there are none: the library asks for a pointer that is not NULL. */
+FLOECAVERN_INLINE uint8_t *floecavern_machine_bytes(const floecavern_machine *machine)
+{
+    static uint8_t none[1];
+    return machine->mem == NULL ? none : machine->mem;
+}
+
+FLOECAVERN_INLINE size_t floecavern_machine_length(const floecavern_machine *machine)
+{
+    return machine->mem == NULL ? 0 : machine->mem_len;
+}
+
+/* A number of 8 bytes, the lowest first. */
+FLOECAVERN_INLINE uint64_t floecavern_number(const uint8_t *bytes)
+{
+    uint64_t number;
+    memcpy(&number, bytes, sizeof number);
+    return number;
+}
+
+/* The outcome that an answer and its value are. The sizes are right, so that the answer is no FLOECAVERN_BAD_SIZE. */
+FLOECAVERN_INLINE floecavern_outcome floecavern_outcome_of(uint64_t answer, const uint8_t *value)
+{
+    floecavern_outcome outcome;
+    memset(&outcome, 0, sizeof outcome);
+    if (FLOECAVERN_IS_TRAP(answer)) {
+        outcome.kind = FLOECAVERN_TRAP;
+        outcome.cause = (floecavern_cause)FLOECAVERN_CAUSE(answer);
+        outcome.value = floecavern_number(value);
+    } else if (FLOECAVERN_IS_REFUSAL(answer)) {
+        outcome.kind = FLOECAVERN_REFUSED;
+        outcome.refusal = (floecavern_refusal)FLOECAVERN_NUMBER(answer);
+    } else {
+        outcome.kind = (floecavern_kind)answer;
+    }
+    return outcome;
+}
+
+/* A step of a hart. Refusals 1 to 3. */
+FLOECAVERN_INLINE floecavern_outcome floecavern_machine_step(floecavern_machine *machine, size_t hart)
+{
+    uint8_t value[8];
+    return floecavern_outcome_of(floecavern_step((uint8_t *)&machine->state, sizeof machine->state, machine->base,
+                                                 floecavern_machine_bytes(machine), floecavern_machine_length(machine),
+                                                 hart, value, sizeof value),
+                                 value);
+}
+
+/* A device writes the size lowest bytes of data at addr: 1 to 8 bytes. Refusals 1, 2, 4 and 5. */
+FLOECAVERN_INLINE floecavern_outcome floecavern_machine_device_write(floecavern_machine *machine, uint64_t addr,
+                                                                     size_t size, uint64_t data)
+{
+    uint8_t value[8];
+    return floecavern_outcome_of(
+        floecavern_device_write((uint8_t *)&machine->state, sizeof machine->state, machine->base,
+                                floecavern_machine_bytes(machine), floecavern_machine_length(machine), addr, size, data,
+                                value, sizeof value),
+        value);
+}
+
+/* A yield: drops the hart's reservation. Refusals 1 to 3. */
+FLOECAVERN_INLINE floecavern_outcome floecavern_machine_yield_hart(floecavern_machine *machine, size_t hart)
+{
+    uint8_t value[8];
+    return floecavern_outcome_of(floecavern_yield((uint8_t *)&machine->state, sizeof machine->state, machine->base,
+                                                  floecavern_machine_bytes(machine), floecavern_machine_length(machine),
+                                                  hart, value, sizeof value),
+                                 value);
+}
+
+/* A run of an events body: 24 bytes for each event, such as a case file's. A body of NULL that has a length is refused
+ * by 11 at place 0, as one whose length is no multiple of 24. */
+FLOECAVERN_INLINE floecavern_ran floecavern_machine_run_bytes(floecavern_machine *machine, const uint8_t *body, size_t len,
+                                                              size_t budget)
+{
+    static const uint8_t none[1] = {0};
+    uint8_t numbers[16];
+    floecavern_ran ran;
+    uint64_t answer;
+    if (body == NULL) {
+        body = none;
+        len = len == 0 ? 0 : 1;
+    }
+    answer = floecavern_run((uint8_t *)&machine->state, sizeof machine->state, machine->base,
+                            floecavern_machine_bytes(machine), floecavern_machine_length(machine), body, len, budget,
+                            numbers, sizeof numbers);
+    ran.refusal = answer == FLOECAVERN_PERFORMED ? FLOECAVERN_REFUSAL_NONE
+                                                 : (floecavern_refusal)FLOECAVERN_NUMBER(answer);
+    ran.performed = floecavern_number(numbers);
+    ran.place = floecavern_number(numbers + 8);
+    return ran;
+}
+
+/* A run of events, the first budget of them or all if there are fewer. SIZE_MAX is a budget for all. Refusals 1, 2
+ * and 11; also 11, at place 0, for events of NULL or more of them than bytes can be counted. */
+FLOECAVERN_INLINE floecavern_ran floecavern_machine_run(floecavern_machine *machine, const floecavern_event *events,
+                                                        size_t count, size_t budget)
+{
+    if (count > SIZE_MAX / FLOECAVERN_EVENT_SIZE)
+        return floecavern_machine_run_bytes(machine, NULL, 1, budget);
+    return floecavern_machine_run_bytes(machine, (const uint8_t *)events, FLOECAVERN_EVENT_SIZE * count, budget);
+}
+
+/* Starts a machine: count harts with their pc at base, registers 0 and no reservations. The memory is left as it is.
+ * Answers FLOECAVERN_REFUSAL_NONE, or 1 or 2: the machine is then filled in all the same, and every call of it is
+ * refused by that number. It asks by a run of no events, which changes nothing of such a machine. */
+FLOECAVERN_INLINE floecavern_refusal floecavern_machine_start(floecavern_machine *machine, uint64_t count, uint64_t base,
+                                                              uint8_t *mem, size_t mem_len)
+{
+    size_t hart;
+    memset(machine, 0, sizeof *machine);
+    machine->state.count = count;
+    machine->base = base;
+    machine->mem = mem;
+    machine->mem_len = mem_len;
+    for (hart = 0; hart < 8 && hart < count; hart++)
+        machine->state.pc[hart] = base;
+    return floecavern_machine_run(machine, NULL, 0, 0).refusal;
+}
+
+/* Puts words into a machine's memory from addr on, 4 bytes each with the lowest first. This is no event: it breaks no
+ * reservation. Answers 5, and writes nothing, if they are not wholly in memory, or are NULL; else
+ * FLOECAVERN_REFUSAL_NONE. */
+FLOECAVERN_INLINE floecavern_refusal floecavern_machine_put_words(floecavern_machine *machine, uint64_t addr,
+                                                                  const uint32_t *words, size_t count)
+{
+    size_t len = floecavern_machine_length(machine);
+    if (addr < machine->base || addr - machine->base > len || count > (len - (addr - machine->base)) / 4 ||
+        (words == NULL && count > 0))
+        return FLOECAVERN_REFUSAL_DEVICE_ADDRESS;
+    if (count > 0)
+        memcpy(machine->mem + (addr - machine->base), words, 4 * count);
+    return FLOECAVERN_REFUSAL_NONE;
+}
+
+/* Whether a block of instruction words is a retry loop that is accepted. words may be NULL if count is 0. */
+FLOECAVERN_INLINE floecavern_verdict floecavern_check_words(const uint32_t *words, size_t count)
+{
+    static const uint32_t none[1] = {0};
+    /* A block of 17 or more words is refused whatever the words are, so that 17 of them say it. */
+    size_t looked_at = count > 17 ? 17 : count;
+    floecavern_verdict verdict;
+    uint64_t answer = floecavern_check_loop((const uint8_t *)(words == NULL ? none : words),
+                                            words == NULL ? 0 : 4 * looked_at);
+    memset(&verdict, 0, sizeof verdict);
+    if (answer == FLOECAVERN_LOOP_REFUSED) {
+        verdict.refusal = FLOECAVERN_REFUSAL_BLOCK;
+    } else if (answer != FLOECAVERN_LOOP_ACCEPTED) {
+        verdict.reason = (floecavern_reason)FLOECAVERN_LOOP_REASON(answer);
+        verdict.place = FLOECAVERN_LOOP_PLACE(answer);
+    }
+    return verdict;
+}
+
+/* A report: len characters of bytes are the lines, and no 0 ends them. It has 256 KiB: static or allocated, rather than
+ * on a stack. */
+typedef struct {
+    size_t len;
+    char bytes[FLOECAVERN_REPORT_ROOM];
+} floecavern_text;
+
+/* A refusal with its place, counted in bytes from the file's first. */
+typedef struct {
+    floecavern_refusal refusal;
+    uint64_t place;
+} floecavern_refused_at;
+
+/* The refusal of a report's text, if it is `refused NUMBER PLACE`. */
+FLOECAVERN_INLINE floecavern_refused_at floecavern_text_refused(const floecavern_text *text)
+{
+    static const char word[] = "refused ";
+    floecavern_refused_at refused;
+    uint64_t numbers[2];
+    size_t at = sizeof word - 1, n;
+    memset(&refused, 0, sizeof refused);
+    if (text->len < at || memcmp(text->bytes, word, at) != 0)
+        return refused;
+    for (n = 0; n < 2; n++, at++)
+        for (numbers[n] = 0; at < text->len && text->bytes[at] >= '0' && text->bytes[at] <= '9'; at++)
+            numbers[n] = 10 * numbers[n] + (uint64_t)(text->bytes[at] - '0');
+    refused.refusal = (floecavern_refusal)numbers[0];
+    refused.place = numbers[1];
+    return refused;
+}
+
+/* The report of a case file, as floecavern_report writes it, whatever the bytes are. Answers the refusal, 7 to 11, with
+ * its place, of a file that is no case; the text is its one line then. file may be NULL: a file of 0 bytes. */
+FLOECAVERN_INLINE floecavern_refused_at floecavern_report_text(const uint8_t *file, size_t len, floecavern_text *text)
+{
+    static const uint8_t none[1] = {0};
+    text->len = (size_t)floecavern_report(file == NULL ? none : file, file == NULL ? 0 : len, (uint8_t *)text->bytes,
+                                          sizeof text->bytes);
+    return floecavern_text_refused(text);
+}
 
 #ifdef __cplusplus
 }

@@ -1,6 +1,10 @@
 """tools/case: a case as a text and back, and what it says of bad texts and files."""
 import os
 import re
+import resource
+import stat
+import subprocess
+import sys
 import tempfile
 import unittest
 
@@ -91,7 +95,7 @@ class Make(unittest.TestCase):
 
     def test_bad_texts(self):
         for text, line, what in (
-                ('zork', 1, 'base, memory, hart, at or events'), ('', 1, 'memory LENGTH'), ('memory 64\n', 2, 'without a hart'),
+                ('zork', 1, 'base, memory, hart, elf, at or events'), ('', 1, 'memory LENGTH'), ('memory 64\n', 2, 'without a hart'),
                 ('base 3', 1, 'no multiple of 64'), ('base 0x10000000040', 1, 'not 0x0 to'), ('base 0\nbase 0', 2, 'twice'), ('base', 1, 'write base'),
                 ('memory 65', 1, 'no multiple of 64'), ('memory 0', 1, 'not 0x40'), ('memory 64\nmemory 64', 2, 'twice'), ('memory x', 1, 'no number'),
                 ('hart 1', 1, 'write hart 0'), (START + 'hart 0', 3, 'write hart 1'), ('memory 64' + ''.join('\nhart %d' % k for k in range(9)), 10, 'at most 8'),
@@ -101,6 +105,12 @@ class Make(unittest.TestCase):
                 (START + 'at 0\nx5: .word 1', 4, 'no name for a label'), (START + 'at 0\na:\na:', 5, 'twice'), (START + 'at 2\necall', 4, 'multiple of 4'),
                 (START + 'at 60\n.dword 1', 4, 'not in memory'), (START + 'at 0\n.word 1\nat 2\n.byte 1', 6, 'filled by line 4'),
                 (START + 'at 0\n.byte 256', 4, '.byte: 256'), (START + 'at 0\n.word', 4, 'no number follows'), (START + 'at 0\n.word 1z', 4, 'no number'),
+                (START + 'at 0\naddi x1,x2,1 0', 4, "'1 0' has a space inside"), (START + 'at 0\nadd x 1,x2,x3', 4, "'x 1' has a space inside"),
+                (START + 'at 0\nlw x1,- 4(x2)', 4, "'- 4' has a space inside"), (START + 'at 0\nfence r w,w', 4, "'r w' has a space inside"),
+                (START + 'at 0\nadd x1,,x3', 4, 'is empty'), (START + 'at 0\nadd x1,x2,x3,', 4, 'is empty'), (START + 'at 0\necall ,', 4, 'is empty'),
+                (START + 'at 0\n.word 1,,3', 4, 'is missing'), (START + 'at 0\n.word 1, ,3', 4, 'is missing'), (START + 'at 0\n.byte ,1', 4, 'is missing'),
+                (START + 'at 0\n.half 1,', 4, 'is missing'), (START + 'at 0\n.dword ,', 4, 'is missing'), (START + 'at 0\n,', 4, 'no instruction'),
+                (START + 'at 0\na: ,', 4, 'no instruction'), (START + 'events\n,', 4, 'no event'), (START + ',', 3, 'NAME=VALUE'), (',', 1, 'wanted here'),
                 (START + 'events\nstep', 4, 'write step HART'), (START + 'events\nstep 1', 4, 'hart 1'), (START + 'events\njump 0', 4, 'no event'),
                 (START + 'events\ndevice 60 8 0', 4, 'not wholly in memory'), (START + 'events\ndevice 0 9 0', 4, 'size'),
                 (START + 'events\ndevice 0 1 256', 4, 'data'), (START + 'events\ndevice 0 1', 4, 'write device'), (START + 'events 1', 3, 'alone'),
@@ -111,8 +121,77 @@ class Make(unittest.TestCase):
             self.assertEqual(caught.exception.line, line, text)
 
     def test_no_text(self):
-        self.assertEqual(command(CASE, 'make', given=b'\xff'), (1, b'', 'standard input: no text: the byte at 0 is not UTF-8\n'))
+        self.assertEqual(command(CASE, 'make', given=b'\xff'), (1, b'', 'standard input:1: no text: the byte 0xff at 0 is not UTF-8\n'))
+        self.assertEqual(command(CASE, 'make', given=b'# \xc3\xa4\n\n ab\xe4'), (1, b'', 'standard input:3: no text: the byte 0xe4 at 9 is not UTF-8\n'))
         self.assertEqual(command(CASE, 'make', '/nowhere')[0], 1)
+
+    def test_spaces_around_operands(self):
+        self.assertEqual(casetext.make(START + 'at 0\nlw x1 , -4 ( x2 ) \nfence\trw , w\n.byte 1 ,2 3\t4\nevents'),
+                         casetext.make(START + 'at 0\nlw x1,-4(x2)\nfence rw,w\n.byte 1 2 3 4\nevents'))
+
+    def test_without_events(self):
+        status, out, err = command(CASE, 'make', given=START.encode())
+        self.assertEqual((status, err), (0, 'standard input:2: warning: the text ends without a line: events; the case has no events\n'))
+        self.assertEqual(command(CASE, 'make', given=START.encode() + b'events\n'), (0, out, ''))
+
+
+class NoRoom(unittest.TestCase):
+    """Where not all can be written, no part of a case is left, and what was there stays."""
+
+    def setUp(self):
+        folder = tempfile.TemporaryDirectory()
+        self.addCleanup(folder.cleanup)
+        self.folder, self.out = folder.name, os.path.join(folder.name, 'a.case')
+
+    def make(self, out, room=None):
+        limit = None if room is None else lambda: resource.setrlimit(resource.RLIMIT_FSIZE, (room, room))
+        done = subprocess.run([sys.executable, CASE, 'make', '-o', out], input=documented().encode(), capture_output=True, preexec_fn=limit)
+        return done.returncode, done.stderr.decode()
+
+    def test_new_file(self):
+        self.assertEqual(self.make(self.out, 100), (1, 'tools/case: %s: File too large\n' % self.out))
+        self.assertEqual(os.listdir(self.folder), [])
+
+    def test_old_file(self):
+        with open(self.out, 'wb') as file:
+            file.write(b'old')
+        os.chmod(self.out, 0o640)
+        self.assertEqual(self.make(self.out, 100)[0], 1)
+        self.assertEqual((os.listdir(self.folder), data(self.out)), (['a.case'], b'old'))
+        self.assertEqual(self.make(self.out), (0, ''))
+        self.assertEqual((os.listdir(self.folder), data(self.out)), (['a.case'], data(EXAMPLE)))
+        self.assertEqual(os.stat(self.out).st_mode & 0o777, 0o640)
+
+    def test_through_a_link(self):
+        link = os.path.join(self.folder, 'link')
+        os.symlink('a.case', link)
+        self.assertEqual(self.make(link), (0, ''))
+        self.assertTrue(os.path.islink(link))
+        self.assertEqual(data(self.out), data(EXAMPLE))
+
+    def test_long_name(self):
+        out = os.path.join(self.folder, 'a' * 255)
+        self.assertEqual(self.make(out), (0, ''))
+        self.assertEqual((os.listdir(self.folder), data(out)), (['a' * 255], data(EXAMPLE)))
+
+    def test_no_folder(self):
+        self.assertEqual(self.make(self.out + '/b'), (1, 'tools/case: %s/b: No such file or directory\n' % self.out))
+
+    def test_pipe(self):
+        # a pipe of this test's own stands for every file that isn't a plain one: a fault here must not replace a device of the system
+        os.mkfifo(self.out)
+        with subprocess.Popen(['timeout', '20', 'cat', self.out], stdout=subprocess.PIPE) as reader:
+            self.assertEqual(self.make(self.out), (0, ''))
+            self.assertTrue(stat.S_ISFIFO(os.stat(self.out).st_mode))
+            self.assertEqual(reader.communicate(timeout=20)[0], data(EXAMPLE))
+        self.assertEqual(os.listdir(self.folder), ['a.case'])
+
+    @unittest.skipUnless(os.path.exists('/dev/full'), 'there is no /dev/full')
+    def test_full_device(self):
+        for args in (['make'], ['show', EXAMPLE]):
+            with open('/dev/full', 'wb') as full:
+                done = subprocess.run([sys.executable, CASE, *args], input=documented().encode(), stdout=full, stderr=subprocess.PIPE)
+            self.assertEqual((done.returncode, done.stderr), (1, b'tools/case: standard output: No space left on device\n'))
 
 
 class Show(unittest.TestCase):

@@ -1,5 +1,6 @@
-"""The programs of examples/ over the static library: they compile without a warning, and what they print."""
+"""The programs of examples/ over the static library: they compile without a warning, and what they print. The header's typed form, in every standard."""
 import os
+import re
 import shutil
 import subprocess
 import tempfile
@@ -8,7 +9,7 @@ import unittest
 from common import EXAMPLE, EXAMPLE_LINES, ROOT, data
 
 LIBRARY = os.path.join(ROOT, 'target', 'staticlib', 'libcapi.a')
-CC = shutil.which('cc')
+CC, CXX = shutil.which('cc'), shutil.which('c++')
 
 EVENTS = b'''\
 h0 lr.w: retired
@@ -17,10 +18,10 @@ h1 lr.w: retired
 h1 sc.w: sc stored
 h0 sc.w: sc failed
 x7 of the harts: 1 0; the word at 64: 12345678
-h0 fetches a zero word: trap 2 0000000000000000
-h2: refused 3
-9 bytes: refused 4
-8 bytes at 124: refused 5
+h0 fetches a zero word: trap 2 0000000000000000 (illegal instruction)
+h2: refused 3 (the hart is not below the count)
+9 bytes: refused 4 (a device write of 0 or more than 8 bytes)
+8 bytes at 124: refused 5 (a device write not wholly in memory)
 h1 lr.w: retired
 h1 holds 4 bytes at 64
 h1 yields: retired
@@ -28,7 +29,7 @@ h1 sc.w: sc failed
 a run of 5 events: performed 5
 x7 of the harts: 1 0; the word at 64: 12345678
 with a budget of 2: performed 2
-with an event of hart 7: refused 11 at 96
+with an event of hart 7: refused 11 at 96 (an event or the length of the events is wrong)
 '''
 
 # Every function that writes, with each buffer a byte short, a byte long and empty (too small, for a report), and a block that isn't whole words:
@@ -72,6 +73,176 @@ int main(void)
     return floecavern_step(state, 2312, 0, mem, 128, 0, out, 8) == FLOECAVERN_RETIRED ? 0 : 1;
 }
 '''
+
+
+# The typed form, in the C that is also C++: each line that doesn't hold is printed. Then the texts, one line each.
+TYPED = r"""
+#include <stdio.h>
+#include "floecavern.h"
+#define CHECK(condition) do { if (!(condition)) printf("%d: %s\n", __LINE__, #condition); } while (0)
+static uint8_t mem[128], bytes[24];
+static const uint32_t loop[4] = {0x1002a32f, 0x00031663, 0x1882a3af, 0xfe039ae3};
+static const uint32_t words[2] = {0x1002a32f, 0x1882a3af};
+static floecavern_machine machine, was;
+static floecavern_text text;
+
+static void start(void)
+{
+    memset(mem, 0, sizeof mem);
+    CHECK(floecavern_machine_start(&machine, 2, 4096, mem, sizeof mem) == FLOECAVERN_REFUSAL_NONE);
+    CHECK(floecavern_machine_put_words(&machine, 4096, words, 2) == FLOECAVERN_REFUSAL_NONE);
+    machine.state.x[0][5] = machine.state.x[1][5] = 4160;
+}
+
+static int is(floecavern_outcome o, floecavern_kind kind, int cause, uint64_t value, int refusal)
+{
+    return o.kind == kind && (int)o.cause == cause && o.value == value && (int)o.refusal == refusal;
+}
+
+static int refused(floecavern_outcome o, int number)
+{
+    return is(o, FLOECAVERN_REFUSED, 0, 0, number) && memcmp(&machine, &was, sizeof was) == 0;
+}
+
+static void outcomes(void)
+{
+    start();
+    CHECK(machine.state.pc[1] == 4096 && machine.state.pc[2] == 0);
+    CHECK(is(floecavern_machine_step(&machine, 0), FLOECAVERN_RETIRED, 0, 0, 0));
+    CHECK(machine.state.reservation[0].held == 1 && machine.state.reservation[0].addr == 4160);
+    CHECK(is(floecavern_machine_device_write(&machine, 4168, 2, 0xffabcd), FLOECAVERN_RETIRED, 0, 0, 0));
+    CHECK(mem[72] == 0xcd && mem[73] == 0xab && mem[74] == 0);
+    CHECK(is(floecavern_machine_step(&machine, 1), FLOECAVERN_RETIRED, 0, 0, 0));
+    CHECK(is(floecavern_machine_yield_hart(&machine, 1), FLOECAVERN_RETIRED, 0, 0, 0));
+    CHECK(machine.state.reservation[1].held == 0);
+    CHECK(is(floecavern_machine_step(&machine, 1), FLOECAVERN_SC_FAILED, 0, 0, 0));
+    CHECK(is(floecavern_machine_step(&machine, 0), FLOECAVERN_SC_STORED, 0, 0, 0));
+    machine.state.pc[0] = 8192;
+    CHECK(is(floecavern_machine_step(&machine, 0), FLOECAVERN_TRAP, FLOECAVERN_CAUSE_INSTRUCTION_ACCESS_FAULT, 8192, 0));
+    was = machine;
+    CHECK(refused(floecavern_machine_step(&machine, 2), FLOECAVERN_REFUSAL_HART));
+    CHECK(refused(floecavern_machine_yield_hart(&machine, SIZE_MAX), FLOECAVERN_REFUSAL_HART));
+    CHECK(refused(floecavern_machine_device_write(&machine, 4096, 9, 0), FLOECAVERN_REFUSAL_DEVICE_SIZE));
+    CHECK(refused(floecavern_machine_device_write(&machine, 0, 1, 0), FLOECAVERN_REFUSAL_DEVICE_ADDRESS));
+}
+
+static void starts(void)
+{
+    CHECK(floecavern_machine_start(&machine, 2, 0, NULL, 128) == FLOECAVERN_REFUSAL_MEMORY);
+    was = machine;
+    CHECK(refused(floecavern_machine_step(&machine, 0), FLOECAVERN_REFUSAL_MEMORY));
+    CHECK(refused(floecavern_machine_yield_hart(&machine, 0), FLOECAVERN_REFUSAL_MEMORY));
+    CHECK(refused(floecavern_machine_device_write(&machine, 0, 1, 0), FLOECAVERN_REFUSAL_MEMORY));
+    CHECK(floecavern_machine_put_words(&machine, 0, words, 1) == FLOECAVERN_REFUSAL_DEVICE_ADDRESS);
+    CHECK(floecavern_machine_start(&machine, 2, 1, mem, 128) == FLOECAVERN_REFUSAL_MEMORY);
+    CHECK(floecavern_machine_start(&machine, 2, 0, mem, 127) == FLOECAVERN_REFUSAL_MEMORY);
+    CHECK(floecavern_machine_start(&machine, 0, 0, mem, 128) == FLOECAVERN_REFUSAL_STATE);
+    CHECK(floecavern_machine_start(&machine, 9, 0, mem, 128) == FLOECAVERN_REFUSAL_STATE);
+    CHECK(floecavern_machine_start(&machine, UINT64_MAX, 0, mem, 128) == FLOECAVERN_REFUSAL_STATE);
+    start();
+    CHECK(floecavern_machine_put_words(&machine, 4216, words, 2) == FLOECAVERN_REFUSAL_NONE && mem[124] == 0xaf);
+    CHECK(floecavern_machine_put_words(&machine, 4224, words, 0) == FLOECAVERN_REFUSAL_NONE);
+    CHECK(floecavern_machine_put_words(&machine, 4220, words, 2) == FLOECAVERN_REFUSAL_DEVICE_ADDRESS && mem[120] == 0x2f);
+    CHECK(floecavern_machine_put_words(&machine, 4092, words, 1) == FLOECAVERN_REFUSAL_DEVICE_ADDRESS);
+    CHECK(floecavern_machine_put_words(&machine, UINT64_MAX, words, 1) == FLOECAVERN_REFUSAL_DEVICE_ADDRESS);
+    CHECK(floecavern_machine_put_words(&machine, 4096, words, SIZE_MAX) == FLOECAVERN_REFUSAL_DEVICE_ADDRESS);
+    CHECK(floecavern_machine_put_words(&machine, 4096, NULL, 1) == FLOECAVERN_REFUSAL_DEVICE_ADDRESS && mem[0] == 0x2f);
+}
+
+static int ran(floecavern_ran r, int refusal, uint64_t performed, uint64_t place)
+{
+    return (int)r.refusal == refusal && r.performed == performed && r.place == place;
+}
+
+static void runs(void)
+{
+    static const uint8_t device[24] = {2, 0, 3, 0, 0, 0, 0, 0, 0x48, 0x10, 0, 0, 0, 0, 0, 0, 0xfe, 0xff, 0xff};
+    floecavern_event events[3];
+    events[0] = floecavern_event_step(0);
+    events[1] = floecavern_event_device_write(4168, 3, UINT64_MAX - 1);
+    events[2] = floecavern_event_yield_hart(1);
+    floecavern_event_encode(&events[1], bytes);
+    CHECK(memcmp(bytes, device, 24) == 0);
+    start();
+    CHECK(ran(floecavern_machine_run(&machine, events, 3, SIZE_MAX), 0, 3, 0) && mem[72] == 0xfe && mem[75] == 0);
+    start();
+    CHECK(ran(floecavern_machine_run(&machine, events, 3, 1), 0, 1, 0) && mem[72] == 0 && machine.state.pc[0] == 4100);
+    was = machine;
+    CHECK(ran(floecavern_machine_run(&machine, NULL, 0, 1), 0, 0, 0));
+    CHECK(ran(floecavern_machine_run(&machine, NULL, 3, 1), 11, 0, 0));
+    CHECK(ran(floecavern_machine_run(&machine, events, SIZE_MAX / 24 + 1, 1), 11, 0, 0));
+    CHECK(ran(floecavern_machine_run(&machine, events, (size_t)1 << 61, 1), 11, 0, 0)); /* 24 times that is 0 modulo 2^64 */
+    CHECK(ran(floecavern_machine_run_bytes(&machine, bytes, 23, 1), 11, 0, 0));
+    CHECK(ran(floecavern_machine_run_bytes(&machine, NULL, 24, 1), 11, 0, 0));
+    events[2] = floecavern_event_step(256);
+    CHECK(ran(floecavern_machine_run(&machine, events, 3, 1), 11, 0, 48));
+    events[2] = floecavern_event_yield_hart(SIZE_MAX);
+    CHECK(ran(floecavern_machine_run(&machine, events, 3, 1), 11, 0, 48));
+    events[1] = floecavern_event_device_write(4168, 257, 0);
+    CHECK(ran(floecavern_machine_run(&machine, events, 3, 1), 11, 0, 24));
+    events[1] = floecavern_event_device_write(4168, 0, 5);
+    CHECK(ran(floecavern_machine_run(&machine, events, 3, 1), 11, 0, 24));
+    CHECK(memcmp(&machine, &was, sizeof was) == 0);
+    machine.state.count = 0;
+    CHECK(ran(floecavern_machine_run(&machine, events, 3, 1), 2, 0, 0));
+}
+
+static int verdict(floecavern_verdict v, int refusal, int reason, uint64_t place)
+{
+    return (int)v.refusal == refusal && (int)v.reason == reason && v.place == place;
+}
+
+static void others(void)
+{
+    floecavern_refused_at refused;
+    CHECK(verdict(floecavern_check_words(loop, 4), 0, 0, 0));
+    CHECK(verdict(floecavern_check_words(loop, 2), 0, FLOECAVERN_REASON_NO_SC, 2));
+    CHECK(verdict(floecavern_check_words(loop + 1, 3), 0, FLOECAVERN_REASON_NO_LR, 0));
+    CHECK(verdict(floecavern_check_words(loop, 1), FLOECAVERN_REFUSAL_BLOCK, 0, 0));
+    CHECK(verdict(floecavern_check_words(NULL, 0), FLOECAVERN_REFUSAL_BLOCK, 0, 0));
+    CHECK(verdict(floecavern_check_words(NULL, 4), FLOECAVERN_REFUSAL_BLOCK, 0, 0));
+    refused = floecavern_report_text(NULL, 40, &text);
+    CHECK(refused.refusal == FLOECAVERN_REFUSAL_FILE_LENGTH && refused.place == 0);
+    CHECK(text.len == 12 && memcmp(text.bytes, "refused 7 0\n", 12) == 0);
+    CHECK(FLOECAVERN_VERSION_MAJOR == 0 && FLOECAVERN_VERSION_MINOR == 2 && FLOECAVERN_VERSION_PATCH == 0);
+}
+
+int main(int argc, char **argv)
+{
+    static uint8_t file[65536];
+    FILE *f = fopen(argv[argc - 1], "rb");
+    size_t n = f == NULL ? 0 : fread(file, 1, sizeof file, f);
+    uint64_t i;
+    outcomes();
+    starts();
+    runs();
+    others();
+    CHECK(floecavern_report_text(file, n, &text).refusal == FLOECAVERN_REFUSAL_NONE && text.len > 40);
+    file[720] = 9;
+    CHECK(floecavern_report_text(file, n, &text).refusal == FLOECAVERN_REFUSAL_EVENTS);
+    CHECK(floecavern_report_text(file, n, &text).place == 720);
+    for (i = 0; i <= 9; i++)
+        printf("cause %d %s\n", (int)i, floecavern_cause_text(i));
+    for (i = 0; i <= 12; i++)
+        printf("refusal %d %s\n", (int)i, floecavern_refusal_text(i));
+    for (i = 0; i <= 7; i++)
+        printf("reason %d %s\n", (int)i, floecavern_reason_text(i));
+    return 0;
+}
+"""
+
+CAUSES = ['instruction address misaligned', 'instruction access fault', 'illegal instruction', 'breakpoint', 'load address misaligned', 'load access fault',
+          'store/AMO address misaligned', 'store/AMO access fault', 'environment call', 'no cause of the model']
+REFUSALS = ['not refused', "the memory's length or base is wrong", 'the state is wrong', 'the hart is not below the count',
+            'a device write of 0 or more than 8 bytes', 'a device write not wholly in memory', 'a block of fewer than 2 or more than 16 words',
+            "the file's length is not 40 to 65536", 'the table of contents is wrong', 'the harts body is wrong', "the memory body's length is wrong",
+            'an event or the length of the events is wrong', 'no refusal of the model']
+REASONS = ['not rejected', 'place 0 is not an LR', 'a word that a retry loop may not hold', 'a jump or branch that a retry loop may not make',
+           "the LR's rs1 is written before the SC", 'the SC has another width or rs1 than the LR', 'no SC', 'no reason of the model']
+TEXTS = ''.join('%s %d %s\n' % (name, n, line) for name, lines in [('cause', CAUSES), ('refusal', REFUSALS), ('reason', REASONS)]
+                for n, line in enumerate(lines))
+
+C_STANDARDS, CXX_STANDARDS = ['c89', 'c99', 'c11', 'c17'], ['c++98', 'c++11', 'c++14', 'c++17']
 
 
 # Calls of every function on a painted stack: prints how many bytes of it the deepest used, beyond what a thread that calls none does.
@@ -134,14 +305,21 @@ class Library(unittest.TestCase):
         self.folder = tempfile.mkdtemp()
         self.addCleanup(shutil.rmtree, self.folder)
 
-    def output(self, source, *args, given=b''):
+    def output(self, source, *args, given=b'', compiler=CC, language='c', standard='c11'):
         """What a program prints, compiled with every warning an error."""
         program = os.path.join(self.folder, 'program')
-        made = subprocess.run([CC, '-std=c11', '-Wall', '-Wextra', '-Werror', '-I' + os.path.join(ROOT, 'include'), source, LIBRARY, '-pthread', '-o', program], capture_output=True)
+        made = subprocess.run([compiler, '-x', language, '-std=' + standard, '-Wall', '-Wextra', '-pedantic', '-Werror', '-I' + os.path.join(ROOT, 'include'), source,
+                               '-x', 'none', LIBRARY, '-pthread', '-o', program], capture_output=True)
         self.assertEqual((made.returncode, made.stderr.decode()), (0, ''))
         done = subprocess.run([program, *args], input=given, capture_output=True)
         self.assertEqual((done.returncode, done.stderr), (0, b''))
         return done.stdout
+
+    def written(self, name, text):
+        source = os.path.join(self.folder, name)
+        with open(source, 'w') as file:
+            file.write(text)
+        return source
 
     def example(self, name, *args, given=b''):
         return self.output(os.path.join(ROOT, 'examples', name + '.c'), *args, given=given)
@@ -162,14 +340,36 @@ class Library(unittest.TestCase):
         self.assertEqual(self.example('events'), EVENTS)
 
     def test_stack(self):
-        source = os.path.join(self.folder, 'stack.c')
-        with open(source, 'w') as file:
-            file.write(STACK)
-        used = int(self.output(source, EXAMPLE))
+        used = int(self.output(self.written('stack.c', STACK), EXAMPLE))
         self.assertTrue(4096 < used <= 16384, used)
 
     def test_wrong_sizes(self):
-        source = os.path.join(self.folder, 'sizes.c')
-        with open(source, 'w') as file:
-            file.write(SIZES)
-        self.assertEqual(self.output(source), b'')
+        self.assertEqual(self.output(self.written('sizes.c', SIZES)), b'')
+
+    def test_typed_in_every_standard(self):
+        """By every compiler that is there: cc and c++ are often GCC, and Clang warns of other things."""
+        source = self.written('typed.c', TYPED)
+        kinds = [('c', C_STANDARDS, {CC, shutil.which('clang')}), ('c++', CXX_STANDARDS, {CXX, shutil.which('clang++')})]
+        for language, standards, compilers in kinds:
+            for compiler in sorted(compilers - {None}):
+                for standard in standards:
+                    with self.subTest(compiler=compiler, standard=standard):
+                        printed = self.output(source, EXAMPLE, compiler=compiler, language=language, standard=standard)
+                        self.assertEqual(printed.decode(), TEXTS)
+
+    def test_refused_report(self):
+        """The example's exit status is that of writing; why a file is refused goes to standard error."""
+        program = os.path.join(self.folder, 'report')
+        subprocess.run([CC, '-I' + os.path.join(ROOT, 'include'), os.path.join(ROOT, 'examples', 'report.c'), LIBRARY, '-o', program], check=True)
+        done = subprocess.run([program, self.written('empty', '')], capture_output=True)
+        self.assertEqual((done.returncode, done.stdout), (0, b'refused 7 0\n'))
+        self.assertRegex(done.stderr.decode(), "empty: the file's length is not 40 to 65536 \\(byte 0\\)\n$")
+
+
+class Versions(unittest.TestCase):
+    def test_one_version(self):
+        header = data(os.path.join(ROOT, 'include', 'floecavern.h')).decode()
+        numbers = [re.search(r'#define FLOECAVERN_VERSION_%s (\d+)\n' % part, header).group(1) for part in ['MAJOR', 'MINOR', 'PATCH']]
+        version = '.'.join(numbers)
+        self.assertIn('#define FLOECAVERN_VERSION "%s"\n' % version, header)
+        self.assertIn('\nversion = "%s"\n' % version, data(os.path.join(ROOT, 'rust', 'Cargo.toml')).decode())

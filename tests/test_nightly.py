@@ -1,12 +1,19 @@
 """tools/nightly: when a page says complete, and what it lists when not. The programs are small scripts, but for the last test."""
+import argparse
 import json
 import os
 import shutil
+import subprocess
 import sys
 import tempfile
+import time
 import unittest
+from unittest import mock
 
 from common import EXAMPLE, EXAMPLE_LINES, NIGHTLY, PROGRAM, command, data, vectors
+import nightlycases
+from nightlycases import seal
+from nightlyfiles import Kept
 
 CASES = ['directed/trap_8', 'directed/breaks_yield', 'directed/refuse_10_1', 'directed/breaks_lr_x0', 'directed/branch_bne_1_2']
 
@@ -23,7 +30,9 @@ sys.stdout.buffer.write(out)
 '''
 
 
-class Nightly(unittest.TestCase):
+class NightlyCase(unittest.TestCase):
+    """A folder with a few cases, and a program that knows their outputs."""
+
     def setUp(self):
         self.top = tempfile.mkdtemp()
         self.addCleanup(shutil.rmtree, self.top)
@@ -52,30 +61,32 @@ class Nightly(unittest.TestCase):
         status, out, err = command(NIGHTLY, folder or self.folder, '--program', self.fake(edit), *args)
         return status, out.decode().splitlines(), err
 
+
+class Nightly(NightlyCase):
     def assert_missing(self, what, *args, edit='pass', folder=None):
         status, page, _ = self.night(*args, edit=edit, folder=folder)
         self.assertEqual(status, 1)
         self.assertTrue(page[2].startswith('not complete'), page[2])
-        self.assertEqual(page[4], 'Missing or wrong')
-        self.assertIn(what, '\n'.join(page[6:page.index('Counts')]))
-        self.assertNotIn('complete', page)
+        self.assertRegex(page[4], '^(Missing|Wrong): ')
+        self.assertIn(what, '\n'.join(page[5:page.index('Counts')]))
 
     def test_good_folder(self):
         prefix = os.path.join(self.top, 'page')
         status, page, _ = self.night('--out', prefix, '--expect')
-        self.assertEqual((status, page), (0, ['complete']))
+        self.assertEqual((status, page), (0, ['complete: 6 files, 25 events each with its line']))
         text = data(prefix + '.txt').decode()
-        self.assertEqual(text.splitlines()[2], 'complete')
+        self.assertEqual(text.splitlines()[2], page[0])
         for row in ('6  files', '5  .. cases, performed', '1  .. no cases, refused', '0  .. without a right answer', '6  outputs equal to the expected ones'):
             self.assertRegex(text, '(?m)^ +%s$' % row)
         page = data(prefix + '.html').decode()
-        self.assertIn('<div class="verdict good">complete</div>', page)
+        self.assertIn('<div class="verdict good">complete: 6 files, 25 events each with its line</div>', page)
         self.assertNotIn('src=', page)
 
     def test_counts_of_the_example(self):
         self.only_the_example()
         page = '\n'.join(self.night()[1])
-        for row in ('5  events in the files', '4  steps retired', '1  .. SC that stored', '1  .. SC that failed', '0  steps trapped', '1  device writes', '0  yields'):
+        for row in ('5  events in the files', '4  steps retired', '1  .. SC that stored', '1  .. SC that failed', '0  steps trapped',
+                    '1  device writes', '0  yields'):
             self.assertRegex(page, '(?m)^ +%s$' % row)
 
     def test_empty_folder(self):
@@ -97,7 +108,8 @@ class Nightly(unittest.TestCase):
                 ("out = out.replace(b'sc 0', b'trap 2 ABCDEF0000000000')", 'event 3 (h1) has the line'),
                 ("out = out.replace(b'5 events', b'4 events').replace(b'4 h0 sc 1\\n', b'').replace(b'end 5', b'end 4')", 'event 4 (h0) has no line'),
                 ("out = out.replace(b'end 5\\n', b'5 h0 ok\\nend 5\\n')", "a line of no event: '5 h0 ok'"),
-                ("out = out.replace(b'end 5\\n', b'')", 'the last line is'), ("out = out[:-1]", 'no line feed'), ("out = out[out.index(b'0 h0'):]", 'the first line is'),
+                ("out = out.replace(b'end 5\\n', b'')", 'the last line is'), ("out = out[:-1]", 'no line feed'),
+                ("out = out[out.index(b'0 h0'):]", 'the first line is'),
                 ("out = b'refused 8 0\\n'", 'but the file is a case of 5 events'), ("out = b''", 'wrote nothing'), ("sys.exit(3)", 'status 3'),
                 ("os.kill(os.getpid(), 11)", 'signal 11'), ("sys.stderr.write('oops')", 'standard error'), ("out = b'\\xff' + out", 'the first line is')):
             with self.subTest(edit=edit):
@@ -106,10 +118,59 @@ class Nightly(unittest.TestCase):
     def test_a_traps_line_dropped(self):
         status, page, _ = self.night(edit='pass\nif name == "trap_8.case":\n    out = re.sub(rb"(?m)^0 h0 trap.*\\n", b"", out)')
         self.assertEqual(status, 1)
-        self.assertRegex('\n'.join(page[4:8]), r'deep/trap_8\.case +event 0 \(h0\) has no line')
+        self.assertEqual(page[4:7], ['Wrong: 1', '  1: event 0 (h0) has no line', '      deep/trap_8.case'])
 
     def test_a_slow_program(self):
         self.assert_missing('no answer within 1 s', '--timeout', '1', edit='time.sleep(60)')
+
+    def test_an_exception_of_one_case_is_its_row(self):
+        args = argparse.Namespace(folder=self.folder, expect=False)
+        hashes = nightlycases.contents(self.folder, ['deep/trap_8.case'], False)['deep/trap_8.case']
+        for error, what in ((StopIteration('x'), 'this tool failed on the case: StopIteration: x'),
+                            (MemoryError(), 'this tool failed on the case: MemoryError: '), (OSError(5, 'Input/output error'), 'Input/output error')):
+            with mock.patch('nightlycases.answer', side_effect=error):
+                row = nightlycases.one(args, 'deep/trap_8.case', hashes, Kept(None))
+            self.assertEqual((row['outcome'], row['what']), ('missing', what))
+
+    def test_a_night_that_is_broken_off(self):
+        self.only_the_example()
+        note, started = os.path.join(self.top, 'note'), time.monotonic()
+        program = self.fake("open(%r, 'w'); time.sleep(60)" % note)
+        night = subprocess.Popen([sys.executable, NIGHTLY, self.folder, '--program', program, '--out', os.path.join(self.top, 'page')], stderr=subprocess.PIPE)
+        while not os.path.exists(note):
+            time.sleep(0.05)
+        night.terminate()
+        self.assertIn(b'broken off; no page is written', night.communicate()[1])
+        self.assertEqual((night.returncode, time.monotonic() - started < 20), (1, True))
+        self.assertFalse(os.path.exists(os.path.join(self.top, 'page.txt')))
+
+    def test_a_program_that_floods_its_output(self):
+        self.only_the_example()
+        self.assert_missing('the program wrote more than 1,048,576 bytes', edit="while True: sys.stdout.write('flood ' * 9999)")
+        self.assert_missing('the program wrote more than 1,048,576 bytes', edit="while True: sys.stderr.write('flood ' * 9999)")
+        self.assert_missing('the program wrote more than 50 bytes', '--output-limit', '50')
+
+    def test_a_child_that_holds_the_output(self):
+        self.only_the_example()
+        for leave in ('pass', 'os.setsid()'):
+            start = time.monotonic()
+            self.assert_missing('a process that it left behind holds its output open', '--timeout', '1',
+                                edit="sys.stdout.buffer.write(out); sys.stdout.flush(); out = b''; child = os.fork()\n"
+                                     "    if not child: %s; time.sleep(20); os._exit(0)" % leave)
+            self.assertLess(time.monotonic() - start, 10)
+
+    def test_a_child_is_ended_with_its_group(self):
+        self.only_the_example()
+        note = os.path.join(self.top, 'note')
+        self.night('--timeout', '1', edit="child = os.fork()\n    if not child: time.sleep(3); open(%r, 'w'); os._exit(0)" % note)
+        time.sleep(3)
+        self.assertFalse(os.path.exists(note))
+
+    def test_a_program_that_cannot_read_its_input(self):
+        self.only_the_example()
+        self.assert_missing("the program wrote to standard error: 'read: Input/output error'",
+                            edit="out = b''; sys.stderr.write('read: Input/output error\\n')")
+        self.assert_missing("status 1: 'read: Input/output error'", edit="sys.exit('read: Input/output error')")
 
     def test_wrong_refusal(self):
         status, page, _ = self.night(edit='pass\nif name.startswith("refuse"):\n    out = b"refused 10 0\\n"')
@@ -122,10 +183,23 @@ class Nightly(unittest.TestCase):
 
     def test_expected_outputs(self):
         status, page, _ = self.night('--expect', edit="out = out.replace(b'sc 0', b'sc 1')")
-        self.assertEqual((status, page[2][:9], page[4]), (1, 'different', 'Different from the expected output'))
-        self.assertIn("line 5 is '3 h1 sc 1', expected '3 h1 sc 0'", page[6])
+        self.assertEqual((status, page[2][:9], page[4]), (1, 'different', 'Different from the expected output: 1'))
+        self.assertIn("line 5 is '3 h1 sc 1', expected '3 h1 sc 0'", page[5])
         os.remove(os.path.join(self.folder, 'deep', 'er', 'example.case'))
         self.assert_missing('its .out is here, but not the case', '--expect')
+
+    def test_expected_outputs_that_end_early_or_late(self):
+        path = os.path.join(self.folder, 'deep', 'er', 'example.out')
+        whole = data(path)
+        for wanted, what in ((whole[:-1], "line 7 ends in a line feed, expected none"), (whole + b'more\n', "line 8 is missing, expected 'more'"),
+                             (whole[:-6], "line 7 is 'end 5', expected no more lines"), (b'', "line 1 is 'case 2 harts"),
+                             (whole + b'\n', "line 8 is missing, expected ''")):
+            with self.subTest(wanted=wanted):
+                with open(path, 'wb') as file:
+                    file.write(wanted)
+                status, page, err = self.night('--expect', edit="out = %r" % whole)
+                self.assertEqual((status, page[2][:9], 'Traceback' in err), (1, 'different', False), err)
+                self.assertIn(what, page[5])
 
     def test_no_expected_output(self):
         program = os.path.join(self.top, 'true.sh')
@@ -137,7 +211,7 @@ class Nightly(unittest.TestCase):
         self.assertEqual(command(NIGHTLY, self.folder, '--program', program)[0], 0)
         status, out, _ = command(NIGHTLY, self.folder, '--program', program, '--expect')
         self.assertEqual(status, 1)
-        self.assertIn(b'a.case  its expected output cannot be read', out)
+        self.assertIn(b'  1: its expected output cannot be read: No such file or directory\n      a.case\n', out)
 
     def test_old_page_does_not_stay(self):
         prefix = os.path.join(self.top, 'page')
@@ -166,50 +240,93 @@ class Nightly(unittest.TestCase):
     def test_parts_and_merge(self):
         files = self.parts(4, '--night', 'one')
         status, page = self.merged(*files)
-        self.assertEqual((status, page.splitlines()[2]), (0, 'complete'))
+        self.assertEqual((status, page.splitlines()[2][:10]), (0, 'complete: '))
         whole = '\n'.join(self.night()[1])
         self.assertEqual(page[page.index('Counts'):page.index('This run')], whole[whole.index('Counts'):whole.index('This run')])
-        self.assert_not_merged('part 3 of 4 ', files[0], files[1], files[3])
+        self.assert_not_merged('part 3 of 4\n', files[0], files[1], files[3])
         self.assert_not_merged('is there 2 times', *files, files[2])
         self.assert_not_merged('No such file', *files[:3], files[3] + 'x')
         self.rewrite(files[2], lambda r: r.update(night='two'))
         self.assert_not_merged('another night', *files)
 
-    def rewrite(self, file, change):
+    def rewrite(self, file, change, sealed=True):
+        """Changes a counts file; with its seal made anew, so that what is inside is looked at."""
         record = json.loads(data(file))
         change(record)
+        if sealed:
+            record['seal'] = seal(record)
         with open(file, 'w') as f:
             json.dump(record, f)
 
     def test_a_case_in_two_parts_or_none(self):
         files = self.parts(2)
         other = json.loads(data(files[0]))['cases'][0]
-        mine = json.loads(data(files[1]))['cases'][0]
-        self.rewrite(files[1], lambda r: r['cases'].__setitem__(0, other))
-        self.assert_not_merged('%s ' % other, *files)
+        mine = json.loads(data(files[1]))['cases'][0]['name']
+        self.rewrite(files[1], lambda r: r['cases'][0].update(name=other['name']))
+        self.assert_not_merged('      %s\n' % other['name'], *files)
         self.assert_not_merged('is in more than one part', *files)
         self.assert_not_merged('1 of its 6 cases are in no part', *files)
-        self.rewrite(files[1], lambda r: r['cases'].__setitem__(0, mine + 'x'))
+        self.rewrite(files[1], lambda r: r['cases'][0].update(name=mine + 'x'))
         self.assert_not_merged('are not the cases of the folder', *files)
 
     def test_bad_counts_files(self):
         files = self.parts(2)
         whole = data(files[1])
-        for change, what in ((lambda r: r['cases'].pop(), 'does not agree with itself'), (lambda r: r.pop('missing'), 'no counts file'),
-                             (lambda r: r.update(sha256='0'), 'another program'), (lambda r: r.update(list='0'), 'another list of cases')):
+        for change, what in ((lambda r: r['cases'].pop(), 'does not agree with itself'), (lambda r: r.pop('beside'), 'no counts file'),
+                             (lambda r: r.update(sha256='0'), 'another program'), (lambda r: r.update(list='0'), 'another list of cases'),
+                             (lambda r: r.update(format='floecavern nightly counts 1'), 'no counts file of this version'),
+                             (lambda r: r.clear(), 'no counts file')):
             self.rewrite(files[1], change)
             self.assert_not_merged(what, *files)
             with open(files[1], 'wb') as file:
                 file.write(whole)
-        with open(files[1], 'wb') as file:
-            file.write(whole[:len(whole) // 2])
-        self.assert_not_merged('no whole counts file', *files)
-        self.assert_not_merged('no whole counts file', files[1])
+        for text in (whole[:len(whole) // 2], b'[' * 100000, b'', b'\xff'):
+            with open(files[1], 'wb') as file:
+                file.write(text)
+            self.assert_not_merged('no whole counts file', *files)
+            self.assert_not_merged('no whole counts file', files[1])
+
+    def test_a_changed_count(self):
+        files = self.parts(2)
+        whole = data(files[0])
+
+        def more(record):
+            record['counts']['retired'] += 1
+
+        def more_of_one(record):
+            more(record)
+            next(row for row in record['cases'] if row['counts'].get('retired'))['counts']['retired'] += 1
+
+        for change, sealed, what in ((more, False, 'was changed after it was written'), (more, True, 'its counts are not the sums of its cases'),
+                                     (more_of_one, True, 'does not agree with itself: the counts of'),
+                                     (lambda r: r['cases'][0].update(sha256='0'), True, 'the contents of the cases are not those of the folder')):
+            self.rewrite(files[0], change, sealed)
+            self.assert_not_merged(what, *files)
+            with open(files[0], 'wb') as file:
+                file.write(whole)
+        self.assertEqual(self.merged(*files)[0], 0)
+
+    def test_parts_of_two_folders_with_the_same_names(self):
+        first, second = (os.path.join(self.top, name) for name in ('first', 'second'))
+        self.night('--part', '1/2', '--counts', first)
+        path = os.path.join(self.folder, 'deep', 'er', 'example.case')
+        with open(path, 'ab') as file:
+            file.write(b'more')
+        with open(path[:-4] + 'out', 'w') as file:
+            file.write('refused 8 36\n')
+        self.assertEqual(self.night('--part', '2/2', '--counts', second)[0], 0)
+        self.assert_not_merged('the files have other contents', first, second)
+
+    def test_a_part_given_twice_is_one_line(self):
+        files = self.parts(2)
+        status, page = self.merged(*files, files[1])
+        self.assertEqual((status, page.splitlines()[2]), (1, 'not complete: 1 missing; 6 files, 25 events'))
+        self.assertIn('is there 2 times: %s, %s\n' % (files[1], files[1]), page)
 
     def test_a_part_that_is_not_complete(self):
         files = self.parts(2)
-        self.rewrite(files[0], lambda r: r['missing'].append(['a.case', 'the program wrote nothing']))
-        self.assert_not_merged('a.case  the program wrote nothing', *files)
+        self.rewrite(files[0], lambda r: r['beside'].append(['a.case', 'vanished']))
+        self.assert_not_merged('  1: vanished\n      a.case\n', *files)
 
     def test_more_parts_than_cases(self):
         self.only_the_example()

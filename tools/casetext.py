@@ -3,13 +3,17 @@
   # a comment goes to the end of its line; blank lines and indentation are free
   base 0                    the memory's first address: a multiple of 64, at most 2^40 (0 if not given)
   memory 128                the memory's length in bytes, a multiple of 64
-  hart 0 pc=0 x5=64         a hart, numbered from 0; what isn't given is zero, and pc the base
+  hart 0 pc=0 x5=64         a hart, numbered from 0; what isn't given is zero, and pc the base (or an elf's entry)
     x6=-1 a0=lock           .. more of its registers
+  elf prog.elf              a RISC-V program (linked, static): its segments stand in memory, and its entry is pc of each hart that gives none;
+                            a relative name counts from the text's folder
   at 0x0                    what follows stands in memory from this address on; the rest of the memory is zero
   loop:                     a label: the address here
     lr.w x6,(x5)            an instruction (4 bytes)
     bne x6,x0,loop          the target of a branch or jal: a label, or a number, which counts from the instruction itself
     .word 0xffffffff 1      numbers of 4 bytes; also .byte .half .dword (1, 2, 8), the lowest byte first
+    .space 8                eight zeros; `.space 8,0xff` fills with another byte
+    .align 3                up to a multiple of 2^3; `.balign 8` is the same. Nops behind an instruction, else zeros; FILL and MOST may follow
   lock:
   events
     step 0                  hart 0 steps; `step 0 times 9` is nine such events
@@ -19,7 +23,9 @@
 Numbers are decimal, or hex after 0x; a register's and a .word's may be negative. A label may stand for a number where an address makes sense:
 registers, pc, .word, .dword, a device write's address. Registers are x0 to x31 or the ABI names. Instructions are those of the model: RV64I
 without FENCE.I and CSRs, lr, sc and amo* with .w or .d, amocas with .w, .d or .q, each with .aq, .rl or .aqrl behind it or not; fence is
-`fence`, `fence PRED,SUCC`, `fence.tso`, or `fence rd,rs1,NUMBER` with its upper 12 bits as a number. There are no pseudo-instructions.
+`fence`, `fence PRED,SUCC`, `fence.tso`, or `fence rd,rs1,NUMBER` with its upper 12 bits as a number. These pseudo-instructions stand for the
+words that GNU as makes of them: nop, li (any number of 64 bits; up to 8 words), mv, not, neg, negw, sext.w, seqz, snez, sltz, sgtz, beqz,
+bnez, blez, bgez, bltz, bgtz, bgt, ble, bgtu, bleu, j, jr, ret.
 
 An example, which is crates/floecavern/stdin: two harts, an LR and an SC each, and a device write between them.
 
@@ -35,12 +41,18 @@ An example, which is crates/floecavern/stdin: two harts, an LR and an SC each, a
     step 1 times 2
     step 0
 """
+import functools
+import os
 import re
+from collections import namedtuple
 
+import elf
 import riscv
 from casefile import CAUSES, DEVICE, STEP, YIELD, Case, Event, Hart, event_fault, right_line, write
 
 SIZES = {'.byte': 1, '.half': 2, '.word': 4, '.dword': 8}
+NOP = riscv.assemble('addi x0,x0,0').to_bytes(4, 'little')
+Piece = namedtuple('Piece', 'line place size encode name', defaults=('',))    # of the memory; name: of a segment, for what is said of it
 
 
 class TextError(Exception):
@@ -54,14 +66,20 @@ class TextError(Exception):
 class Maker:
     """Reads a text line by line; values are worked out at the end, when all labels are known."""
 
-    def __init__(self):
-        self.base = self.length = self.place = self.section = None
+    def __init__(self, folder):
+        self.folder = folder                                 # from where an elf line's file is named
+        self.base = self.length = self.place = self.section = self.entry = None
         self.labels, self.harts, self.pieces, self.events = {}, [], [], []
+        self.has_events, self.warnings = False, []
+        self.code = False                                    # whether the line before in memory is an instruction
 
     def line(self, n, text):
         self.n = n
         words = text.split()
-        if words[0] in ('base', 'memory', 'hart', 'at', 'events'):
+        if words[0] == 'elf':
+            self.section = None
+            self.do_elf(text[len('elf'):].strip())           # the name of a file may have spaces
+        elif words[0] in ('base', 'memory', 'hart', 'at', 'events'):
             self.section = None
             getattr(self, 'do_' + words[0])(words[1:])
         elif self.section == 'hart':
@@ -71,10 +89,13 @@ class Maker:
         elif self.section == 'events':
             self.event(words)
         else:
-            self.fail('%r: base, memory, hart, at or events is wanted here' % words[0])
+            self.fail('%r: base, memory, hart, elf, at or events is wanted here' % words[0])
 
     def fail(self, what):
         raise TextError(self.n, what)
+
+    def warn(self, what):
+        self.warnings.append((self.n, what))
 
     def number(self, text, low, high, what):
         value = riscv.number(text)
@@ -140,14 +161,37 @@ class Maker:
                 self.fail('%s is given twice' % name)
             self.harts[-1][key] = (self.n, value)
 
+    def do_elf(self, name):
+        if not name:
+            self.fail('write elf FILE')
+        if self.entry is not None:
+            self.fail('elf is given twice')
+        path = os.path.join(self.folder, name)
+        if os.path.exists(path) and not os.path.isfile(path):    # a device might never end
+            self.fail('elf %s: it is no file' % name)
+        try:
+            with open(path, 'rb') as file:
+                program = elf.read(file.read())
+        except OSError as error:
+            self.fail('elf %s: %s' % (name, error.strerror))
+        except ValueError as error:
+            self.fail('elf %s: %s' % (name, error))
+        if program.compressed:
+            self.warn('elf %s: it may have compressed words, which the model has not: compile it with -march=rv64ia' % name)
+        self.entry = program.entry
+        for s in program.segments:
+            headers = ' (with the headers of the file: link with -N)' if s.data.startswith(elf.MAGIC) else ''
+            encode = functools.partial(s.data.ljust, s.size, b'\0')
+            self.pieces.append(Piece(self.n, s.address, s.size, encode, 'elf %s: segment %d%s, ' % (name, s.number, headers)))
+
     def do_at(self, words):
         self.place = self.number(self.only(words, 'at ADDRESS'), 0, (1 << 64) - 1, 'at')
-        self.section = 'at'
+        self.section, self.code = 'at', False
 
     def do_events(self, words):
         if words:
             self.fail('events stands alone on its line')
-        self.section = 'events'
+        self.section, self.has_events = 'events', True
 
     # lines of a section
 
@@ -162,12 +206,72 @@ class Maker:
             self.labels[name] = self.place
             text = rest.strip()
         if text:
-            words = text.replace(',', ' ').split()
-            size = SIZES[words[0]] * (len(words) - 1) if words[0] in SIZES else 4
-            if not size:
-                self.fail('%s: no number follows' % words[0])
-            self.pieces.append((self.n, self.place, text))
+            size, encode = self.piece(text.split()[0], text)
+            self.pieces.append(Piece(self.n, self.place, size, encode))
             self.place += size
+
+    def piece(self, name, text):
+        """The size of a line in memory, and what gives its bytes when all labels are known."""
+        behind_code, self.code = self.code, False
+        if name in SIZES:
+            words = self.listed(text)
+            return SIZES[name] * len(words), lambda: b''.join(self.value(w, 8 * SIZES[name], name).to_bytes(SIZES[name], 'little') for w in words)
+        if name == '.space':
+            return self.space(text)
+        if name in ('.align', '.balign'):
+            self.code = behind_code
+            return self.align(name, text)
+        self.code = True
+        if self.place % 4:
+            self.fail('an instruction stands at a multiple of 4, not at %#x' % self.place)
+        lines = self.tried(riscv.expand, text)
+        places = range(self.place, self.place + 4 * len(lines), 4)
+        return 4 * len(lines), lambda: b''.join(self.tried(riscv.assemble, t, self.label, p).to_bytes(4, 'little') for t, p in zip(lines, places))
+
+    def tried(self, function, *args):
+        try:
+            return function(*args)
+        except ValueError as error:
+            self.fail(str(error))
+
+    def arguments(self, name, text, usage, most):
+        """The operands of .space, .align or .balign: the first is there, any other may be missing or empty."""
+        args = [arg.strip() for arg in text[len(name):].split(',')]
+        if not args[0] or len(args) > most or not args[-1]:
+            self.fail('write ' + usage)
+        return args + [''] * (most - len(args))
+
+    def space(self, text):
+        count, fill = self.arguments('.space', text, '.space SIZE or .space SIZE,FILL', 2)
+        size = self.number(count, 0, (1 << 64) - 1, '.space')
+        byte = self.number(fill or '0', -128, 255, '.space: fill') % 256
+        if not size:
+            self.warn('.space 0 fills nothing')
+        return size, lambda: bytes([byte]) * size
+
+    def align(self, name, text):
+        """GNU as fills with nops in code and with zeros in data; here the line before tells which it is."""
+        usage = '%s NUMBER, %s NUMBER,FILL or %s NUMBER,FILL,MOST' % (name, name, name)
+        count, fill, most = self.arguments(name, text, usage, 3)
+        to = 1 << self.number(count, 0, 31, name) if name == '.align' else self.number(count, 0, 1 << 31, name) or 1
+        if to & to - 1:
+            self.fail('%s: %s is no power of 2' % (name, count))
+        size, most = -self.place % to, self.number(most or '0', 0, 1 << 31, name + ': most')
+        byte = self.number(fill, -128, 255, name + ': fill') % 256 if fill else None
+        if most and size > most:
+            size = 0
+        nops = byte is None and self.code
+        return size, lambda: NOP * (size // 4) if nops else bytes([byte or 0]) * size
+
+    def listed(self, text):
+        """The numbers behind .byte to .dword, separated by spaces or commas."""
+        name, *rest = text.split(None, 1)
+        if not rest:
+            self.fail('%s: no number follows' % name)
+        words = re.split(r'\s*,\s*|\s+', rest[0])
+        if '' in words:
+            self.fail('%s: a number beside a comma is missing' % name)
+        return words
 
     def event(self, words):
         if words[0] == 'device':
@@ -185,7 +289,7 @@ class Maker:
     # the case
 
     def hart(self, settings):
-        registers, pc = [0] * 32, self.base
+        registers, pc = [0] * 32, self.base if self.entry is None else self.entry
         for key, (self.n, text) in settings.items():
             value = self.value(text, 64, 'pc' if key == 'pc' else 'x%d' % key)
             if key == 'pc':
@@ -198,30 +302,17 @@ class Maker:
                 registers[key] = value
         return Hart(tuple(registers[1:]), pc)
 
-    def encoded(self, place, text):
-        """The bytes of a line in memory."""
-        words = text.replace(',', ' ').split()
-        if words[0] in SIZES:
-            size = SIZES[words[0]]
-            return b''.join(self.value(word, 8 * size, words[0]).to_bytes(size, 'little') for word in words[1:])
-        if place % 4:
-            self.fail('an instruction stands at a multiple of 4, not at %#x' % place)
-        try:
-            return riscv.assemble(text, self.label, place).to_bytes(4, 'little')
-        except ValueError as error:
-            self.fail(str(error))
-
     def memory(self):
         memory, lines = bytearray(self.length), [0] * self.length
-        for self.n, place, text in self.pieces:
-            data, start = self.encoded(place, text), place - self.base
-            if start < 0 or start + len(data) > self.length:
-                self.fail('%#x to %#x is not in memory, %#x to %#x' % (place, place + len(data) - 1, self.base, self.base + self.length - 1))
-            for k in range(start, start + len(data)):
+        for self.n, place, size, encode, name in self.pieces:
+            start, last = place - self.base, self.base + self.length - 1
+            if size and (start < 0 or start + size > self.length):
+                self.fail('%s%#x to %#x is not in memory, %#x to %#x' % (name, place, place + size - 1, self.base, last))
+            for k in range(start, start + size):
                 if lines[k]:
-                    self.fail('address %#x is already filled by line %d' % (self.base + k, lines[k]))
+                    self.fail('%saddress %#x is already filled by line %d' % (name, self.base + k, lines[k]))
                 lines[k] = self.n
-            memory[start:start + len(data)] = data
+            memory[start:start + size] = encode()
         return bytes(memory)
 
     def made(self, kind, words):
@@ -241,6 +332,8 @@ class Maker:
             self.fail('the text ends without a line: memory LENGTH')
         if not self.harts:
             self.fail('the text ends without a hart')
+        if not self.has_events:
+            self.warn('the text ends without a line: events; the case has no events')
         self.base = self.base or 0
         total = 56 + 256 * len(self.harts) + self.length + 24 * len(self.events)
         if total > 65536:
@@ -251,16 +344,20 @@ class Maker:
         return Case(self.base, harts, memory, events)
 
 
-def make(text):
-    """The bytes of the case file that a text describes. Raises TextError."""
-    maker = Maker()
+def make(text, warnings=None, folder='.'):
+    """The bytes of the case file that a text describes; (line, what) of each warning is put to the list. folder: from where the file of an elf
+    line is named. Raises TextError."""
+    maker = Maker(folder)
     lines = text.removesuffix('\n').split('\n')
     for n, line in enumerate(lines, 1):
         line = line.partition('#')[0].strip()
         if line:
             maker.line(n, line)
     maker.n = len(lines)
-    return write(maker.case())
+    data = write(maker.case())
+    if warnings is not None:
+        warnings += maker.warnings
+    return data
 
 
 # ---- a case to its text

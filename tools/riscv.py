@@ -1,4 +1,5 @@
-"""The 32-bit words of the model as text, and back: RV64I without FENCE.I and CSRs, A, and AMOCAS. Used by tools/case."""
+"""The 32-bit words of the model as text, and back: RV64I without FENCE.I and CSRs, A, and AMOCAS; and what pseudo-instructions stand for.
+Used by tools/case."""
 import functools
 import re
 
@@ -27,6 +28,20 @@ FORMS = {
 }
 FUNCT5 = {'amoadd': 0, 'amoswap': 1, 'lr': 2, 'sc': 3, 'amoxor': 4, 'amocas': 5, 'amoor': 8, 'amoand': 12, 'amomin': 16, 'amomax': 20,
           'amominu': 24, 'amomaxu': 28}
+
+# Pseudo-instructions as GNU as has them: how each may be written, and the instruction that it stands for. li is load_constant's.
+PSEUDO = {
+    'nop': {'': 'addi x0,x0,0'}, 'ret': {'': 'jalr x0,0(x1)'}, 'j': {'jump': 'jal x0,jump'}, 'li': {'rd,constant': ''},
+    'jr': {'rs1': 'jalr x0,0(rs1)', 'imm(rs1)': 'jalr x0,imm(rs1)', 'rs1,imm': 'jalr x0,imm(rs1)'},
+    'mv': {'rd,rs1': 'addi rd,rs1,0'}, 'not': {'rd,rs1': 'xori rd,rs1,-1'}, 'sext.w': {'rd,rs1': 'addiw rd,rs1,0'},
+    'neg': {'rd,rs2': 'sub rd,x0,rs2'}, 'negw': {'rd,rs2': 'subw rd,x0,rs2'},
+    'seqz': {'rd,rs1': 'sltiu rd,rs1,1'}, 'snez': {'rd,rs2': 'sltu rd,x0,rs2'}, 'sltz': {'rd,rs1': 'slt rd,rs1,x0'}, 'sgtz': {'rd,rs2': 'slt rd,x0,rs2'},
+    'beqz': {'rs1,branch': 'beq rs1,x0,branch'}, 'bnez': {'rs1,branch': 'bne rs1,x0,branch'},
+    'blez': {'rs2,branch': 'bge x0,rs2,branch'}, 'bgez': {'rs1,branch': 'bge rs1,x0,branch'},
+    'bltz': {'rs1,branch': 'blt rs1,x0,branch'}, 'bgtz': {'rs2,branch': 'blt x0,rs2,branch'},
+    'bgt': {'rs2,rs1,branch': 'blt rs1,rs2,branch'}, 'ble': {'rs2,rs1,branch': 'bge rs1,rs2,branch'},
+    'bgtu': {'rs2,rs1,branch': 'bltu rs1,rs2,branch'}, 'bleu': {'rs2,rs1,branch': 'bgeu rs1,rs2,branch'},
+}
 
 
 def instructions():
@@ -155,6 +170,63 @@ def immediate(field, text, resolve, address):
     return value
 
 
+def operands(text):
+    """The operands of a line without the spaces around them. A space inside one, or an empty one, is refused: what was meant isn't known."""
+    text = re.sub(r'\s*([,()])\s*', r'\1', text.strip())
+    inside = re.search(r'[^,()]*\s[^,()]*', text)
+    if inside:
+        raise ValueError('%r has a space inside: operands are separated by commas' % inside.group())
+    if text.startswith(',') or text.endswith(',') or ',,' in text:
+        raise ValueError('an operand beside a comma is empty')
+    return text
+
+
+def fields(name, shapes, rest):
+    """The first of the shapes that the operands have, and the text of each of its fields."""
+    for shape in shapes:
+        match = re.fullmatch(re.sub(r'\w+', '([^,()]+)', re.escape(shape)).replace(r',\(', r',0?\('), rest)
+        if match:
+            return shape, dict(zip(re.findall(r'\w+', shape), match.groups()))
+    spoken = (re.sub(r'\w+', lambda m: SPOKEN.get(m.group(), m.group()), shape) for shape in shapes)
+    raise ValueError('write ' + ' or '.join((name + ' ' + shape).rstrip() for shape in spoken))
+
+
+def signed(value, bits):
+    """The signed meaning of a number's low bits."""
+    value %= 1 << bits
+    return value - (1 << bits) if value >> bits - 1 else value
+
+
+def load_constant(rd, value):
+    """The instructions by which GNU as loads a number beyond 12 bits. One of 32 bits: lui, and addiw for the low 12 bits. Any other: what stands
+    above the low 12 bits, without the zeros at its end, in the same way; then a shift, and addi for the low 12 bits. GNU as writes addiw also
+    where addi would do, and into x0 also where the low bits are zero."""
+    low = signed(value, 12)
+    high = signed(value - low, 64)
+    if value == signed(value, 32):
+        upper = ['lui %s,%#x' % (rd, high >> 12 & 0xFFFFF)] if high else []
+        return upper + (['addiw %s,%s,%d' % (rd, rd if high else 'x0', low)] if low or not high or rd == 'x0' else [])
+    shift = (high & -high).bit_length() - 1
+    return load_constant(rd, high >> shift) + ['slli %s,%s,%d' % (rd, rd, shift)] + (['addi %s,%s,%d' % (rd, rd, low)] if low else [])
+
+
+def expand(text):
+    """The instructions, as texts, that a line stands for: one or more of a pseudo-instruction, else the line itself."""
+    name, *rest = text.split(None, 1)
+    if name not in PSEUDO:
+        return [text]
+    shape, given = fields(name, PSEUDO[name], operands(''.join(rest)))
+    if name != 'li':
+        return [re.sub(r'\w+', lambda m: given.get(m.group(), m.group()), PSEUDO[name][shape])]
+    value = number(given['constant'])
+    if value is None:
+        raise ValueError('%r is no number' % given['constant'])
+    if not -1 << 63 <= value < 1 << 64:
+        raise ValueError('%d is out of range: %d to %d' % (value, -1 << 63, (1 << 64) - 1))
+    rd, value = 'x%d' % register(given['rd']), signed(value, 64)
+    return ['addi %s,x0,%d' % (rd, value)] if value == signed(value, 12) else load_constant(rd, value)
+
+
 def assemble_fence(name, args):
     if name == 'fence.tso' and not args:
         return 0x8330000F
@@ -176,8 +248,8 @@ def assemble_fence(name, args):
 
 def assemble(text, resolve=None, address=0):
     """The word of an instruction's text. resolve gives a label's address, for branches and jal; ValueError says what is wrong."""
-    name, _, rest = text.strip().replace('\t', ' ').partition(' ')
-    rest = re.sub(r'\s+', '', rest)
+    name, *rest = text.split(None, 1)
+    rest = operands(''.join(rest))
     if name in ('fence', 'fence.tso'):
         return assemble_fence(name, rest.split(',') if rest else [])
     plain, order = name, 0
@@ -188,12 +260,7 @@ def assemble(text, resolve=None, address=0):
     if plain not in INSTRUCTIONS or order and INSTRUCTIONS[plain][0] not in ('lr', 'amo'):
         raise ValueError('%r is no instruction of the model' % name)
     form, word = INSTRUCTIONS[plain]
-    shape = FORMS[form][1]
-    pattern = re.sub(r'\w+', '([^,()]+)', re.escape(shape)).replace(r',\(', r',0?\(')
-    match = re.fullmatch(pattern, rest)
-    if match is None:
-        raise ValueError('write ' + (name + ' ' + re.sub(r'\w+', lambda m: SPOKEN.get(m.group(), m.group()), shape)).rstrip())
-    for field, arg in zip(re.findall(r'\w+', shape), match.groups()):
+    for field, arg in fields(name, [FORMS[form][1]], rest)[1].items():
         value = register(arg) if field in ('rd', 'rs1', 'rs2') else immediate(field, arg, resolve, address)
         if plain == 'amocas.q' and field in ('rd', 'rs2') and value % 2:
             raise ValueError('amocas.q takes an even %s, x%d is odd' % (field, value))

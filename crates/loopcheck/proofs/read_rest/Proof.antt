@@ -2,14 +2,14 @@ use borrow.Author.Needs.{needs}
 use mathlib.Core.Path.{_≡_}
 use Prim.Native.Nat.{_-_, _<_}
 use lib.ListN.{length}
-use Rattle.loopcheck.proofs.left_over.Statement.{statement}
-use Rattle.loopcheck.proofs.left_over.Tie as tie
+use Rattle.loopcheck.proofs.read_rest.Statement.{statement}
+use Rattle.loopcheck.proofs.read_rest.Tie as tie
 
 abbrev Inv-loop : tie.InvT-loop
-Inv-loop n space₀ left₀ turns₀ space left turns = (65536 ≡ length space) × (left < 4)
+Inv-loop space₀ left₀ failed₀ turns₀ space left failed turns = (65536 ≡ length space) × (left < 4)
 
 abbrev μ-loop : tie.MeasureT-loop
-μ-loop n space₀ left₀ turns₀ space left turns = 1000000000000 - turns
+μ-loop space₀ left₀ failed₀ turns₀ space left failed turns = 1000000000000 - turns
 
 large-buffer-requires : tie.Need-large-buffer-requires Inv-loop μ-loop
 large-buffer-requires c κs = search needs
@@ -17,11 +17,11 @@ large-buffer-requires c κs = search needs
 loop-holds : tie.Need-loop-holds Inv-loop μ-loop
 loop-holds c = search needs
 
-slice-aggregate-read-full : tie.Need-slice-aggregate-read-full Inv-loop μ-loop
-slice-aggregate-read-full c = search needs
+slice-aggregate-read-input : tie.Need-slice-aggregate-read-input Inv-loop μ-loop
+slice-aggregate-read-input c = search needs
 
-read-full-requires : tie.Need-read-full-requires Inv-loop μ-loop
-read-full-requires c κs = search needs
+read-input-requires : tie.Need-read-input-requires Inv-loop μ-loop
+read-input-requires c κs = search needs
 
 add-left : tie.Need-add-left Inv-loop μ-loop
 add-left c = search needs
@@ -41,19 +41,23 @@ returns c = search needs
 returns-2 : tie.Need-returns-2 Inv-loop μ-loop
 returns-2 c = search needs
 
-pub left-over-spec : {M : Type 1} → statement M
-left-over-spec =
+returns-3 : tie.Need-returns-3 Inv-loop μ-loop
+returns-3 c = search needs
+
+pub read-rest-spec : {M : Type 1} → statement M
+read-rest-spec =
     tie.close
     (tie.spec
     Inv-loop
     μ-loop
     large-buffer-requires
     loop-holds
-    slice-aggregate-read-full
-    read-full-requires
+    slice-aggregate-read-input
+    read-input-requires
     add-left
     add-turns
     loop-less
     loop-again
     returns
-    returns-2)
+    returns-2
+    returns-3)

@@ -1,0 +1,472 @@
+"""Floecavern, a proved reference model of RISC-V atomics, from Python: ctypes over the static library, made a shared object.
+
+In the repository's root, after `rt staticlib capi`, on x86-64 Linux:
+
+    cc -shared -o target/libfloecavern.so -Wl,--whole-archive target/staticlib/libcapi.a -Wl,--no-whole-archive
+
+FLOECAVERN_SO names a shared object at another place. Python 3.9 or later, no dependencies.
+
+    import floecavern
+    machine = floecavern.Machine(2, 0, 128)                     # two harts with their pc at 0, 128 bytes of memory there
+    machine.put_words(0, [0x1002a32f, 0x1882a3af])              # lr.w x6,(x5); sc.w x7,x8,(x5)
+    machine.state.x[0][5] = 64
+    machine.step(0)                                             # floecavern.RETIRED
+    machine.state.reservation(0)                                # Reservation(addr=64, width=4)
+
+The names are those of include/floecavern.h and of rust/. What the model refuses is the exception Refused, and state and memory are as they
+were; a trap is an outcome. A value that isn't the model's at all is a TypeError or a ValueError before the library is called: a number that
+doesn't fit its bits, a memory that can't be written. One machine is for one thread at a time.
+"""
+import ctypes
+import enum
+import functools
+import operator
+import os
+import struct
+from dataclasses import dataclass
+from typing import NamedTuple, Optional
+
+__version__ = '0.2.0'
+
+BUILD = 'cc -shared -o target/libfloecavern.so -Wl,--whole-archive target/staticlib/libcapi.a -Wl,--no-whole-archive'
+ROOT = os.path.dirname(os.path.dirname(os.path.abspath(__file__)))
+
+STATE_SIZE, EVENT_SIZE, REPORT_ROOM, MAX_HARTS, MAX_MEMORY = 2312, 24, 262_144, 8, 1_048_576
+
+_BAD_SIZE, _TRAP, _REFUSED, _ALL = 2**64 - 1, 256, 512, 2**64 - 1
+
+
+@functools.lru_cache(maxsize=None)
+def _library():
+    """The shared object, loaded once, at the first call."""
+    path = os.environ.get('FLOECAVERN_SO', os.path.join(ROOT, 'target', 'libfloecavern.so'))
+    if not os.path.exists(path):
+        raise OSError('%s is missing. In the repository, after `rt staticlib capi`: %s' % (path, BUILD))
+    library = ctypes.CDLL(path)
+    lent, read, number, size = ctypes.c_void_p, ctypes.c_char_p, ctypes.c_uint64, ctypes.c_size_t
+    machine = [lent, size, number, lent, size]
+    for name, arguments in [('report', [read, size, lent, size]), ('check_loop', [read, size]),
+                            ('step', machine + [size, lent, size]), ('yield', machine + [size, lent, size]),
+                            ('device_write', machine + [number, size, number, lent, size]),
+                            ('run', machine + [read, size, size, lent, size])]:
+        function = getattr(library, 'floecavern_' + name)
+        function.argtypes, function.restype = arguments, number
+    return library
+
+
+def _number(name, value, bits=64):
+    """A whole number of so many bits. ctypes would cut a larger one off, and take a negative one for another."""
+    try:
+        value = operator.index(value)
+    except TypeError:
+        raise TypeError('%s is %r: not a whole number' % (name, value)) from None
+    if not 0 <= value < 2**bits:
+        raise ValueError('%s is %d: not from 0 to 2^%d - 1' % (name, value, bits))
+    return value
+
+
+class _Numbered(enum.IntEnum):
+    """Numbers with a short text each, which is the header's."""
+
+    def __new__(cls, number, text):
+        one = int.__new__(cls, number)
+        one._value_ = number
+        one.text = text
+        return one
+
+    def __str__(self):
+        return '%s %d: %s' % (type(self).__name__.lower(), self.value, self.text)
+
+
+class Cause(_Numbered):
+    """Why a step trapped, by the names that the privileged manual has for the causes."""
+    INSTRUCTION_ADDRESS_MISALIGNED = 0, 'instruction address misaligned'
+    INSTRUCTION_ACCESS_FAULT = 1, 'instruction access fault'
+    ILLEGAL_INSTRUCTION = 2, 'illegal instruction'
+    BREAKPOINT = 3, 'breakpoint'
+    LOAD_ADDRESS_MISALIGNED = 4, 'load address misaligned'
+    LOAD_ACCESS_FAULT = 5, 'load access fault'
+    STORE_ADDRESS_MISALIGNED = 6, 'store/AMO address misaligned'
+    STORE_ACCESS_FAULT = 7, 'store/AMO access fault'
+    ENVIRONMENT_CALL = 8, 'environment call'
+
+
+class Refusal(_Numbered):
+    """Why a call is refused: 1 to 5 an event, 6 a block, 7 to 11 a case file, 1, 2 and 11 a run."""
+    MEMORY = 1, "the memory's length or base is wrong"
+    STATE = 2, 'the state is wrong'
+    HART = 3, 'the hart is not below the count'
+    DEVICE_SIZE = 4, 'a device write of 0 or more than 8 bytes'
+    DEVICE_ADDRESS = 5, 'a device write not wholly in memory'
+    BLOCK = 6, 'a block of fewer than 2 or more than 16 words'
+    FILE_LENGTH = 7, "the file's length is not 40 to 65536"
+    TABLE = 8, 'the table of contents is wrong'
+    HARTS_BODY = 9, 'the harts body is wrong'
+    MEMORY_BODY = 10, "the memory body's length is wrong"
+    EVENTS = 11, 'an event or the length of the events is wrong'
+
+
+class Reason(_Numbered):
+    """Why a block is rejected. docs/USING.md has each in full."""
+    NO_LR = 1, 'place 0 is not an LR'
+    NOT_PERMITTED = 2, 'a word that a retry loop may not hold'
+    JUMP = 3, 'a jump or branch that a retry loop may not make'
+    WRITES_RS1 = 4, "the LR's rs1 is written before the SC"
+    OTHER_SC = 5, 'the SC has another width or rs1 than the LR'
+    NO_SC = 6, 'no SC'
+
+
+class Refused(Exception):
+    """A call that the model refuses: nothing has changed. `place` is that of a run or a report, else None."""
+
+    def __init__(self, refusal, place=None):
+        super().__init__(refusal, place)
+        self.refusal, self.place = Refusal(refusal), place
+
+    def __str__(self):
+        if self.place is None:
+            return str(self.refusal)
+        return 'refusal %d at %d: %s' % (self.refusal, self.place, self.refusal.text)
+
+
+class Kind(enum.Enum):
+    RETIRED = 0
+    SC_STORED = 1
+    SC_FAILED = 2
+    TRAP = _TRAP
+
+
+class Outcome(NamedTuple):
+    """The answer to an event that isn't refused. Of a trap it has the cause and the value; nothing has changed then."""
+    kind: Kind
+    cause: Optional[Cause] = None
+    value: int = 0
+
+    def __str__(self):
+        if self.kind is not Kind.TRAP:
+            return self.kind.name.lower().replace('_', ' ')
+        return 'trap %d %016x: %s' % (self.cause, self.value, self.cause.text)
+
+
+RETIRED, SC_STORED, SC_FAILED = Outcome(Kind.RETIRED), Outcome(Kind.SC_STORED), Outcome(Kind.SC_FAILED)
+
+
+def trap(cause, value):
+    return Outcome(Kind.TRAP, Cause(cause), value)
+
+
+class Verdict(NamedTuple):
+    """What the checker says of a block: accepted, or the lowest place that has a reason and the lowest reason there."""
+    accepted: bool
+    place: Optional[int] = None
+    reason: Optional[Reason] = None
+
+
+class Reservation(NamedTuple):
+    """What an LR made: the `width` bytes, 4 or 8, at `addr`."""
+    addr: int
+    width: int
+
+
+class State:
+    """The state: of harts 0 to count - 1, 1 to 8 of them, the registers x[hart][register], pc[hart] and the reservation.
+
+    Two states are equal if all of this is, of unused harts too. How a reservation is written down in bytes doesn't count.
+    """
+    __slots__ = '_bytes', '_numbers', '_x', '_pc'
+    __hash__ = None
+
+    def __init__(self, count):
+        self._bytes = bytearray(STATE_SIZE)
+        # Numbers of 64 bits over the bytes: assigning one that doesn't fit is an error, of Python's own.
+        self._numbers = memoryview(self._bytes).cast('Q')
+        self._x = tuple(self._numbers[1 + 32 * h:33 + 32 * h] for h in range(MAX_HARTS))
+        self._pc = self._numbers[257:265]
+        self.count = count
+
+    @property
+    def count(self):
+        return self._numbers[0]
+
+    @count.setter
+    def count(self, count):
+        self._numbers[0] = _number('count', count)
+
+    @property
+    def x(self):
+        return self._x
+
+    @property
+    def pc(self):
+        return self._pc
+
+    def _slot(self, hart):
+        if _number('hart', hart) >= MAX_HARTS:
+            raise IndexError('hart is %d: a state has places for %d' % (hart, MAX_HARTS))
+        return 265 + 3 * hart
+
+    def reservation(self, hart):
+        """The reservation that a hart holds, or None."""
+        held, addr, width = self._numbers[self._slot(hart):self._slot(hart) + 3]
+        return Reservation(addr, width) if held else None
+
+    def set_reservation(self, hart, reservation):
+        """Gives a hart a reservation, or none."""
+        numbers = (0, 0, 0)
+        if reservation is not None:
+            addr, width = reservation
+            numbers = (1, _number('addr', addr), _number('width', width))
+        for n, number in enumerate(numbers, self._slot(hart)):
+            self._numbers[n] = number
+
+    def to_bytes(self):
+        """Its 2312 bytes, as the header says: every number 8 bytes, the lowest first."""
+        return bytes(self._bytes)
+
+    @classmethod
+    def from_bytes(cls, data):
+        """The state that has these 2312 bytes: any bytes are one."""
+        data = _read(data)
+        if len(data) != STATE_SIZE:
+            raise ValueError('%d bytes: a state has %d' % (len(data), STATE_SIZE))
+        state = cls(0)
+        state._bytes[:] = data
+        return state
+
+    def _meaning(self):
+        return self._numbers[:265].tolist(), [self.reservation(h) for h in range(MAX_HARTS)]
+
+    def __eq__(self, other):
+        return self._meaning() == other._meaning() if isinstance(other, State) else NotImplemented
+
+    def __reduce__(self):
+        return State.from_bytes, (self.to_bytes(),)
+
+    def __repr__(self):
+        return '<State of %d harts, pcs %s>' % (self.count, ' '.join('%#x' % pc for pc in self.pc[:min(self.count, MAX_HARTS)]))
+
+
+@dataclass(frozen=True)
+class Event:
+    """An event, as a run takes it: Event.step(hart), Event.device_write(addr, size, data) or Event.yield_hart(hart)."""
+    kind: int
+    hart: int = 0
+    size: int = 0
+    addr: int = 0
+    data: int = 0
+
+    def __post_init__(self):
+        used = {1: ['hart'], 2: ['size', 'addr', 'data'], 3: ['hart']}.get(self.kind)
+        if used is None:
+            raise ValueError('kind is %r: not 1, 2 or 3' % (self.kind,))
+        for name, bits in [('hart', 8), ('size', 8), ('addr', 64), ('data', 64)]:
+            if _number(name, getattr(self, name), bits) != 0 and name not in used:
+                raise ValueError('%s is %d: an event of kind %d has none' % (name, getattr(self, name), self.kind))
+        if self.size <= 8:
+            _number('data', self.data, 8 * self.size)
+
+    @classmethod
+    def step(cls, hart):
+        return cls(1, hart=hart)
+
+    @classmethod
+    def device_write(cls, addr, size, data):
+        """Data above the size is left out, as `device_write` leaves it out: a run refuses an event that has it."""
+        low = 2**(8 * min(_number('size', size, 8), 8)) - 1
+        return cls(2, size=size, addr=addr, data=_number('data', data) & low)
+
+    @classmethod
+    def yield_hart(cls, hart):
+        return cls(3, hart=hart)
+
+    def to_bytes(self):
+        """The 24 bytes of an event: kind, hart, size, five zeros, address, data."""
+        return struct.pack('<BBB5xQQ', self.kind, self.hart, self.size, self.addr, self.data)
+
+
+def _read(data):
+    """A copy of bytes, so that it overlaps nothing that is written. A number or a text isn't bytes."""
+    return bytes(memoryview(data))
+
+
+def _lent(state, mem):
+    """The bytes of a memory that the library may write, as an array of ctypes, and how many they are."""
+    view = memoryview(mem)
+    if view.readonly:
+        raise TypeError('the memory is read-only: lend a bytearray')
+    if view.nbytes == 0:
+        return (ctypes.c_uint8 * 1)(), 0
+    lent = (ctypes.c_uint8 * view.nbytes).from_buffer(view.cast('B'))
+    start, other = ctypes.addressof(lent), ctypes.addressof(ctypes.c_uint8.from_buffer(state._bytes))
+    if start < other + STATE_SIZE and other < start + view.nbytes:
+        raise ValueError('the memory is part of the state')
+    return lent, view.nbytes
+
+
+def _call(name, told, state, base, mem, *arguments):
+    """A call on a state and a memory: the answer, and the numbers that it told."""
+    if not isinstance(state, State):
+        raise TypeError('%r is no State' % (state,))
+    base, (lent, length) = _number('base', base), _lent(state, mem)
+    numbers = (ctypes.c_uint64 * told)()
+    answer = getattr(_library(), 'floecavern_' + name)(
+        (ctypes.c_uint8 * STATE_SIZE).from_buffer(state._bytes), STATE_SIZE, base, lent, length, *arguments, numbers, 8 * told)
+    assert answer != _BAD_SIZE, 'the sizes are right'
+    return answer, list(numbers)
+
+
+def _outcome(answer, numbers):
+    if answer >= _REFUSED:
+        raise Refused(answer - _REFUSED)
+    if answer >= _TRAP:
+        return trap(answer - _TRAP, numbers[0])
+    return Outcome(Kind(answer))
+
+
+def step(state, base, mem, hart):
+    """A step of a hart on the memory, a bytearray, at `base`: fetches the word at its pc and performs it. Refusals 1 to 3."""
+    return _outcome(*_call('step', 1, state, base, mem, _number('hart', hart)))
+
+
+def device_write(state, base, mem, addr, size, data):
+    """A device writes the `size` lowest bytes of `data` at `addr`, the lowest first. Refusals 1, 2, 4 and 5."""
+    return _outcome(*_call('device_write', 1, state, base, mem, _number('addr', addr), _number('size', size), _number('data', data)))
+
+
+def yield_hart(state, base, mem, hart):
+    """A yield: drops a hart's reservation. Refusals 1 to 3."""
+    return _outcome(*_call('yield', 1, state, base, mem, _number('hart', hart)))
+
+
+def run(state, base, mem, events, budget=None):
+    """A run of the first `budget` events, or of all: how many that were. Traps don't stop it. Refusals 1, 2 and 11."""
+    events = list(events)
+    for event in events:
+        if not isinstance(event, Event):
+            raise TypeError('%r is no Event' % (event,))
+    return run_bytes(state, base, mem, b''.join(event.to_bytes() for event in events), budget)
+
+
+def run_bytes(state, base, mem, events, budget=None):
+    """The same of events that are bytes already, 24 for each, such as a case file's."""
+    events, budget = _read(events), _ALL if budget is None else _number('budget', budget)
+    answer, (performed, place) = _call('run', 2, state, base, mem, events, len(events), budget)
+    if answer >= _REFUSED:
+        raise Refused(answer - _REFUSED, place)
+    return performed
+
+
+def report_text(file):
+    """All that the program `floecavern` writes for the bytes of a case file, whatever they are."""
+    file, out = _read(file), (ctypes.c_uint8 * REPORT_ROOM)()
+    length = _library().floecavern_report(file, len(file), out, REPORT_ROOM)
+    return bytes(memoryview(out)[:length]).decode('ascii')
+
+
+def report(file):
+    """The lines of a case file. Refusals 7 to 11."""
+    text = report_text(file)
+    if text.startswith('refused '):
+        _, number, place = text.split()
+        raise Refused(int(number), int(place))
+    return text
+
+
+def check_loop(words):
+    """Whether a block of instruction words, numbers of 32 bits, is a retry loop that is accepted. Refusal 6."""
+    if isinstance(words, (bytes, bytearray, str)):
+        raise TypeError('a block is a list of words, not %s' % type(words).__name__)
+    words = [_number('word', word, 32) for word in words]
+    # A block of 17 or more words is refused whatever the words are, so that 17 of them say it.
+    block = b''.join(struct.pack('<I', word) for word in words[:17])
+    answer = _library().floecavern_check_loop(block, len(block))
+    assert answer != _BAD_SIZE, 'whole words'
+    if answer == 0:
+        return Verdict(True)
+    if answer == Refusal.BLOCK:
+        raise Refused(answer)
+    return Verdict(False, answer // 256 - 1, Reason(answer % 256))
+
+
+class Machine:
+    """A state and a memory, a bytearray, at `base`. All of it may be read and written between calls: what the model doesn't take is
+    refused by the next call."""
+    __slots__ = 'state', 'base', 'mem'
+    __hash__ = None
+
+    def __init__(self, harts, base, length):
+        """`harts` harts with their pc at `base`, registers 0 and no reservations; `length` bytes of memory, all 0. Refusals 1 and 2."""
+        state, base = State(harts), _number('base', base)
+        for hart in range(min(state.count, MAX_HARTS)):
+            state.pc[hart] = base
+        # Before so much is allocated.
+        if _number('length', length) > MAX_MEMORY:
+            raise Refused(Refusal.MEMORY)
+        self._take(state, base, bytearray(length))
+
+    @classmethod
+    def from_parts(cls, state, base, mem):
+        """A machine of a state and a memory that are there already. Refusals 1 and 2."""
+        machine = cls.__new__(cls)
+        machine._take(state, base, mem)
+        return machine
+
+    def _take(self, state, base, mem):
+        self.state, self.base, self.mem = state, base, mem
+        try:
+            self.run_bytes(b'', 0)  # tries both refusals and changes nothing
+        except Refused as refused:
+            raise Refused(refused.refusal) from None
+
+    def __eq__(self, other):
+        if not isinstance(other, Machine):
+            return NotImplemented
+        return (self.state, self.base, self.mem) == (other.state, other.base, other.mem)
+
+    def _part(self, addr, length):
+        """The `length` bytes of memory from `addr` on, to read and write, or None if they aren't wholly in it."""
+        view = memoryview(self.mem)
+        place = _number('addr', addr) - self.base
+        if not 0 <= place <= view.nbytes - length:
+            return None
+        return view.cast('B')[place:place + length] if length else memoryview(b'')
+
+    def put_words(self, addr, words):
+        """Puts words into memory from `addr` on, 4 bytes each with the lowest first. This is no event: it breaks no reservation.
+        Refusal 5, and nothing is written, if they aren't wholly in memory."""
+        data = b''.join(struct.pack('<I', _number('word', word, 32)) for word in words)
+        part = self._part(addr, len(data))
+        if part is None:
+            raise Refused(Refusal.DEVICE_ADDRESS)
+        if data:
+            part[:] = data
+
+    def bytes(self, addr, length):
+        """The `length` bytes from `addr` on, or None if they aren't wholly in memory."""
+        part = self._part(addr, _number('length', length))
+        return None if part is None else part.tobytes()
+
+    def step(self, hart):
+        return step(self.state, self.base, self.mem, hart)
+
+    def device_write(self, addr, size, data):
+        return device_write(self.state, self.base, self.mem, addr, size, data)
+
+    def yield_hart(self, hart):
+        return yield_hart(self.state, self.base, self.mem, hart)
+
+    def perform(self, event):
+        """An event by itself."""
+        if not isinstance(event, Event):
+            raise TypeError('%r is no Event' % (event,))
+        if event.kind == 1:
+            return self.step(event.hart)
+        if event.kind == 3:
+            return self.yield_hart(event.hart)
+        return self.device_write(event.addr, event.size, event.data)
+
+    def run(self, events, budget=None):
+        return run(self.state, self.base, self.mem, events, budget)
+
+    def run_bytes(self, events, budget=None):
+        return run_bytes(self.state, self.base, self.mem, events, budget)

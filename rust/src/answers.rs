@@ -1,0 +1,178 @@
+//! What calls answer: outcomes, refusals, and the names of their numbers.
+
+use std::error::Error;
+use std::fmt;
+
+/// An enum of numbers, each with a short text, which is the header's.
+macro_rules! numbered {
+    ($(#[$doc:meta])* $name:ident, $what:literal, $($(#[$item:meta])* $variant:ident = $number:literal, $text:literal;)+) => {
+        $(#[$doc])*
+        #[derive(Clone, Copy, Debug, PartialEq, Eq, PartialOrd, Ord, Hash)]
+        pub enum $name {
+            $($(#[$item])* $variant = $number,)+
+        }
+
+        impl $name {
+            /// All of them, in the order of their numbers.
+            pub const ALL: &'static [$name] = &[$($name::$variant),+];
+
+            /// The one that has this number, if one has.
+            pub fn of(number: u64) -> Option<Self> {
+                Self::ALL.iter().copied().find(|one| one.number() == number)
+            }
+
+            pub fn number(self) -> u64 {
+                self as u64
+            }
+
+            /// A short text, the same as the header's.
+            pub fn text(self) -> &'static str {
+                match self {
+                    $($name::$variant => $text,)+
+                }
+            }
+        }
+
+        impl fmt::Display for $name {
+            fn fmt(&self, f: &mut fmt::Formatter) -> fmt::Result {
+                write!(f, "{} {}: {}", $what, self.number(), self.text())
+            }
+        }
+
+        impl Error for $name {}
+    };
+}
+
+numbered! {
+    /// Why a step trapped, by the names that the privileged manual has for the causes.
+    ///
+    /// ```
+    /// use floecavern::Cause;
+    /// assert_eq!(Cause::of(2), Some(Cause::IllegalInstruction));
+    /// assert_eq!(Cause::IllegalInstruction.to_string(), "cause 2: illegal instruction");
+    /// assert_eq!(Cause::of(9), None);
+    /// ```
+    Cause, "cause",
+    /// A jump or taken branch to a target that isn't a multiple of 4.
+    InstructionAddressMisaligned = 0, "instruction address misaligned";
+    /// The word at pc isn't wholly in memory.
+    InstructionAccessFault = 1, "instruction access fault";
+    IllegalInstruction = 2, "illegal instruction";
+    Breakpoint = 3, "breakpoint";
+    LoadAddressMisaligned = 4, "load address misaligned";
+    LoadAccessFault = 5, "load access fault";
+    StoreAddressMisaligned = 6, "store/AMO address misaligned";
+    StoreAccessFault = 7, "store/AMO access fault";
+    EnvironmentCall = 8, "environment call";
+}
+
+numbered! {
+    /// Why a call is refused. Nothing has changed then.
+    ///
+    /// ```
+    /// use floecavern::Refusal;
+    /// assert_eq!(Refusal::Hart.to_string(), "refusal 3: the hart is not below the count");
+    /// let error: Box<dyn std::error::Error> = Refusal::Hart.into();
+    /// ```
+    #[must_use = "a refused call did nothing"]
+    Refusal, "refusal",
+    /// The memory's length isn't a multiple of 64 from 64 to 1,048,576, or its base isn't one up to 2^40.
+    Memory = 1, "the memory's length or base is wrong";
+    /// The count isn't 1 to 8; or, of a used hart, x0, the pc or the reservation is wrong.
+    State = 2, "the state is wrong";
+    Hart = 3, "the hart is not below the count";
+    DeviceSize = 4, "a device write of 0 or more than 8 bytes";
+    DeviceAddress = 5, "a device write not wholly in memory";
+    Block = 6, "a block of fewer than 2 or more than 16 words";
+    FileLength = 7, "the file's length is not 40 to 65536";
+    Table = 8, "the table of contents is wrong";
+    HartsBody = 9, "the harts body is wrong";
+    MemoryBody = 10, "the memory body's length is wrong";
+    Events = 11, "an event or the length of the events is wrong";
+}
+
+numbered! {
+    /// Why a block is rejected. `docs/USING.md` has each in full.
+    Reason, "reason",
+    NoLr = 1, "place 0 is not an LR";
+    NotPermitted = 2, "a word that a retry loop may not hold";
+    Jump = 3, "a jump or branch that a retry loop may not make";
+    WritesRs1 = 4, "the LR's rs1 is written before the SC";
+    OtherSc = 5, "the SC has another width or rs1 than the LR";
+    NoSc = 6, "no SC";
+}
+
+/// A refusal with its place: of a run, in bytes from its first event; of a report, in bytes from the file's first. Refusals
+/// 1 and 2 of a run have the place 0.
+#[must_use = "a refused call did nothing"]
+#[derive(Clone, Copy, Debug, PartialEq, Eq)]
+pub struct RefusedAt {
+    pub refusal: Refusal,
+    pub place: usize,
+}
+
+impl fmt::Display for RefusedAt {
+    fn fmt(&self, f: &mut fmt::Formatter) -> fmt::Result {
+        write!(f, "refusal {} at {}: {}", self.refusal.number(), self.place, self.refusal.text())
+    }
+}
+
+impl Error for RefusedAt {
+    fn source(&self) -> Option<&(dyn Error + 'static)> {
+        Some(&self.refusal)
+    }
+}
+
+/// What a step that traps gives. State and memory are as they were.
+#[derive(Clone, Copy, Debug, PartialEq, Eq)]
+pub struct Trap {
+    pub cause: Cause,
+    pub value: u64,
+}
+
+impl fmt::Display for Trap {
+    fn fmt(&self, f: &mut fmt::Formatter) -> fmt::Result {
+        write!(f, "trap {} {:016x}: {}", self.cause.number(), self.value, self.cause.text())
+    }
+}
+
+impl Error for Trap {
+    fn source(&self) -> Option<&(dyn Error + 'static)> {
+        Some(&self.cause)
+    }
+}
+
+/// The answer to an event that isn't refused.
+#[derive(Clone, Copy, Debug, PartialEq, Eq)]
+pub enum Outcome {
+    /// A step that is no SC, a device write or a yield.
+    Retired,
+    /// A step that retired an SC, which stored; also where its rd is x0.
+    ScStored,
+    /// A step that retired an SC, which failed.
+    ScFailed,
+    Trap(Trap),
+}
+
+impl fmt::Display for Outcome {
+    fn fmt(&self, f: &mut fmt::Formatter) -> fmt::Result {
+        match self {
+            Outcome::Retired => f.write_str("retired"),
+            Outcome::ScStored => f.write_str("sc stored"),
+            Outcome::ScFailed => f.write_str("sc failed"),
+            Outcome::Trap(trap) => trap.fmt(f),
+        }
+    }
+}
+
+/// What the checker says of a block of words.
+#[must_use]
+#[derive(Clone, Copy, Debug, PartialEq, Eq)]
+pub enum Verdict {
+    Accepted,
+    /// The lowest place that has a reason, counted in words from 0, and the lowest reason there.
+    Rejected {
+        place: usize,
+        reason: Reason,
+    },
+}

@@ -1,0 +1,149 @@
+//! The library's functions over a state and a memory that the caller keeps, over a case file and over a block of words.
+
+use crate::raw::*;
+use crate::{Cause, Event, Outcome, Reason, Refusal, RefusedAt, State, Trap, Verdict, STATE_SIZE};
+
+/// The room that a report needs, in bytes.
+pub const REPORT_ROOM: usize = 262_144;
+
+const BAD_SIZE: u64 = u64::MAX;
+const TRAP: u64 = 256;
+const REFUSED: u64 = 512;
+
+fn refusal(number: u64) -> Refusal {
+    Refusal::of(number).expect("refusals are 1 to 11")
+}
+
+/// All that the program `floecavern` writes for the bytes of a case file, whatever they are: of a file that is no case,
+/// its one line `refused NUMBER PLACE`.
+#[must_use]
+pub fn report_text(file: &[u8]) -> String {
+    let mut out = vec![0; REPORT_ROOM];
+    // SAFETY: both pointers come from slices of these lengths that do not overlap.
+    let n = unsafe { floecavern_report(file.as_ptr(), file.len(), out.as_mut_ptr(), out.len()) };
+    out.truncate(n as usize);
+    out.shrink_to_fit();
+    String::from_utf8(out).expect("lines are ASCII")
+}
+
+/// The lines of a case file, or its refusal, 7 to 11.
+///
+/// ```
+/// use floecavern::{report, Refusal, RefusedAt};
+/// assert_eq!(report(&[0; 40]), Err(RefusedAt { refusal: Refusal::Table, place: 0 }));
+/// let lines = report(include_bytes!("../../crates/floecavern/stdin"))?;
+/// assert!(lines.starts_with("case 2 harts 128 bytes 5 events\n0 h0 ok\n"));
+/// # Ok::<(), RefusedAt>(())
+/// ```
+pub fn report(file: &[u8]) -> Result<String, RefusedAt> {
+    let text = report_text(file);
+    let Some(numbers) = text.strip_prefix("refused ") else {
+        return Ok(text);
+    };
+    let (number, place) = numbers.trim_end().split_once(' ').expect("a number and a place");
+    let number = number.parse().expect("a decimal number");
+    Err(RefusedAt { refusal: refusal(number), place: place.parse().expect("a decimal number") })
+}
+
+/// Whether a block of instruction words is a retry loop that is accepted. Refused by 6 if it has fewer than 2 or more
+/// than 16 words.
+///
+/// ```
+/// use floecavern::{check_loop, Reason, Refusal, Verdict};
+/// let block = [0x1002_a32f, 0x0003_1663, 0x1882_a3af, 0xfe03_9ae3];
+/// assert_eq!(check_loop(&block), Ok(Verdict::Accepted));
+/// assert_eq!(check_loop(&block[..2]), Ok(Verdict::Rejected { place: 2, reason: Reason::NoSc }));
+/// assert_eq!(check_loop(&[]), Err(Refusal::Block));
+/// ```
+pub fn check_loop(words: &[u32]) -> Result<Verdict, Refusal> {
+    // A block of 17 or more words is refused whatever the words are, so that 17 of them say it.
+    let bytes: Vec<u8> = words.iter().take(17).flat_map(|w| w.to_le_bytes()).collect();
+    // SAFETY: the pointer comes from a slice of this length.
+    match unsafe { floecavern_check_loop(bytes.as_ptr(), bytes.len()) } {
+        0 => Ok(Verdict::Accepted),
+        6 => Err(Refusal::Block),
+        BAD_SIZE => unreachable!("the length is a multiple of 4"),
+        r => {
+            let reason = Reason::of(r % 256).expect("reasons are 1 to 6");
+            Ok(Verdict::Rejected { place: (r / 256 - 1) as usize, reason })
+        }
+    }
+}
+
+/// The answer of a call that lends `value`, which is 8 bytes.
+fn outcome(call: impl FnOnce(*mut u8, usize) -> u64) -> Result<Outcome, Refusal> {
+    let mut value = [0; 8];
+    match call(value.as_mut_ptr(), value.len()) {
+        0 => Ok(Outcome::Retired),
+        1 => Ok(Outcome::ScStored),
+        2 => Ok(Outcome::ScFailed),
+        BAD_SIZE => unreachable!("the sizes are right by type"),
+        r if r < REFUSED => {
+            let cause = Cause::of(r - TRAP).expect("causes are 0 to 8");
+            Ok(Outcome::Trap(Trap { cause, value: u64::from_le_bytes(value) }))
+        }
+        r => Err(refusal(r - REFUSED)),
+    }
+}
+
+/// A step of a hart on the memory at `base`: fetches the word at its pc and performs it. Refusals 1 to 3.
+pub fn step(state: &mut State, base: u64, mem: &mut [u8], hart: usize) -> Result<Outcome, Refusal> {
+    // SAFETY: the pointers come from a state of this size and from slices of these lengths; none overlap. Any bytes that
+    // are written are a state, since all its fields are numbers.
+    outcome(|value, len| unsafe {
+        floecavern_step(state.pointer(), STATE_SIZE, base, mem.as_mut_ptr(), mem.len(), hart, value, len)
+    })
+}
+
+/// A device writes the `size` lowest bytes of `data` at `addr`, the lowest first. Refusals 1, 2, 4 and 5.
+pub fn device_write(
+    state: &mut State,
+    base: u64,
+    mem: &mut [u8],
+    addr: u64,
+    size: usize,
+    data: u64,
+) -> Result<Outcome, Refusal> {
+    let (mem, mem_len) = (mem.as_mut_ptr(), mem.len());
+    // SAFETY: as in `step`.
+    outcome(|value, len| unsafe {
+        floecavern_device_write(state.pointer(), STATE_SIZE, base, mem, mem_len, addr, size, data, value, len)
+    })
+}
+
+/// A yield: drops a hart's reservation. Refusals 1 to 3.
+pub fn yield_hart(state: &mut State, base: u64, mem: &mut [u8], hart: usize) -> Result<Outcome, Refusal> {
+    // SAFETY: as in `step`.
+    outcome(|value, len| unsafe {
+        floecavern_yield(state.pointer(), STATE_SIZE, base, mem.as_mut_ptr(), mem.len(), hart, value, len)
+    })
+}
+
+/// A run of the first `budget` events, or of all if there are fewer: how many that were. Traps don't stop it. Refusals 1, 2
+/// and 11.
+pub fn run(state: &mut State, base: u64, mem: &mut [u8], events: &[Event], budget: usize) -> Result<usize, RefusedAt> {
+    let bytes: Vec<u8> = events.iter().flat_map(|e| e.to_bytes()).collect();
+    run_bytes(state, base, mem, &bytes, budget)
+}
+
+/// The same of events that are bytes already, 24 for each, such as a case file's.
+pub fn run_bytes(
+    state: &mut State,
+    base: u64,
+    mem: &mut [u8],
+    events: &[u8],
+    budget: usize,
+) -> Result<usize, RefusedAt> {
+    let mut ran = [0; 16];
+    let (mem, mem_len) = (mem.as_mut_ptr(), mem.len());
+    let (body, len, told, told_len) = (events.as_ptr(), events.len(), ran.as_mut_ptr(), ran.len());
+    // SAFETY: as in `step`.
+    let r =
+        unsafe { floecavern_run(state.pointer(), STATE_SIZE, base, mem, mem_len, body, len, budget, told, told_len) };
+    let number = |at: usize| u64::from_le_bytes(std::array::from_fn(|i| ran[at + i])) as usize;
+    match r {
+        0 => Ok(number(0)),
+        BAD_SIZE => unreachable!("the sizes are right by type"),
+        r => Err(RefusedAt { refusal: refusal(r - REFUSED), place: number(8) }),
+    }
+}

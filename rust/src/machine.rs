@@ -1,0 +1,108 @@
+//! A machine that owns its state and its memory.
+
+use crate::{calls, Event, Outcome, Refusal, RefusedAt, State, MAX_HARTS};
+
+/// The longest memory that a machine can have, in bytes.
+pub const MAX_MEMORY: usize = 1_048_576;
+
+/// A state and the memory at `base`. All of it may be read and written between calls: what the model doesn't take is refused
+/// by the next call.
+#[derive(Clone, Debug, PartialEq, Eq)]
+pub struct Machine {
+    pub state: State,
+    pub base: u64,
+    pub mem: Vec<u8>,
+}
+
+impl Machine {
+    /// `harts` harts with their pc at `base`, registers 0 and no reservations; `len` bytes of memory, all 0. Refusals 1
+    /// and 2.
+    ///
+    /// ```
+    /// use floecavern::{Machine, Refusal};
+    /// assert!(Machine::new(8, 0x8000_0000, 4096).is_ok());
+    /// assert_eq!(Machine::new(9, 0, 64), Err(Refusal::State));
+    /// assert_eq!(Machine::new(1, 0, 65), Err(Refusal::Memory));
+    /// ```
+    pub fn new(harts: u64, base: u64, len: usize) -> Result<Machine, Refusal> {
+        // Before so much is allocated.
+        if len > MAX_MEMORY {
+            return Err(Refusal::Memory);
+        }
+        let mut state = State::new(harts);
+        for pc in state.pc.iter_mut().take(harts.min(MAX_HARTS as u64) as usize) {
+            *pc = base;
+        }
+        Machine::from_parts(state, base, vec![0; len])
+    }
+
+    /// A machine of a state and a memory that are there already. Refusals 1 and 2.
+    pub fn from_parts(state: State, base: u64, mem: Vec<u8>) -> Result<Machine, Refusal> {
+        let mut machine = Machine { state, base, mem };
+        // A run of no events tries both refusals and changes nothing.
+        machine.run_bytes(&[], 0).map_err(|refused| refused.refusal)?;
+        Ok(machine)
+    }
+
+    /// Puts words into memory from `addr` on, 4 bytes each with the lowest first. This is no event: it breaks no
+    /// reservation. Refusal 5, and nothing is written, if they aren't wholly in memory.
+    pub fn put_words(&mut self, addr: u64, words: &[u32]) -> Result<(), Refusal> {
+        let place = addr.checked_sub(self.base).and_then(|offset| usize::try_from(offset).ok());
+        let room = place.and_then(|place| self.mem.get_mut(place..)?.get_mut(..words.len().checked_mul(4)?));
+        for (place, word) in room.ok_or(Refusal::DeviceAddress)?.chunks_exact_mut(4).zip(words) {
+            place.copy_from_slice(&word.to_le_bytes());
+        }
+        Ok(())
+    }
+
+    /// The `len` bytes from `addr` on, if they are wholly in memory.
+    pub fn bytes(&self, addr: u64, len: usize) -> Option<&[u8]> {
+        let place = usize::try_from(addr.checked_sub(self.base)?).ok()?;
+        self.mem.get(place..)?.get(..len)
+    }
+
+    /// A step of a hart: fetches the word at its pc and performs it. Refusals 1 to 3.
+    pub fn step(&mut self, hart: usize) -> Result<Outcome, Refusal> {
+        calls::step(&mut self.state, self.base, &mut self.mem, hart)
+    }
+
+    /// A device writes the `size` lowest bytes of `data` at `addr`, the lowest first. Refusals 1, 2, 4 and 5.
+    pub fn device_write(&mut self, addr: u64, size: usize, data: u64) -> Result<Outcome, Refusal> {
+        calls::device_write(&mut self.state, self.base, &mut self.mem, addr, size, data)
+    }
+
+    /// A yield: drops a hart's reservation. Refusals 1 to 3.
+    pub fn yield_hart(&mut self, hart: usize) -> Result<Outcome, Refusal> {
+        calls::yield_hart(&mut self.state, self.base, &mut self.mem, hart)
+    }
+
+    /// An event by itself.
+    pub fn perform(&mut self, event: Event) -> Result<Outcome, Refusal> {
+        match event {
+            Event::Step { hart } => self.step(hart.into()),
+            Event::DeviceWrite { addr, size, data } => self.device_write(addr, size.into(), data),
+            Event::Yield { hart } => self.yield_hart(hart.into()),
+        }
+    }
+
+    /// A run of the first `budget` events, or of all if there are fewer: how many that were. Traps don't stop it. Refusals
+    /// 1, 2 and 11.
+    ///
+    /// ```
+    /// use floecavern::{Event, Machine, Refusal, RefusedAt};
+    /// let mut machine = Machine::new(1, 0, 64)?;
+    /// let events = [Event::Yield { hart: 0 }, Event::Step { hart: 1 }];
+    /// let refused = RefusedAt { refusal: Refusal::Events, place: 24 };
+    /// assert_eq!(machine.run(&events, usize::MAX), Err(refused));
+    /// assert_eq!(machine.run(&events[..1], usize::MAX), Ok(1));
+    /// # Ok::<(), Refusal>(())
+    /// ```
+    pub fn run(&mut self, events: &[Event], budget: usize) -> Result<usize, RefusedAt> {
+        calls::run(&mut self.state, self.base, &mut self.mem, events, budget)
+    }
+
+    /// The same of events that are bytes already, 24 for each, such as a case file's.
+    pub fn run_bytes(&mut self, events: &[u8], budget: usize) -> Result<usize, RefusedAt> {
+        calls::run_bytes(&mut self.state, self.base, &mut self.mem, events, budget)
+    }
+}

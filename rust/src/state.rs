@@ -1,0 +1,117 @@
+//! The state of the machine, laid out as the header's `floecavern_state`.
+
+use std::array::from_fn;
+
+/// How many harts a state has places for.
+pub const MAX_HARTS: usize = 8;
+
+/// The bytes of a state.
+pub const STATE_SIZE: usize = 2312;
+
+/// What an LR made: the `width` bytes, 4 or 8, at `addr`.
+#[derive(Clone, Copy, Debug, PartialEq, Eq)]
+pub struct Reservation {
+    pub addr: u64,
+    pub width: u64,
+}
+
+/// A reservation as the library keeps it: `held` is 0 for none, and the others mean nothing then.
+#[repr(C)]
+#[derive(Clone, Copy, Debug, Default)]
+struct Slot {
+    held: u64,
+    addr: u64,
+    width: u64,
+}
+
+/// The state: of harts 0 to `count - 1`, 1 to 8 of them, the registers `x[hart][register]`, the pc and the reservation.
+///
+/// Two states are equal if all of this is, of unused harts too. How a reservation is written down in bytes doesn't count.
+///
+/// ```
+/// use floecavern::{Reservation, State};
+/// let mut state = State::new(2);
+/// state.set_reservation(1, Some(Reservation { addr: 64, width: 8 }));
+/// assert_eq!(State::from_bytes(&state.to_bytes()), state);
+/// assert_eq!(state.reservation(0), None);
+/// ```
+#[repr(C)]
+#[derive(Clone, Copy, Debug, Default)]
+pub struct State {
+    pub count: u64,
+    pub x: [[u64; 32]; MAX_HARTS],
+    pub pc: [u64; MAX_HARTS],
+    slots: [Slot; MAX_HARTS],
+}
+
+const _: () = assert!(std::mem::size_of::<State>() == STATE_SIZE);
+const _: () = assert!(std::mem::offset_of!(State, x) == 8);
+const _: () = assert!(std::mem::offset_of!(State, pc) == 2056);
+const _: () = assert!(std::mem::offset_of!(State, slots) == 2120);
+const _: () = assert!(cfg!(all(target_arch = "x86_64", target_os = "linux")), "libcapi.a is for x86-64 Linux");
+
+impl State {
+    /// `count` harts, all registers and pcs 0, no reservations. A count that isn't 1 to 8 is refused by 2 when it is used.
+    pub fn new(count: u64) -> State {
+        State { count, ..State::default() }
+    }
+
+    /// The reservation that a hart holds.
+    ///
+    /// # Panics
+    ///
+    /// If `hart` isn't below [`MAX_HARTS`], as `x[hart]` does.
+    pub fn reservation(&self, hart: usize) -> Option<Reservation> {
+        let slot = self.slots[hart];
+        (slot.held != 0).then_some(Reservation { addr: slot.addr, width: slot.width })
+    }
+
+    /// Gives a hart a reservation, or none.
+    ///
+    /// # Panics
+    ///
+    /// If `hart` isn't below [`MAX_HARTS`].
+    pub fn set_reservation(&mut self, hart: usize, reservation: Option<Reservation>) {
+        self.slots[hart] = reservation.map_or(Slot::default(), |r| Slot { held: 1, addr: r.addr, width: r.width });
+    }
+
+    /// Its bytes, as the header says: every number 8 bytes, the lowest first.
+    pub fn to_bytes(&self) -> [u8; STATE_SIZE] {
+        let slots = self.slots.iter().flat_map(|s| [s.held, s.addr, s.width]);
+        let numbers = std::iter::once(self.count).chain(self.x.into_iter().flatten()).chain(self.pc).chain(slots);
+        let mut bytes = [0; STATE_SIZE];
+        for (place, number) in bytes.chunks_exact_mut(8).zip(numbers) {
+            place.copy_from_slice(&number.to_le_bytes());
+        }
+        bytes
+    }
+
+    /// The state that has these bytes: any bytes are one.
+    pub fn from_bytes(bytes: &[u8; STATE_SIZE]) -> State {
+        let number = |at: usize| u64::from_le_bytes(from_fn(|i| bytes[at + i]));
+        let slot = |at: usize| Slot { held: number(at), addr: number(at + 8), width: number(at + 16) };
+        State {
+            count: number(0),
+            x: from_fn(|h| from_fn(|r| number(8 + 8 * (32 * h + r)))),
+            pc: from_fn(|h| number(2056 + 8 * h)),
+            slots: from_fn(|h| slot(2120 + 24 * h)),
+        }
+    }
+
+    /// Where its bytes are.
+    pub(crate) fn pointer(&mut self) -> *mut u8 {
+        self as *mut State as *mut u8
+    }
+}
+
+impl PartialEq for State {
+    fn eq(&self, other: &State) -> bool {
+        let reservations = |s: &State| -> [Option<Reservation>; MAX_HARTS] { from_fn(|h| s.reservation(h)) };
+        self.count == other.count
+            && self.x == other.x
+            && self.pc == other.pc
+            && reservations(self) == reservations(other)
+    }
+}
+
+impl Eq for State {}

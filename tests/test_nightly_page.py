@@ -1,0 +1,137 @@
+"""tools/nightly: what its page, its counts and its JUnit file say."""
+import json
+import os
+import shutil
+import time
+import unittest
+import xml.etree.ElementTree as xml
+
+from common import EXAMPLE, EXAMPLE_LINES, data
+from test_nightly import NightlyCase
+
+
+class Page(NightlyCase):
+    def setUp(self):
+        super().setUp()
+        self.page, self.counts = os.path.join(self.top, 'page'), os.path.join(self.top, 'counts.json')
+
+    def add(self, name, lines=EXAMPLE_LINES):
+        """One more case: the example with other bytes behind its events, so that the program tells it apart."""
+        path = os.path.join(self.folder, name)
+        os.makedirs(os.path.dirname(path), exist_ok=True)
+        case = bytearray(data(EXAMPLE))
+        case[600] = sum(os.fsencode(name)) % 251 + 1
+        with open(path + '.case', 'wb') as file:
+            file.write(case)
+        shutil.copy(lines, path + '.out')
+
+    def test_title_and_verdict(self):
+        _, page, _ = self.night('--night', 'blue')
+        self.assertEqual(page[0], 'Floecavern nightly, %s, night blue' % time.strftime('%Y-%m-%d'))
+        self.assertEqual(page[2], 'complete: 6 files, 25 events each with its line')
+        self.night('--night', 'blue', '--out', self.page)
+        text = data(self.page + '.html').decode()
+        self.assertIn('<title>%s: complete</title>' % page[0], text)
+        self.assertIn('prefers-color-scheme: dark', text)
+
+    def test_banner_and_groups(self):
+        self.add('deep/a')
+        self.add('deep/b')
+        self.add('deep/c')
+        edit = "out = out.replace(b'sc 0', b'sc 1')\nif name in ('a.case', 'b.case'): sys.exit(3)\nif name == 'c.case': out = out[:-1]"
+        _, page, _ = self.night('--expect', edit=edit)
+        self.assertEqual(page[2], 'not complete: 2 missing, 1 wrong, 1 different; 9 files, 25 events')
+        self.assertEqual(page[4:8], ['Missing: 2', '  2: the program ended with status 3', '      deep/a.case', '      deep/b.case'])
+        self.assertEqual(page[9:12], ['Wrong: 1', '  1: the last line has no line feed', '      deep/c.case'])
+
+    def test_refused_files_are_named(self):
+        page = '\n'.join(self.night()[1])
+        self.assertRegex(page, r'(?m)^ +10 +312  length of the memory  deep/refuse_10_1\.case$')
+        self.night('--out', self.page)
+        self.assertIn('<a href="cases/deep/refuse_10_1.case">', data(self.page + '.html').decode())
+
+    def test_other_files_are_counted(self):
+        for name in ('a.CASE', 'deep/b.case.gz', 'c.out'):
+            shutil.copy(EXAMPLE, os.path.join(self.folder, name))
+        page = '\n'.join(self.night()[1])
+        self.assertRegex(page, r'(?m)^ +3  other files, not run$')
+        self.assertIn('not run  a.CASE, c.out, deep/b.case.gz', page)
+
+    def test_by_folder(self):
+        page = '\n'.join(self.night(edit='sys.exit(3)')[1])
+        self.assertRegex(page, r'(?m)^ +5 +20  deep$')
+        self.assertRegex(page, r'(?m)^ +1 +0  deep/er  1 missing$')
+
+    def test_files_that_appear_vanish_or_change(self):
+        example, trap = os.path.join(self.folder, 'deep', 'er', 'example'), os.path.join(self.folder, 'deep', 'trap_8.case')
+        edit = "open(%r, 'wb').write(data); open(%r, 'wb').write(out); os.remove(%r)" % (example + '2.case', example + '2.out', trap)
+        page = '\n'.join(self.night('--jobs', '1', edit=edit)[1])
+        self.assertIn('appeared during the run, and was not run\n      deep/er/example2.case', page)
+        self.assertIn('vanished during the run\n      deep/trap_8.case', page)
+        page = '\n'.join(self.night('--jobs', '1', edit="open(%r, 'ab').write(b'x')" % (example + '.case'))[1])
+        self.assertIn('was changed during the run\n      deep/er/example.case', page)
+
+    def test_a_program_that_is_replaced_or_gone(self):
+        program = os.path.join(self.top, 'program')
+        for edit in ("open(%r, 'a').write('#')", 'os.remove(%r)'):
+            self.assertIn('the program was replaced during the run', '\n'.join(self.night('--jobs', '1', edit=edit % program)[1]))
+
+    # against an earlier night, and again
+
+    def test_since(self):
+        self.add('deep/old')
+        self.night('--counts', self.counts, '--night', 'first', edit='sys.exit(3)')
+        os.remove(os.path.join(self.folder, 'deep', 'old.case'))
+        self.add('deep/new')
+        page = '\n'.join(self.night('--since', self.counts, edit="pass\nif name == 'trap_8.case': sys.exit(4)")[1])
+        for lines in (', night first\n', '  1 fail now, and did not\n      deep/trap_8.case\n', '  1 fail no more\n      deep/er/example.case\n',
+                      '  1 new, and right\n      deep/new.case\n', '  1 gone\n      deep/old.case\n'):
+            self.assertIn(lines, page)
+        self.night('--part', '1/2', '--counts', self.counts)
+        self.assertIn('only of a part of a night', self.night('--since', self.counts)[2])
+        self.assertIn('No such file', self.night('--since', '/nowhere')[2])
+
+    def test_since_nothing(self):
+        self.night('--counts', self.counts)
+        self.assertIn('  nothing is new and nothing is gone', self.night('--since', self.counts)[1])
+
+    def test_only_what_failed(self):
+        self.night('--counts', self.counts, edit="sys.exit(3)\nif name == 'trap_8.case': sys.exit(4)")
+        status, page, _ = self.night('--only', self.counts, edit="pass\nif name == 'trap_8.case': sys.exit(4)")
+        self.assertEqual(status, 1)
+        self.assertIn('only 2 of 6 files, run again', page[0])
+        self.assertEqual(page[2], 'not complete: 1 missing; only 2 of 6 files, 5 events')
+        self.assertIn('  1 fail no more', page)
+        self.assertIn('  1 fail still', page)
+        self.assertNotIn('gone', '\n'.join(page))
+        again = os.path.join(self.top, 'again')
+        self.assertEqual(self.night('--only', self.counts, '--counts', again)[0], 0)
+        self.assertIn('no case failed there', self.night('--only', again)[2])
+
+    # for machines
+
+    def test_json_of_every_case(self):
+        self.night('--counts', self.counts, edit="out = out[:-1]")
+        record = json.loads(data(self.counts))
+        rows = {row['name']: row for row in record['cases']}
+        self.assertEqual(len(rows), 6)
+        self.assertEqual((rows['deep/er/example.case']['outcome'], rows['deep/refuse_10_1.case']['refusal']), ('wrong', '10 312'))
+        self.assertEqual(record['counts']['events'], sum(row['counts'].get('events', 0) for row in rows.values()))
+
+    def test_junit(self):
+        file = os.path.join(self.top, 'junit.xml')
+        self.add('\x01<&"-->\udcff')
+        os.remove(os.path.join(self.folder, '\x01<&"-->\udcff.out'))
+        self.night('--junit', file, '--expect', '--night', 'a---b', edit="out = out.replace(b'sc 0', b'sc 1')")
+        top = xml.parse(file).getroot()
+        self.assertEqual((top.get('tests'), len(top.findall('.//testcase'))), ('7', 7))
+        self.assertEqual((top.get('failures'), len(top.findall('.//failure'))), ('1', 1))
+        self.assertEqual((top.get('errors'), len(top.findall('.//error'))), ('1', 1))
+        self.assertEqual(top.find('.//failure').get('type'), 'different')
+        os.remove(os.path.join(self.folder, 'deep', 'trap_8.case'))
+        self.night('--junit', file, '--expect')
+        self.assertIsNotNone(xml.parse(file).getroot().find("testsuite[@name='the night']/testcase/error"))
+
+
+if __name__ == '__main__':
+    unittest.main()

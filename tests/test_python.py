@@ -1,0 +1,314 @@
+"""python/floecavern.py over a shared object of the static library, which is made by the command that the documents give."""
+import copy
+import os
+import pickle
+import re
+import shutil
+import subprocess
+import sys
+import tempfile
+import textwrap
+import unittest
+from array import array
+
+from common import EXAMPLE, EXAMPLE_LINES, ROOT, data, vector_pairs
+
+sys.path.insert(0, os.path.join(ROOT, 'python'))
+import floecavern
+from floecavern import (RETIRED, SC_FAILED, SC_STORED, Cause, Event, Machine, Reason, Refusal, Refused, Reservation, State, Verdict, check_loop,
+                        device_write, report, report_text, run, run_bytes, step, trap, yield_hart)
+
+LIBRARY = os.path.join(ROOT, 'target', 'staticlib', 'libcapi.a')
+LR, SC = 0x1002a32f, 0x1882a3af  # lr.w x6,(x5); sc.w x7,x8,(x5)
+LOOP = [0x1002a32f, 0x00031663, 0x1882a3af, 0xfe039ae3]
+
+
+def setUpModule():
+    """The documented command, but for where the shared object goes."""
+    if not (shutil.which('cc') and os.path.exists(LIBRARY)):
+        raise unittest.SkipTest('no shared object for python/: no C compiler, or target/staticlib/libcapi.a is not built')
+    folder = tempfile.mkdtemp()
+    unittest.addModuleCleanup(shutil.rmtree, folder)
+    made = os.path.join(folder, 'libfloecavern.so')
+    subprocess.run(floecavern.BUILD.replace('target/libfloecavern.so', made), shell=True, cwd=ROOT, check=True)
+    os.environ['FLOECAVERN_SO'] = made
+    unittest.addModuleCleanup(os.environ.pop, 'FLOECAVERN_SO')
+
+
+def machine(harts=2, base=0, words=(LR, SC), length=256):
+    """Harts at pc `base`, x5 = `base + 64` in each, with the words at `base`."""
+    made = Machine(harts, base, length)
+    made.put_words(base, words)
+    for hart in range(harts):
+        made.state.x[hart][5] = base + 64
+    return made
+
+
+class Refuses(unittest.TestCase):
+    def refuses(self, refusal, call, *arguments, place=None):
+        with self.assertRaises(Refused) as caught:
+            call(*arguments)
+        self.assertEqual((caught.exception.refusal, caught.exception.place), (refusal, place))
+
+    def refuses_unchanged(self, refusal, of, call, *arguments, place=None):
+        state, mem = of.state.to_bytes(), bytes(of.mem)
+        self.refuses(refusal, call, of.state, of.base, of.mem, *arguments, place=place)
+        self.assertEqual((of.state.to_bytes(), bytes(of.mem)), (state, mem))
+
+
+class Calls(Refuses):
+    def test_example(self):
+        m = machine()
+        m.state.x[1][8] = 0x123456789abcdef0
+        self.assertEqual(m.step(0), RETIRED)
+        self.assertEqual(m.state.reservation(0), Reservation(64, 4))
+        self.assertEqual(m.device_write(72, 1, 0xff), RETIRED)
+        self.assertEqual([m.step(1), m.step(1), m.step(0)], [RETIRED, SC_STORED, SC_FAILED])
+        self.assertEqual((m.bytes(64, 4), m.bytes(72, 1)), (b'\xf0\xde\xbc\x9a', b'\xff'))
+        self.assertEqual((m.state.x[0][7], m.state.x[1][7], list(m.state.pc[:2])), (1, 0, [8, 8]))
+        self.assertEqual([m.state.reservation(h) for h in range(8)], [None] * 8)
+
+    def test_traps(self):
+        m = machine(1, 4096, [LR, 0x73, 0x100073, 0x12345678, 0x0020006f, 0x0002a023, 0x0082a3af])
+        for pc, x5, cause, value in [(4100, 0, Cause.ENVIRONMENT_CALL, 0), (4104, 0, Cause.BREAKPOINT, 0), (4108, 0, Cause.ILLEGAL_INSTRUCTION, 0x12345678),
+                                     (4112, 0, Cause.INSTRUCTION_ADDRESS_MISALIGNED, 4114), (8192, 0, Cause.INSTRUCTION_ACCESS_FAULT, 8192),
+                                     (4096, 4097, Cause.LOAD_ADDRESS_MISALIGNED, 4097), (4096, 2**64 - 4, Cause.LOAD_ACCESS_FAULT, 2**64 - 4),
+                                     (4116, 4098, Cause.STORE_ADDRESS_MISALIGNED, 4098), (4120, 4352, Cause.STORE_ACCESS_FAULT, 4352)]:
+            m.state.pc[0], m.state.x[0][5] = pc, x5
+            before = copy.deepcopy(m)
+            self.assertEqual(m.step(0), trap(cause, value))
+            self.assertEqual(m, before)
+        self.assertEqual(str(m.step(0)), 'trap 7 0000000000001100: store/AMO access fault')
+
+    def test_refusals(self):
+        m = machine()
+        for base, mem in [(1, m.mem), (2**41, m.mem), (0, bytearray()), (0, bytearray(63)), (0, bytearray(2**20 + 64))]:
+            bad = machine()
+            bad.base, bad.mem = base, mem
+            self.refuses_unchanged(Refusal.MEMORY, bad, step, 0)
+            self.refuses_unchanged(Refusal.MEMORY, bad, yield_hart, 9)
+            self.refuses_unchanged(Refusal.MEMORY, bad, device_write, 0, 0, 0)
+            self.refuses_unchanged(Refusal.MEMORY, bad, run, [], place=0)
+        for field, value in [('count', 0), ('count', 9), ('count', 2**64 - 1)]:
+            bad = machine()
+            setattr(bad.state, field, value)
+            self.refuses_unchanged(Refusal.STATE, bad, step, 0)
+            self.refuses_unchanged(Refusal.STATE, bad, run, [], place=0)
+        bad = machine()
+        bad.state.set_reservation(1, Reservation(64, 16))
+        self.refuses_unchanged(Refusal.STATE, bad, step, 0)
+        for hart in [2, 8, 2**64 - 1]:
+            self.refuses_unchanged(Refusal.HART, m, step, hart)
+            self.refuses_unchanged(Refusal.HART, m, yield_hart, hart)
+        for size in [0, 9, 2**64 - 1]:
+            self.refuses_unchanged(Refusal.DEVICE_SIZE, m, device_write, 64, size, 0)
+        for addr, size in [(256, 1), (249, 8), (2**64 - 1, 8)]:
+            self.refuses_unchanged(Refusal.DEVICE_ADDRESS, m, device_write, addr, size, 0)
+
+    def test_runs(self):
+        m = machine()
+        events = [Event.step(0), Event.device_write(72, 1, 0xfff), Event.step(1), Event.step(1), Event.step(0)]
+        for n in range(6):
+            one_by_one, at_once = machine(), machine()
+            for event in events[:n]:
+                one_by_one.perform(event)
+            self.assertEqual(at_once.run(iter(events), n), n)
+            self.assertEqual(at_once, one_by_one)
+        self.assertEqual((m.run(events), m.run([]), m.run_bytes(b''.join(e.to_bytes() for e in events), 2**64 - 1)), (5, 0, 5))
+        for bad in [Event.step(2), Event.yield_hart(255), Event.device_write(64, 0, 9), Event.device_write(64, 9, 0), Event.device_write(249, 8, 0)]:
+            self.refuses_unchanged(Refusal.EVENTS, m, run, events + [bad] + events, 1, place=120)
+        self.refuses_unchanged(Refusal.EVENTS, m, run_bytes, bytes(23), place=0)
+
+    def test_loops(self):
+        self.assertEqual(check_loop(LOOP), Verdict(True))
+        self.assertEqual(check_loop(LOOP[:2]), Verdict(False, 2, Reason.NO_SC))
+        self.assertEqual(check_loop(iter(LOOP[1:])), Verdict(False, 0, Reason.NO_LR))
+        for block in [[], LOOP[:1], [LR] * 17, [LR] * 100]:
+            self.refuses(Refusal.BLOCK, check_loop, block)
+
+    def test_report(self):
+        self.assertEqual(report(data(EXAMPLE)), data(EXAMPLE_LINES).decode())
+        self.refuses(Refusal.FILE_LENGTH, report, b'', place=0)
+        self.refuses(Refusal.TABLE, report, bytearray(40), place=0)
+        self.assertEqual(report_text(bytes(65537)), 'refused 7 0\n')
+
+    def test_machines(self):
+        for harts, base, length, refusal in [(0, 0, 64, Refusal.STATE), (9, 0, 64, Refusal.STATE), (1, 32, 64, Refusal.MEMORY), (1, 0, 0, Refusal.MEMORY),
+                                             (1, 0, 2**20 + 64, Refusal.MEMORY), (1, 0, 2**64 - 1, Refusal.MEMORY)]:
+            self.refuses(refusal, Machine, harts, base, length)
+        self.refuses(Refusal.STATE, Machine.from_parts, State(0), 0, bytearray(64))
+        m = machine(1, 4096)
+        before = copy.deepcopy(m)
+        for addr in [0, 4092, 4349, 4352, 2**64 - 1]:
+            self.refuses(Refusal.DEVICE_ADDRESS, m.put_words, addr, [SC])
+            self.assertIsNone(m.bytes(addr, 4))
+        m.put_words(4352, [])
+        self.assertEqual((m, m.bytes(4352, 0), m.bytes(4096, 2**64 - 1)), (before, b'', None))
+        of_words = Machine.from_parts(State(1), 0, array('Q', [0x73] * 8))
+        self.assertEqual(of_words.step(0), trap(8, 0))
+
+    def test_outside_cases(self):
+        """What the calls answer, event by event, is what the lines of every outside case say; and a run does the same."""
+        cases = events = 0
+        for name, file, expected in vector_pairs():
+            self.assertEqual(report_text(file).encode(), expected, name)
+            if expected.startswith(b'refused'):
+                continue
+            start, body = read(file)
+            one_by_one, lines = copy.deepcopy(start), []
+            for n in range(0, len(body), 24):
+                lines.append(line(one_by_one, n // 24, body[n:n + 24]))
+            self.assertEqual(lines, expected.decode().splitlines()[1:-1], name)
+            self.assertEqual((start.run_bytes(body), start), (len(body) // 24, one_by_one), name)
+            cases, events = cases + 1, events + len(body) // 24
+        self.assertEqual((cases, events), (655, 53_369))
+
+
+def number(bytes_):
+    return int.from_bytes(bytes_, 'little')
+
+
+def read(file):
+    """The machine and the events body of a case file that isn't refused."""
+    mem, events = number(file[20:24]), number(file[32:36])
+    state = State(number(file[48:52]))
+    for hart in range(state.count):
+        at = 56 + 256 * hart
+        for r in range(1, 32):
+            state.x[hart][r] = number(file[at + 8 * (r - 1):at + 8 * r])
+        state.pc[hart] = number(file[at + 248:at + 256])
+    return Machine.from_parts(state, number(file[40:48]), bytearray(file[mem:events])), file[events:]
+
+
+def line(m, n, e):
+    """The line of an event, which is performed."""
+    if e[0] == 2:
+        m.device_write(number(e[8:16]), e[2], number(e[16:]))
+        return '%d d ok' % n
+    name, outcome = ('h', m.step(e[1])) if e[0] == 1 else ('y', m.yield_hart(e[1]))
+    said = {RETIRED: 'ok', SC_STORED: 'sc 0', SC_FAILED: 'sc 1'}.get(outcome)
+    return '%d %s%d %s' % (n, name, e[1], said or 'trap %d %016x' % (outcome.cause, outcome.value))
+
+
+class Values(Refuses):
+    """What isn't the model's at all is an error before the library is called."""
+
+    def unchanged(self, error, call, *arguments):
+        m = machine()
+        before = m.state.to_bytes(), bytes(m.mem)
+        self.assertRaises(error, call, m.state, m.base, m.mem, *arguments)
+        self.assertEqual((m.state.to_bytes(), bytes(m.mem)), before)
+
+    def test_numbers(self):
+        for error, bad in [(ValueError, -1), (ValueError, 2**64), (TypeError, 1.0), (TypeError, '1'), (TypeError, None)]:
+            self.unchanged(error, step, bad)
+            self.unchanged(error, yield_hart, bad)
+            self.unchanged(error, device_write, bad, 1, 0)
+            self.unchanged(error, device_write, 64, bad, 0)
+            self.unchanged(error, device_write, 64, 1, bad)
+            self.assertRaises(error, step, State(1), bad, bytearray(64), 0)
+            self.assertRaises(error, State, bad)
+            self.assertRaises(error, Machine, 1, bad, 64)
+            self.assertRaises(error, Machine, 1, 0, bad)
+            self.assertRaises(error, check_loop, [LR, bad])
+            for make in [Event.step, Event.yield_hart, lambda n: Event.device_write(n, 1, 0), lambda n: Event.device_write(64, 1, n)]:
+                self.assertRaises(error, make, bad)
+            state = State(1)
+            for assign in [lambda: state.x[0].__setitem__(5, bad), lambda: state.pc.__setitem__(0, bad), lambda: setattr(state, 'count', bad),
+                           lambda: state.set_reservation(0, (bad, 4)), lambda: state.set_reservation(0, (64, bad))]:
+                self.assertRaises(error, assign)
+            self.assertEqual(state, State(1))
+        for bad in [-1, 2**64, 1.5]:
+            self.unchanged((ValueError, TypeError), run_bytes, b'', bad)
+
+    def test_events(self):
+        for fields in [{'kind': 0}, {'kind': 4}, {'kind': 1, 'size': 1}, {'kind': 3, 'addr': 64}, {'kind': 2, 'hart': 1}, {'kind': 2, 'size': 1, 'data': 256},
+                       {'kind': 1, 'hart': 256}]:
+            self.assertRaises(ValueError, Event, **fields)
+        self.assertRaises(ValueError, Event.device_write, 64, 256, 0)
+        self.assertEqual(Event.device_write(0x1048, 3, 2**64 - 2).to_bytes(), bytes([2, 0, 3, 0, 0, 0, 0, 0, 0x48, 0x10, 0, 0, 0, 0, 0, 0, 0xfe, 0xff, 0xff, 0, 0, 0, 0, 0]))
+        for bad in [bytes(24), None, 1]:
+            self.unchanged(TypeError, run, [Event.step(0), bad])
+            self.assertRaises(TypeError, machine().perform, bad)
+
+    def test_buffers(self):
+        for mem in [bytes(64), 'x' * 64, 64, None, memoryview(bytes(64)), memoryview(bytearray(128))[::2]]:
+            self.assertRaises(TypeError, step, State(1), 0, mem, 0)
+        state = State(1)
+        self.assertRaises(ValueError, step, state, 0, state.x[0], 0)
+        self.assertRaises(TypeError, step, bytearray(2312), 0, bytearray(64), 0)
+        for bad in [24, 'text', None]:
+            self.assertRaises(TypeError, report, bad)
+            self.unchanged(TypeError, run_bytes, bad)
+        for bad in [bytes(8), bytearray(8), 'text', None, 5]:
+            self.assertRaises(TypeError, check_loop, bad)
+
+    def test_events_in_the_memory(self):
+        """A body that is part of the memory it runs on is read as it was."""
+        m = machine()
+        m.mem[128:152] = Event.device_write(128, 8, 2**64 - 1).to_bytes()
+        self.assertEqual(m.run_bytes(memoryview(m.mem)[128:152]), 1)
+        self.assertEqual(m.bytes(128, 9), b'\xff' * 8 + b'\x80')
+
+    def test_states(self):
+        given = bytes(i % 251 for i in range(2312))
+        state = State.from_bytes(given)
+        self.assertEqual(state.to_bytes(), given)
+        self.assertEqual((state.count, state.x[7][31], state.pc[7]), tuple(number(given[at:at + 8]) for at in [0, 2048, 2112]))
+        self.assertEqual(state.reservation(7), Reservation(number(given[2296:2304]), number(given[2304:])))
+        self.assertEqual(State.from_bytes(given[:2288] + bytes([given[2288] ^ 1]) + given[2289:]), state)
+        self.assertNotEqual(State.from_bytes(given[:-1] + b'\x01'), state)
+        self.assertEqual((pickle.loads(pickle.dumps(state)), copy.deepcopy(state)), (state, state))
+        state.set_reservation(7, None)
+        self.assertEqual(state.to_bytes()[2288:], bytes(24))
+        for bad in [given[:-1], given + b'\0', b'']:
+            self.assertRaises(ValueError, State.from_bytes, bad)
+        self.assertRaises(IndexError, state.reservation, 8)
+        self.assertRaises(AttributeError, setattr, state, 'pcs', 1)
+        self.assertRaises(AttributeError, setattr, state, 'pc', [0] * 8)
+
+    def test_memory_can_grow_after_a_refusal(self):
+        """Nothing of a refused call holds on to the memory."""
+        m = machine()
+        try:
+            m.step(9)
+        except Refused:
+            m.mem.extend(bytes(64))
+        self.assertEqual((len(m.mem), m.step(0)), (320, RETIRED))
+
+
+class Interface(unittest.TestCase):
+    def header(self):
+        return data(os.path.join(ROOT, 'include', 'floecavern.h')).decode()
+
+    def test_texts(self):
+        """The header has the same numbers, names and texts."""
+        for enum_, none in [(Cause, {}), (Refusal, {0: 'not refused'}), (Reason, {0: 'not rejected'})]:
+            name = enum_.__name__.lower()
+            body = re.search(r'floecavern_%s_text\(uint64_t.*?default:' % name, self.header(), re.S).group(0)
+            texts = {int(n): text for n, text in re.findall(r'case (\d+): return "(.*)";', body)}
+            self.assertEqual(texts, {**none, **{one.value: one.text for one in enum_}})
+            names = {n: int(v) for n, v in re.findall(r'FLOECAVERN_%s_(\w+) = (\d+)' % name.upper(), self.header())}
+            names.pop('NONE', None)
+            self.assertEqual(names, {one.name: one.value for one in enum_})
+        self.assertEqual(str(Refused(11, 96)), 'refusal 11 at 96: an event or the length of the events is wrong')
+        self.assertEqual(str(pickle.loads(pickle.dumps(Refused(3)))), 'refusal 3: the hart is not below the count')
+
+    def test_version_and_command(self):
+        self.assertIn('#define FLOECAVERN_VERSION "%s"\n' % floecavern.__version__, self.header())
+        for path in [os.path.join('docs', 'USING.md'), os.path.join('python', 'floecavern.py')]:
+            self.assertIn('    ' + floecavern.BUILD + '\n', data(os.path.join(ROOT, path)).decode())
+
+    def test_example_of_the_documents(self):
+        """What USING.md shows is what it prints."""
+        block = data(os.path.join(ROOT, 'docs', 'USING.md')).decode().split('    import floecavern\n', 1)[1]
+        code, printed = (textwrap.dedent(part) for part in block.split('\n\n', 3)[:3:2])
+        env = dict(os.environ, PYTHONPATH=os.path.join(ROOT, 'python'))
+        done = subprocess.run([sys.executable, '-c', 'import floecavern\n' + code], env=env, capture_output=True, text=True)
+        self.assertEqual((done.stdout, done.stderr), (printed + '\n', ''))
+
+    def test_missing(self):
+        env = dict(os.environ, FLOECAVERN_SO='/nowhere/libfloecavern.so', PYTHONPATH=os.path.join(ROOT, 'python'))
+        done = subprocess.run([sys.executable, '-c', 'import floecavern; floecavern.report(b"")'], env=env, capture_output=True, text=True)
+        self.assertEqual(done.returncode, 1)
+        self.assertIn('/nowhere/libfloecavern.so is missing. In the repository, after `rt staticlib capi`: ' + floecavern.BUILD, done.stderr)

@@ -1,0 +1,264 @@
+"""A folder of cases, the program's answer to each, and the record of a night. Used by tools/nightly.
+
+A record is what the page, the counts and the JUnit file are made of. It has one row for each case:
+  name, sha256 (of the bytes that were run), expected (the SHA-256 of its .out, with --expect), outcome, what (is missing or wrong), different (from
+  the .out), refusal (`NUMBER PLACE`), counts, seconds, kept (the path of its output, if it failed)
+and `beside`, what is missing of the folder, the program or the parts: [name, what].
+"""
+import hashlib
+import json
+import os
+import sys
+import time
+from collections import Counter, namedtuple
+from concurrent.futures import ThreadPoolExecutor
+from itertools import zip_longest
+
+from casefile import Refused, count, faults, read
+from nightlypage import seconds
+from nightlyrun import kill_all, run
+
+FORMAT = 'floecavern nightly counts 2'
+Found = namedtuple('Found', 'names outputs others unreadable')
+
+
+# ---- the folder
+
+def find(folder):
+    """What is below a folder: the cases by the order of their names, the expected outputs, all other files, and what can't be looked into.
+    Links to folders are followed, once each."""
+    files, unreadable, seen = [], [], set()
+
+    def note(error):
+        unreadable.append([os.path.relpath(error.filename, folder), 'the folder cannot be read: %s' % error.strerror])
+
+    for path, folders, here in os.walk(folder, onerror=note, followlinks=True):
+        real = os.path.realpath(path)
+        if real in seen:
+            folders.clear()
+            continue
+        seen.add(real)
+        folders.sort()
+        files += [os.path.normpath(os.path.join(os.path.relpath(path, folder), file)) for file in here]
+    names = {name for name in files if name.endswith('.case')}
+    outputs = {name for name in files if name.endswith('.out')}
+    others = set(files) - names - {name for name in outputs if name[:-4] + '.case' in names}
+    return Found(sorted(names), outputs, sorted(others), unreadable)
+
+
+def file_hash(path):
+    """The SHA-256 of a file; '' of one that can't be read."""
+    sha = hashlib.sha256()
+    try:
+        if not os.path.isfile(path):
+            return ''
+        with open(path, 'rb') as file:
+            for block in iter(lambda: file.read(1 << 20), b''):
+                sha.update(block)
+    except OSError:
+        return ''
+    return sha.hexdigest()
+
+
+def hash_of(values):
+    return hashlib.sha256('\0'.join(values).encode('utf-8', 'surrogateescape')).hexdigest()
+
+
+def contents(folder, names, expect):
+    """name: (the hash of the case, with --expect the hash of its expected output)."""
+    return {name: (file_hash(os.path.join(folder, name)), file_hash(os.path.join(folder, name[:-5] + '.out')) if expect else '') for name in names}
+
+
+def contents_hash(hashes):
+    return hash_of(text for name in sorted(hashes) for text in (name, *hashes[name]))
+
+
+# ---- one case
+
+def opened(file):
+    """An open file's case (None if it is none) and its refusal (None, or `NUMBER PLACE`)."""
+    try:
+        return read(file.read(65537)), None         # a longer file is refused for its length, whatever it holds
+    except Refused as refused:
+        return None, '%d %d' % (refused.number, refused.place)
+
+
+def judge(case, refusal, text):
+    """What is wrong with an answer."""
+    if case is None:
+        return [] if text == 'refused %s\n' % refusal else ['the answer is %r, not %r' % (text[:60], 'refused ' + refusal)]
+    if text.startswith('refused '):
+        return ['the answer is %r, but the file is a case of %d events' % (text[:60], len(case.events))]
+    return faults(case, text)
+
+
+def short(wrong):
+    return '; '.join(wrong[:3]) + ('; and %d more' % (len(wrong) - 3) if len(wrong) > 3 else '')
+
+
+def quoted(line):
+    return ascii(line.decode('ascii', 'backslashreplace')[:60])
+
+
+def first_difference(output, expected):
+    """The first line in which two texts differ; None if they don't. Either may end before the other, or without a line feed."""
+    if output == expected:
+        return None
+    got, wanted = (text.split(b'\n') for text in (output, expected))
+    ends = [lines[-1] == b'' for lines in (got, wanted)]
+    got, wanted = (lines[:-1] if end else lines for lines, end in zip((got, wanted), ends))
+    for line, (mine, other) in enumerate(zip_longest(got, wanted), 1):
+        if mine != other:
+            return 'line %d is %s, expected %s' % (line, 'missing' if mine is None else quoted(mine), 'no more lines' if other is None else quoted(other))
+    return 'line %d ends in %s' % (len(got), 'a line feed, expected none' if ends[0] else 'no line feed, expected one')
+
+
+def difference(path, output):
+    try:
+        with open(path[:-5] + '.out', 'rb') as file:
+            return first_difference(output, file.read())
+    except OSError as error:
+        raise OSError(error.errno, 'its expected output cannot be read: %s' % error.strerror)
+
+
+def answer(args, path, row):
+    """Runs one case and fills its row. Gives what the program wrote to its two outputs."""
+    if not os.path.isfile(path):
+        raise OSError(0, 'vanished during the run' if row['sha256'] else 'no file is behind this name')
+    with open(path, 'rb') as file:
+        case, refusal = opened(file)
+        row['counts'] = Counter(asked=len(case.events) if case else 0)
+        file.seek(0)
+        start = time.monotonic()
+        output, error, row['what'] = run(args.program, file, args.timeout, args.output_limit)
+        row['seconds'] = time.monotonic() - start
+    if not row['what']:
+        text = output.decode('ascii', 'backslashreplace')
+        row['what'] = short(judge(case, refusal, text)) or None
+        row['outcome'] = 'wrong' if row['what'] else 'performed' if case else 'refused'
+        row['different'] = difference(path, output) if args.expect else None
+        if row['outcome'] == 'performed':
+            row['counts'] += count(case, text)
+        elif row['outcome'] == 'refused':
+            row['refusal'] = refusal
+    return output, error
+
+
+def failed(row):
+    return row['outcome'] in ('missing', 'wrong') or row['different'] is not None
+
+
+def one(args, name, hashes, kept):
+    """The row of one file. Whatever goes wrong with it, the night goes on."""
+    path, output, error = os.path.join(args.folder, name), b'', b''
+    row = {'name': name, 'sha256': hashes[0], 'expected': hashes[1], 'outcome': 'missing', 'what': None, 'different': None, 'refusal': None,
+           'counts': Counter(), 'seconds': 0.0, 'kept': None}
+    try:
+        output, error = answer(args, path, row)
+        now = contents(args.folder, [name], args.expect)[name]
+        if now != hashes:
+            raise OSError(0, 'the case or its expected output was changed during the run')
+    except Exception as fault:
+        what = fault.strerror if isinstance(fault, OSError) and fault.strerror else 'this tool failed on the case: %s: %s' % (type(fault).__name__, fault)
+        row.update(outcome='missing', what=what, refusal=None, counts=Counter(asked=row['counts']['asked']))
+    if failed(row):
+        try:
+            row['kept'] = kept.keep(name, output, error)
+        except OSError as fault:
+            row['kept'] = None
+            print('tools/nightly: the output of %s cannot be kept: %s' % (ascii(name), fault.strerror), file=sys.stderr)
+    row['counts'] = {key: n for key, n in row['counts'].items() if n}
+    return row
+
+
+# ---- all of them
+
+class Progress:
+    """One line on standard error: rewritten on a terminal, else a new one every ten seconds."""
+
+    def __init__(self, total):
+        self.total, self.done, self.bad, self.start = total, 0, 0, time.monotonic()
+        self.shown = self.start
+        self.terminal = sys.stderr.isatty()
+
+    def tick(self, bad):
+        self.done, self.bad = self.done + 1, self.bad + bad
+        now = time.monotonic()
+        if self.done == self.total or now - self.shown >= (0.1 if self.terminal else 10):
+            self.shown = now
+            text = '%d of %d files, %d missing, wrong or different, %s' % (self.done, self.total, self.bad, seconds(now - self.start))
+            text, end = ('\r%s\033[K' % text, '' if self.done < self.total else '\n') if self.terminal else (text, '\n')
+            print(text, end=end, file=sys.stderr, flush=True)
+
+
+def run_cases(args, mine, hashes, kept):
+    rows, progress, pool = [], Progress(len(mine)), ThreadPoolExecutor(args.jobs)
+    try:
+        for row in pool.map(lambda name: one(args, name, hashes[name], kept), mine):
+            rows.append(row)
+            progress.tick(failed(row))
+    except BaseException:
+        pool.shutdown(wait=False, cancel_futures=True)
+        kill_all()
+        raise
+    finally:
+        pool.shutdown(cancel_futures=True)
+    return rows
+
+
+def beside(args, before, after, rows, sha256):
+    """What is missing of the folder and the program themselves."""
+    wrong, told = list(before.unreadable), {row['name'] for row in rows if row['outcome'] == 'missing'}
+    there, here = set(before.names), set(after.names)
+    if not before.names:
+        wrong.append([args.folder, 'no *.case file is in this folder'])
+    if args.expect:
+        cases = {name[:-5] for name in before.names}
+        wrong += [[name[:-4] + '.case', 'its .out is here, but not the case'] for name in sorted(before.outputs) if name[:-4] not in cases]
+    wrong += [[name, 'appeared during the run, and was not run'] for name in after.names if name not in there]
+    wrong += [[name, 'vanished during the run'] for name in before.names if name not in here | told]
+    wrong += [row for row in after.unreadable if row not in wrong]
+    if file_hash(args.program) != sha256:
+        wrong.append([args.program, 'the program was replaced during the run'])
+    return wrong
+
+
+def totals(rows):
+    """The sums of the rows."""
+    counts = sum((Counter(row['counts']) for row in rows), Counter())
+    counts.update(files=len(rows), **Counter(row['outcome'] for row in rows))
+    counts['different'] = sum(row['outcome'] in ('performed', 'refused') and row['different'] is not None for row in rows)
+    return {key: n for key, n in counts.items() if n}
+
+
+def run_all(args, found, kept):
+    """The record of a run."""
+    sha256, hashes = file_hash(args.program), contents(args.folder, found.names, args.expect)
+    mine = [name for name in found.names if name in args.only] if args.only is not None else found.names[args.part - 1::args.parts]
+    start, stamp = time.monotonic(), time.strftime('%Y-%m-%d %H:%M:%S %Z')
+    rows = run_cases(args, mine, hashes, kept)
+    taken = time.monotonic() - start
+    wrong = beside(args, found, find(args.folder), rows, sha256)
+    if args.only is not None:
+        wrong += [[name, 'is not in the folder any more'] for name in sorted(args.only.difference(found.names))]
+    return {
+        'format': FORMAT, 'night': args.night, 'part': args.part, 'parts': args.parts, 'folder': os.path.abspath(args.folder),
+        'only': args.only is not None, 'list': hash_of(found.names), 'contents': contents_hash(hashes), 'of': len(found.names), 'others': found.others,
+        'program': args.program, 'sha256': sha256, 'expect': args.expect, 'started': stamp, 'seconds': taken,
+        'time': '%s with %d at once' % (seconds(taken), args.jobs), 'counts': totals(rows), 'beside': wrong, 'since': None, 'cases': rows,
+    }
+
+
+# ---- a record as JSON
+
+def seal(record):
+    """The hash of all that a record holds, so that a change of it shows."""
+    return hash_of([json.dumps({key: value for key, value in record.items() if key != 'seal'}, sort_keys=True)])
+
+
+def as_json(record):
+    """The record with its seal, one line for each key and for each case."""
+    record = dict(record, seal=seal(record))
+    rows = ',\n'.join('  ' + json.dumps(row) for row in record['cases'])
+    lines = [' %s: %s' % (json.dumps(key), '[\n%s\n ]' % rows if key == 'cases' and rows else json.dumps(value)) for key, value in record.items()]
+    return '{\n' + ',\n'.join(lines) + '\n}\n'

@@ -1,0 +1,185 @@
+"""Where a night writes: which names it may take, files written whole, and the outputs that are kept. Used by tools/nightly.
+
+A night replaces only what is recognisably its own. Whatever else stands at a name is left alone, and the night isn't started.
+"""
+import json
+import os
+import re
+import secrets
+import stat
+import threading
+
+# How a file of an earlier night begins, by what is to be written there.
+OWN = {
+    'text': rb'Floecavern nightly[^\n]*\n\n(complete|not complete|different)\b',
+    'html': rb'<!doctype html>\n<html lang="en"><head><meta charset="utf-8">\n(<meta [^\n]*>\n)*<title>Floecavern nightly',
+    'counts': rb'\{\s*"format": "floecavern nightly counts \d+"',
+    'junit': rb'<\?xml [^\n]*\?>\n<testsuites name="floecavern nightly"',
+}
+INDEX, INDEX_HEAD = 'index.txt', 'Floecavern nightly outputs'
+
+
+def is_own(path, kind):
+    with open(path, 'rb') as file:
+        return re.match(OWN[kind], file.read(4096)) is not None
+
+
+def identity(path):
+    """What two names of one file have in common; None if nothing is there."""
+    try:
+        found = os.stat(path)
+    except OSError:
+        return None
+    return found.st_dev, found.st_ino
+
+
+def occupied(path, kind):
+    """Why what stands at a name may not be replaced; None if nothing stands there or it is a night's own."""
+    try:
+        mode = os.stat(path).st_mode
+    except FileNotFoundError:
+        return None
+    if kind == 'outputs':
+        return None if stat.S_ISDIR(mode) and old_outputs(path) is not None else 'is there already, and is no folder of outputs that tools/nightly kept'
+    if not stat.S_ISREG(mode):
+        return 'is there already, and is no plain file'
+    return None if is_own(path, kind) else 'is there already, and is no page or counts that tools/nightly wrote'
+
+
+def cannot_write(path):
+    """Tries the place: why no file can be made beside a name; None if one can."""
+    folder = os.path.dirname(os.path.realpath(path))
+    trial = os.path.join(folder, '.nightly-' + secrets.token_hex(8))
+    try:
+        with open(trial, 'x'):
+            pass
+        os.remove(trial)
+    except OSError as error:
+        return 'cannot be written: %s: %s' % (folder, error.strerror)
+    return None
+
+
+def meetings(outputs, inputs):
+    """Outputs that are one file with another output or with an input, also through links. outputs: (path, kind); inputs: (path, what)."""
+    wrong, seen = [], {}
+    for path, _ in outputs:
+        for key in filter(None, (os.path.realpath(path), identity(path))):
+            if seen.setdefault(key, path) != path or [p for p, _ in outputs].count(path) > 1:
+                wrong.append('%s: two outputs would have this name' % path)
+                break
+    for path, what in inputs:
+        keys = [os.path.realpath(path)] + ([identity(path)] if any(isinstance(key, tuple) for key in seen) else [])
+        wrong += ['%s: is %s' % (seen[key], what) for key in keys if key in seen][:1]
+    return list(dict.fromkeys(wrong))
+
+
+def refusals(outputs, inputs, folder):
+    """Why a night may not write to its outputs: sentences, empty if it may. Nothing is changed."""
+    wrong = meetings(outputs, inputs)
+    for path, kind in outputs:
+        real = os.path.realpath(path)
+        if folder and real.endswith(('.case', '.out')) and os.path.commonpath([real, os.path.realpath(folder)]) == os.path.realpath(folder):
+            wrong.append('%s: would be taken for a case or an expected output of the folder' % path)
+        else:
+            try:
+                why = occupied(path, kind) or cannot_write(path)
+            except OSError as error:
+                why = 'cannot be looked at: %s' % error.strerror
+            wrong += ['%s: %s' % (path, why)] if why else []
+    return wrong
+
+
+def clear(outputs):
+    """Removes what earlier nights wrote, so that a night that breaks off leaves no page. Only after refusals() had nothing to say."""
+    for path, kind in outputs:
+        if kind == 'outputs':
+            remove_outputs(path)
+        elif os.path.exists(path):
+            os.remove(os.path.realpath(path))
+
+
+def put(path, kind, text):
+    """Writes a file whole or not at all; a link stays, and what it leads to is written."""
+    path = os.path.realpath(path)
+    why = occupied(path, kind)
+    if why:
+        raise OSError(0, why, path)
+    new = os.path.join(os.path.dirname(path), '.nightly-' + secrets.token_hex(8))
+    try:
+        with open(new, 'x', encoding='utf-8', errors='backslashreplace') as file:
+            file.write(text)
+        os.replace(new, path)
+    except BaseException:
+        if os.path.lexists(new):
+            os.remove(new)
+        raise
+
+
+# ---- outputs of failing cases
+
+def old_outputs(folder):
+    """The files that an earlier night kept in a folder, by its index; None if the folder has no such index."""
+    try:
+        with open(os.path.join(folder, INDEX), encoding='utf-8') as file:
+            head, *lines = file.read().splitlines()
+        names = [json.loads(line) for line in lines]
+    except (OSError, ValueError):
+        return None
+    safe = all(type(name) is str and not os.path.isabs(name) and '..' not in name.split('/') for name in names)
+    return names if head == INDEX_HEAD and safe else None
+
+
+def remove_outputs(folder):
+    """Removes what an earlier night kept, and leaves whatever else is in the folder."""
+    names = old_outputs(folder)
+    if names is None:
+        return
+    inside = os.path.join(os.path.realpath(folder), '')
+    for path in (os.path.join(folder, name) for name in names):
+        if os.path.isfile(path) and not os.path.islink(path) and os.path.realpath(path).startswith(inside):
+            os.remove(path)
+    above = {os.path.dirname(name) for name in names}
+    while any(above):
+        above |= {os.path.dirname(name) for name in above}
+        name = max(above, key=len)
+        above.remove(name)
+        remove_empty(os.path.join(folder, name))
+    if os.listdir(folder) == [INDEX]:
+        os.remove(os.path.join(folder, INDEX))
+        remove_empty(folder)
+    else:         # the index stays, empty, beside what a user put there: the folder is still a night's own
+        with open(os.path.join(folder, INDEX), 'w', encoding='utf-8') as index:
+            index.write(INDEX_HEAD + '\n')
+
+
+def remove_empty(folder):
+    try:
+        os.rmdir(folder)
+    except OSError:         # something of a user is in it, or it is a link
+        pass
+
+
+class Kept:
+    """The folder for what failing cases wrote. It is made with the first of them; without a folder, nothing is kept."""
+
+    def __init__(self, folder):
+        self.folder, self.lock = folder and os.path.abspath(folder), threading.Lock()
+
+    def keep(self, name, output, error):
+        """Writes a case's output (NAME.got) and standard error (NAME.err), and gives the path of the first; None if there is nothing to keep."""
+        if not self.folder or not (output or error):
+            return None
+        stem = os.path.join(self.folder, name[:-len('.case')])
+        paths = [(stem + end, data) for end, data in (('.got', output), ('.err', error)) if data]
+        with self.lock:
+            os.makedirs(os.path.dirname(stem), exist_ok=True)
+            for path, data in paths:
+                with open(path, 'xb') as file:         # never a file of a user; so it is in the index only when it was made
+                    file.write(data)
+                self.note(path)
+        return paths[0][0]
+
+    def note(self, path):
+        """One more line of the index, by which a later night knows what it may remove."""
+        with open(os.path.join(self.folder, INDEX), 'a', encoding='utf-8') as index:
+            index.write((INDEX_HEAD + '\n' if index.tell() == 0 else '') + json.dumps(os.path.relpath(path, self.folder)) + '\n')

@@ -1,0 +1,58 @@
+"""A nightly run as JUnit XML, for CI systems that show test results. Used by tools/nightly.
+
+A folder is a suite and a case a test. A missing answer is an error, a wrong or different one a failure; what is missing of the folder, the program
+or the parts is an error of the suite `the night`, so that no reader of the file takes a night that isn't complete for a good one.
+"""
+import os
+import re
+import xml.etree.ElementTree as xml
+
+from nightlypage import fault, title
+
+NO_XML = re.compile('[^\t\n\r\x20-\ud7ff\ue000-\ufffd\U00010000-\U0010ffff]')
+
+
+def clean(text):
+    """A text without the characters that XML can't hold; each is written as an escape."""
+    return NO_XML.sub(lambda match: ascii(match.group())[1:-1], text)
+
+
+def element(above, tag, **attributes):
+    return xml.SubElement(above, tag, {key: clean(str(value)) for key, value in attributes.items()})
+
+
+def test(suite, folder, name, time, bad, kept=None):
+    """One test; bad is its kind and what is at fault, or None."""
+    made = element(suite, 'testcase', classname='floecavern' if folder == '.' else 'floecavern.' + folder.replace('/', '.'), name=name, time='%.3f' % time)
+    if bad:
+        kind, what = bad
+        element(made, 'error' if kind == 'missing' else 'failure', type=kind, message=what).text = clean(what)
+    if bad and kept:
+        element(made, 'system-out').text = clean('the output is kept in ' + kept)
+
+
+def count(above):
+    """Gives an element the numbers of tests below it."""
+    for key, tag in (('tests', 'testcase'), ('failures', 'failure'), ('errors', 'error')):
+        above.set(key, str(sum(1 for _ in above.iter(tag))))
+
+
+def junit(record):
+    folders, stamp = {}, record['started'][:19].replace(' ', 'T')
+    for row in record['cases']:
+        folders.setdefault(os.path.dirname(row['name']) or '.', []).append(row)
+    top = xml.Element('testsuites', name='floecavern nightly')
+    top.append(xml.Comment(' %s ' % re.sub('-(?=-)', '- ', clean(title(record)))))
+    for name, rows in sorted(folders.items()):
+        suite = element(top, 'testsuite', name=name, time='%.3f' % sum(row['seconds'] for row in rows), timestamp=stamp)
+        for row in rows:
+            test(suite, name, os.path.basename(row['name']), row['seconds'], fault(row), row['kept'])
+    if record['beside']:
+        suite = element(top, 'testsuite', name='the night', time='0.000', timestamp=stamp)
+        for name, what in record['beside']:
+            test(suite, '.', name, 0, ('missing', what))
+    for above in (top, *top.findall('testsuite')):
+        count(above)
+    top.set('time', '%.3f' % record['seconds'])
+    xml.indent(top, '')
+    return '<?xml version="1.0" encoding="UTF-8"?>\n%s\n' % xml.tostring(top, encoding='unicode')

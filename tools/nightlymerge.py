@@ -1,0 +1,134 @@
+"""Counts of earlier runs: read and checked, merged into one night, compared with another night. Used by tools/nightly."""
+import json
+import re
+from collections import Counter
+
+from nightlycases import FORMAT, contents_hash, failed, hash_of, seal, totals
+from nightlypage import seconds
+
+SHAPE = {'format': str, 'night': str, 'part': int, 'parts': int, 'folder': str, 'only': bool, 'list': str, 'contents': str, 'of': int, 'others': list,
+         'program': str, 'sha256': str, 'expect': bool, 'started': str, 'seconds': float, 'time': str, 'counts': dict, 'beside': list, 'cases': list,
+         'seal': str}
+TEXT = (str, type(None))
+ROW = {'name': str, 'sha256': str, 'expected': str, 'outcome': str, 'what': TEXT, 'different': TEXT, 'refusal': TEXT, 'counts': dict, 'seconds': float,
+       'kept': TEXT}
+
+
+def shaped(value, shape):
+    return type(value) is dict and all(key in value and isinstance(value[key], kind) for key, kind in shape.items())
+
+
+def well_shaped(record):
+    return shaped(record, SHAPE) and all(shaped(row, ROW) for row in record['cases']) and all(
+        type(n) is int and n >= 0 for counts in [record['counts']] + [row['counts'] for row in record['cases']] for n in counts.values()) and all(
+        type(row) is list and [type(x) for x in row] == [str, str] for row in record['beside']) and all(type(x) is str for x in record['others'])
+
+
+def agrees(row):
+    """Whether a case's row agrees with itself: each event of a performed case is a step retired or trapped, a device write or a yield."""
+    c = Counter(row['counts'])
+    parts = c['retired'] + c['device'] + c['yield'] + sum(n for key, n in c.items() if key.startswith('trap '))
+    if row['outcome'] == 'performed':
+        return c['asked'] == c['events'] == parts and c['sc 0'] + c['sc 1'] <= c['retired'] and not row['what'] and not row['refusal']
+    if row['outcome'] == 'refused':
+        return not c['asked'] + c['events'] + parts and not row['what'] and bool(re.fullmatch(r'(7|8|9|10|11) \d+', row['refusal'] or ''))
+    return row['outcome'] in ('missing', 'wrong') and not c['events'] + parts and bool(row['what'])
+
+
+def load(path):
+    """A record, or a sentence that says why the file is none."""
+    try:
+        with open(path, encoding='utf-8') as file:
+            record = json.load(file)
+    except OSError as error:
+        return 'cannot be read: %s' % error.strerror
+    except (ValueError, RecursionError) as error:
+        return 'is no whole counts file: %s' % error
+    if not isinstance(record, dict) or not str(record.get('format')).startswith(FORMAT[:-1]):
+        return 'is no counts file of tools/nightly'
+    if record['format'] != FORMAT or not well_shaped(record):
+        return 'is no counts file of this version of tools/nightly'
+    if record['seal'] != seal(record):
+        return 'was changed after it was written: its hash is another'
+    if record['counts'] != totals(record['cases']):
+        return 'does not agree with itself: its counts are not the sums of its cases'
+    wrong = [row['name'] for row in record['cases'] if not agrees(row)]
+    if wrong or not 0 <= record['part'] <= record['parts']:
+        return 'does not agree with itself' + (': the counts of %s' % ascii(wrong[0]) if wrong else '')
+    return record
+
+
+# ---- parts
+
+def strangers(records):
+    """Parts that are not of the first one's night. records: (path, record)."""
+    first, wrong = records[0][1], []
+    for path, r in records:
+        if r['only'] or not r['part']:
+            wrong.append([path, 'is no part: it is of %s' % ('cases that were run again' if r['only'] else 'a whole night, merged')])
+        wrong += [[path, 'this part has another %s than %s' % (what, records[0][0])] for key, what in (
+            ('night', 'night'), ('parts', 'number of parts'), ('list', 'list of cases'), ('sha256', 'program'), ('expect', '--expect')) if r[key] != first[key]]
+        if r['list'] == first['list'] and r['contents'] != first['contents'] and r['expect'] == first['expect']:
+            wrong.append([path, 'this part has the same names as %s, but the files have other contents' % records[0][0]])
+    return wrong
+
+
+def merge_faults(records, by_part):
+    """What the parts lack together. records: (path, record) of each file that could be read; by_part: the same under each part's number."""
+    first, wrong, by_case, hashes = records[0][1], strangers(records), {}, {}
+    wrong += [['part %d of %d' % (k, first['parts']), 'is missing'] for k in range(1, first['parts'] + 1) if k not in by_part]
+    wrong += [['part %d' % k, 'is there %d times: %s' % (len(same), ', '.join(path for path, _ in same))]
+              for k, same in sorted(by_part.items()) if len(same) > 1]
+    for (path, r), *_ in by_part.values():
+        for row in r['cases']:
+            by_case.setdefault(row['name'], []).append(path)
+            hashes[row['name']] = (row['sha256'], row['expected'])
+    wrong += [[name, 'is in more than one part: %s' % ', '.join(files)] for name, files in sorted(by_case.items()) if len(files) > 1]
+    if len(by_case) < first['of']:
+        wrong.append([first['folder'], '%d of its %d cases are in no part' % (first['of'] - len(by_case), first['of'])])
+    elif hash_of(sorted(by_case)) != first['list']:
+        wrong.append([first['folder'], 'the cases of the parts are not the cases of the folder'])
+    elif contents_hash(hashes) != first['contents']:
+        wrong.append([first['folder'], 'the contents of the cases are not those of the folder'])
+    return wrong
+
+
+def merge(paths):
+    """One record of the parts' files. A part that is there twice counts once."""
+    loaded = [(path, load(path)) for path in paths]
+    wrong = [[path, what] for path, what in loaded if isinstance(what, str)]
+    records = [(path, r) for path, r in loaded if not isinstance(r, str)]
+    if not records:
+        none = {key: kind() for key, kind in SHAPE.items() if key != 'seal'}
+        return dict(none, format=FORMAT, parts=1, folder='unknown', program='unknown', beside=wrong, since=None)
+    by_part = {}
+    for path, r in records:
+        by_part.setdefault(r['part'], []).append((path, r))
+    wrong += merge_faults(records, by_part)
+    parts = [same[0][1] for same in by_part.values()]
+    rows = sorted((row for r in parts for row in r['cases']), key=lambda row: row['name'])
+    wrong += [row for r in parts for row in r['beside']]
+    times = [r['seconds'] for r in parts]
+    record = dict(parts[0], part=0, started=min(r['started'] for r in parts), beside=[list(row) for row in dict.fromkeys(map(tuple, wrong))],
+                  seconds=sum(times), time='%s in all parts together, the longest %s' % (seconds(sum(times)), seconds(max(times))), cases=rows,
+                  counts=totals(rows), others=sorted({name for r in parts for name in r['others']}), since=None)
+    del record['seal']
+    return record
+
+
+# ---- against an earlier night
+
+def compare(old, new):
+    """What is new and what is gone since an earlier record; of cases that are run again, only these are compared."""
+    before, after = ({row['name']: row for row in record['cases']} for record in (old, new))
+    both = sorted(before.keys() & after.keys())
+    groups = [
+        ('fail now, and did not', [name for name in both if failed(after[name]) and not failed(before[name])]),
+        ('new, and fail', sorted(name for name in after.keys() - before.keys() if failed(after[name]))),
+        ('fail still', [name for name in both if failed(after[name]) and failed(before[name])]),
+        ('fail no more', [name for name in both if not failed(after[name]) and failed(before[name])]),
+        ('new, and right', sorted(name for name in after.keys() - before.keys() if not failed(after[name]))),
+        ('gone', [] if new['only'] else sorted(before.keys() - after.keys())),
+        ('have other contents', [name for name in both if before[name]['sha256'] != after[name]['sha256']]),
+    ]
+    return {'night': old['night'], 'started': old['started'], 'program': old['sha256'], 'groups': [[what, names] for what, names in groups if names]}
