@@ -73,13 +73,13 @@ class Nightly(NightlyCase):
     def test_good_folder(self):
         prefix = os.path.join(self.top, 'page')
         status, page, _ = self.night('--out', prefix, '--expect')
-        self.assertEqual((status, page), (0, ['complete: 6 files, 25 events each with its line']))
+        self.assertEqual((status, page), (0, ['complete: 6 files, 1 of them refused, 25 events each with its line']))
         text = data(prefix + '.txt').decode()
         self.assertEqual(text.splitlines()[2], page[0])
         for row in ('6  files', '5  .. cases, performed', '1  .. no cases, refused', '0  .. without a right answer', '6  outputs equal to the expected ones'):
             self.assertRegex(text, '(?m)^ +%s$' % row)
         page = data(prefix + '.html').decode()
-        self.assertIn('<div class="verdict good">complete: 6 files, 25 events each with its line</div>', page)
+        self.assertIn('<div class="verdict good">complete: 6 files, 1 of them refused, 25 events each with its line</div>', page)
         self.assertNotIn('src=', page)
 
     def test_counts_of_the_example(self):
@@ -176,6 +176,10 @@ class Nightly(NightlyCase):
         status, page, _ = self.night(edit='pass\nif name.startswith("refuse"):\n    out = b"refused 10 0\\n"')
         self.assertEqual(status, 1)
         self.assertIn("the answer is 'refused 10 0\\n', not 'refused 10 ", '\n'.join(page))
+
+    def test_a_refusal_without_its_line_feed(self):
+        page = self.night(edit='pass\nif name.startswith("refuse"):\n    out = out[:-1]')[1]
+        self.assertEqual(page[4:7], ['Wrong: 1', '  1: the last line has no line feed', '      deep/refuse_10_1.case'])
 
     def test_files_that_are_none(self):
         os.symlink('/nowhere', os.path.join(self.folder, 'broken.case'))
@@ -320,7 +324,7 @@ class Nightly(NightlyCase):
     def test_a_part_given_twice_is_one_line(self):
         files = self.parts(2)
         status, page = self.merged(*files, files[1])
-        self.assertEqual((status, page.splitlines()[2]), (1, 'not complete: 1 missing; 6 files, 25 events'))
+        self.assertEqual((status, page.splitlines()[2]), (1, 'not complete: 1 missing; 6 files, 1 of them refused, 25 events'))
         self.assertIn('is there 2 times: %s, %s\n' % (files[1], files[1]), page)
 
     def test_a_part_that_is_not_complete(self):

@@ -28,7 +28,7 @@ class Page(NightlyCase):
     def test_title_and_verdict(self):
         _, page, _ = self.night('--night', 'blue')
         self.assertEqual(page[0], 'Floecavern nightly, %s, night blue' % time.strftime('%Y-%m-%d'))
-        self.assertEqual(page[2], 'complete: 6 files, 25 events each with its line')
+        self.assertEqual(page[2], 'complete: 6 files, 1 of them refused, 25 events each with its line')
         self.night('--night', 'blue', '--out', self.page)
         text = data(self.page + '.html').decode()
         self.assertIn('<title>%s: complete</title>' % page[0], text)
@@ -40,7 +40,7 @@ class Page(NightlyCase):
         self.add('deep/c')
         edit = "out = out.replace(b'sc 0', b'sc 1')\nif name in ('a.case', 'b.case'): sys.exit(3)\nif name == 'c.case': out = out[:-1]"
         _, page, _ = self.night('--expect', edit=edit)
-        self.assertEqual(page[2], 'not complete: 2 missing, 1 wrong, 1 different; 9 files, 25 events')
+        self.assertEqual(page[2], 'not complete: 2 missing, 1 wrong, 1 different; 9 files, 1 of them refused, 25 events')
         self.assertEqual(page[4:8], ['Missing: 2', '  2: the program ended with status 3', '      deep/a.case', '      deep/b.case'])
         self.assertEqual(page[9:12], ['Wrong: 1', '  1: the last line has no line feed', '      deep/c.case'])
 

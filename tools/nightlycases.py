@@ -86,7 +86,8 @@ def opened(file):
 def judge(case, refusal, text):
     """What is wrong with an answer."""
     if case is None:
-        return [] if text == 'refused %s\n' % refusal else ['the answer is %r, not %r' % (text[:60], 'refused ' + refusal)]
+        right = 'refused %s\n' % refusal
+        return [] if text == right else ['the last line has no line feed'] if text + '\n' == right else ['the answer is %r, not %r' % (text[:60], right)]
     if text.startswith('refused '):
         return ['the answer is %r, but the file is a case of %d events' % (text[:60], len(case.events))]
     return faults(case, text)
@@ -128,7 +129,7 @@ def answer(args, path, row):
     with open(path, 'rb') as file:
         case, refusal = opened(file)
         row['counts'] = Counter(asked=len(case.events) if case else 0)
-        file.seek(0)
+        os.lseek(file.fileno(), 0, os.SEEK_SET)         # of the file itself, which the program goes on to read
         start = time.monotonic()
         output, error, row['what'] = run(args.program, file, args.timeout, args.output_limit)
         row['seconds'] = time.monotonic() - start

@@ -77,7 +77,8 @@ def verdict(record):
     bad = ', '.join('%s %s' % (number(n), kind) for kind, n in sizes.items() if n)
     c = record['counts']
     files = of(c.get('files', 0), 'file') if not record['only'] else 'only %s of %s' % (number(c.get('files', 0)), of(record['of'], 'file'))
-    done = '%s, %s%s' % (files, of(c.get('events', 0), 'event'), ' each with its line' if word == 'complete' else '')
+    refused_files = ', %s of them refused' % number(c['refused']) if c.get('refused') else ''
+    done = '%s%s, %s%s' % (files, refused_files, of(c.get('events', 0), 'event'), ' each with its line' if word == 'complete' else '')
     return word, '; '.join(filter(None, (bad, done)))
 
 
