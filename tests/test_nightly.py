@@ -2,7 +2,9 @@
 import argparse
 import json
 import os
+import resource
 import shutil
+import signal
 import subprocess
 import sys
 import tempfile
@@ -144,9 +146,48 @@ class Nightly(NightlyCase):
         self.assertEqual((night.returncode, time.monotonic() - started < 20), (1, True))
         self.assertFalse(os.path.exists(os.path.join(self.top, 'page.txt')))
 
+    def test_a_night_in_the_background_of_a_script(self):
+        # such a night doesn't hear SIGINT; it ends at SIGTERM and SIGHUP all the same, with its programs
+        self.only_the_example()
+        note = os.path.join(self.top, 'note')
+        program = self.fake("open(%r, 'w').write(str(os.getpid())); time.sleep(60)" % note)
+        for number in (signal.SIGTERM, signal.SIGHUP):
+            night = subprocess.Popen([sys.executable, NIGHTLY, self.folder, '--program', program], stderr=subprocess.PIPE, stdout=subprocess.PIPE,
+                                     preexec_fn=lambda: signal.signal(signal.SIGINT, signal.SIG_IGN))
+            while not os.path.exists(note) or not data(note):
+                time.sleep(0.05)
+            night.send_signal(number)
+            self.assertIn(b'broken off; no page is written', night.communicate(timeout=20)[1])
+            self.assertEqual(night.returncode, 1)
+            with self.assertRaises(ProcessLookupError):
+                for _ in range(100):
+                    os.kill(int(data(note)), 0)
+                    time.sleep(0.05)
+            os.remove(note)
+
+    def test_standard_outputs_that_cannot_be_written(self):
+        prefix = os.path.join(self.top, 'page')
+        for name in ('2>&-', '>&-', '2>/dev/full', '>/dev/full'):
+            line = 'exec "$0" "$1" "$2" --program "$3" --out "$4" %s' % name
+            done = subprocess.run(['/bin/sh', '-c', line, sys.executable, NIGHTLY, self.folder, self.fake(), prefix], capture_output=True)
+            self.assertNotIn(b'Traceback', done.stderr, name)
+            self.assertIn(b'complete: 6 files', data(prefix + '.txt'), name)
+            self.assertEqual(done.returncode, 1 if name == '>/dev/full' else 0, name)
+            os.remove(prefix + '.txt')
+
+    def test_progress_that_cannot_be_written(self):
+        with mock.patch('sys.stderr') as stream:
+            stream.write.side_effect = OSError(28, 'No space left on device')
+            nightlycases.tell('a line')
+        with mock.patch('sys.stderr', None):
+            self.assertFalse(nightlycases.Progress(1).terminal)
+
     def test_a_program_that_floods_its_output(self):
         self.only_the_example()
-        self.assert_missing('the program wrote more than 1,048,576 bytes', edit="while True: sys.stdout.write('flood ' * 9999)")
+        program = self.fake("while True: sys.stdout.write('flood ' * 9999)")
+        done = subprocess.run([sys.executable, NIGHTLY, self.folder, '--program', program], capture_output=True, timeout=60,
+                              preexec_fn=lambda: resource.setrlimit(resource.RLIMIT_AS, (1 << 30, 1 << 30)))
+        self.assertIn(b'the program wrote more than 1,048,576 bytes', done.stdout, done.stderr)
         self.assert_missing('the program wrote more than 1,048,576 bytes', edit="while True: sys.stderr.write('flood ' * 9999)")
         self.assert_missing('the program wrote more than 50 bytes', '--output-limit', '50')
 
@@ -185,6 +226,23 @@ class Nightly(NightlyCase):
         os.symlink('/nowhere', os.path.join(self.folder, 'broken.case'))
         self.assert_missing('no file is behind this name')
 
+    def test_links_that_lead_nowhere(self):
+        os.symlink(os.path.join(self.top, 'not-mounted'), os.path.join(self.folder, 'board7'))
+        self.assert_missing('a link whose end cannot be reached\n      board7')
+
+    def test_folders_that_have_the_name_of_a_case(self):
+        os.mkdir(os.path.join(self.folder, 'z.case'))
+        self.assert_missing('a folder has the name of a case\n      z.case')
+
+    def test_links_to_folders(self):
+        os.symlink(os.path.join(self.folder, 'deep'), os.path.join(self.folder, 'a'))
+        os.symlink(self.folder, os.path.join(self.folder, 'deep', 'up'))
+        elsewhere = os.path.join(self.top, 'elsewhere')
+        os.rename(os.path.join(self.folder, 'deep', 'er'), elsewhere)
+        os.symlink(elsewhere, os.path.join(self.folder, 'deep', 'er'))
+        self.assertEqual(sorted(nightlycases.find(self.folder).names), sorted(
+            ['deep/er/example.case'] + ['deep/%s.case' % os.path.basename(name) for name in CASES]))
+
     def test_expected_outputs(self):
         status, page, _ = self.night('--expect', edit="out = out.replace(b'sc 0', b'sc 1')")
         self.assertEqual((status, page[2][:9], page[4]), (1, 'different', 'Different from the expected output: 1'))
@@ -217,11 +275,52 @@ class Nightly(NightlyCase):
         self.assertEqual(status, 1)
         self.assertIn(b'  1: its expected output cannot be read: No such file or directory\n      a.case\n', out)
 
-    def test_old_page_does_not_stay(self):
+    def test_a_name_that_is_mistyped_changes_nothing(self):
+        prefix, counts = os.path.join(self.top, 'page'), os.path.join(self.top, 'counts')
+        self.assertEqual(self.night('--out', prefix, '--counts', counts)[0], 0)
+        files = {name: data(name) for name in (prefix + '.txt', prefix + '.html', counts)}
+        for args in ((self.folder, '--program', '/nowhere'), (self.folder + 'x', '--program', self.fake()), (self.folder, '--program', self.folder)):
+            self.assertEqual(command(NIGHTLY, *args, '--out', prefix, '--counts', counts)[0], 1)
+            self.assertEqual({name: data(name) for name in files}, files)
+
+    def test_expected_outputs_that_are_not_compared(self):
+        self.assertEqual(self.night()[1][2], 'complete: 6 files, 1 of them refused, 25 events each with its line, 6 expected outputs not compared')
+        self.assertIn('  6  expected outputs, not compared', '\n'.join(self.night()[1]))
+
+    def fixed(self, lines):
+        """A folder with the example alone and no expected output, and a program that writes these lines."""
+        self.only_the_example()
+        program, lines_at = os.path.join(self.top, 'fixed.sh'), os.path.join(self.top, 'lines')
+        with open(program, 'w') as file:
+            file.write('#!/bin/sh\ncat %s\n' % lines_at)
+        with open(lines_at, 'wb') as file:
+            file.write(lines)
+        os.chmod(program, 0o755)
+        path = os.path.join(self.folder, 'deep', 'er', 'example.out')
+        os.remove(path)
+        return path, (NIGHTLY, self.folder, '--program', program, '--expect')
+
+    def test_an_expected_output_that_is_a_pipe(self):
+        path, night = self.fixed(data(EXAMPLE_LINES))
+        os.mkfifo(path)
+        start = time.monotonic()
+        self.assertIn(b'its expected output cannot be read: it is no plain file\n      deep/er/example.case', command(*night)[1])
+        self.assertLess(time.monotonic() - start, 30)
+
+    def test_an_expected_output_without_an_end(self):
+        path, night = self.fixed(data(EXAMPLE_LINES))
+        with open(path, 'wb') as file:
+            file.truncate(1 << 32)
+        done = subprocess.run([sys.executable, *night], capture_output=True, timeout=120,
+                              preexec_fn=lambda: resource.setrlimit(resource.RLIMIT_AS, (1 << 30, 1 << 30)))
+        self.assertIn(b"line 1 is 'case 2 harts 128 bytes 5 events', expected '\\x00", done.stdout)
+
+    def test_a_fault_is_told_though_the_expected_output_is_missing(self):
+        night = self.fixed(data(EXAMPLE_LINES).replace(b'3 h1 sc 0\n', b''))[1]
         prefix = os.path.join(self.top, 'page')
-        self.assertEqual(self.night('--out', prefix)[0], 0)
-        self.assertEqual(command(NIGHTLY, self.folder, '--program', '/nowhere', '--out', prefix)[0], 1)
-        self.assertFalse(os.path.exists(prefix + '.txt') or os.path.exists(prefix + '.html'))
+        self.assertEqual(command(*night, '--out', prefix)[0], 1)
+        self.assertIn(b'event 3 (h1) has no line; its expected output cannot be read: No such file or directory\n', data(prefix + '.txt'))
+        self.assertIn(b'4 h0 sc 1\n', data(os.path.join(prefix + '.outputs', 'deep', 'er', 'example.got')))
 
     # parts
 
@@ -252,6 +351,17 @@ class Nightly(NightlyCase):
         self.assert_not_merged('No such file', *files[:3], files[3] + 'x')
         self.rewrite(files[2], lambda r: r.update(night='two'))
         self.assert_not_merged('another night', *files)
+
+    def test_a_part_says_that_it_is_one(self):
+        self.assertTrue(self.night('--part', '2/3')[1][2].startswith('complete: part 2 of 3, 2 files, '))
+
+    def test_parts_of_other_days(self):
+        files = self.parts(2)
+        self.rewrite(files[1], lambda r: r.update(began=r['began'] - 3 * 86400, started='2026-10-01 01:02:03 UTC'))
+        self.assert_not_merged('this part began on 2026-10-01 01:02:03 UTC and ', *files)
+        for file in files:
+            self.rewrite(file, lambda r: r.update(night='long'))
+        self.assertEqual(self.merged(*files)[0], 0)
 
     def rewrite(self, file, change, sealed=True):
         """Changes a counts file; with its seal made anew, so that what is inside is looked at."""
@@ -324,7 +434,7 @@ class Nightly(NightlyCase):
     def test_a_part_given_twice_is_one_line(self):
         files = self.parts(2)
         status, page = self.merged(*files, files[1])
-        self.assertEqual((status, page.splitlines()[2]), (1, 'not complete: 1 missing; 6 files, 1 of them refused, 25 events'))
+        self.assertEqual((status, page.splitlines()[2]), (1, 'not complete: 1 missing; 6 files, 1 of them refused, 25 events, 6 expected outputs not compared'))
         self.assertIn('is there 2 times: %s, %s\n' % (files[1], files[1]), page)
 
     def test_a_part_that_is_not_complete(self):

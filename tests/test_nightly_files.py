@@ -2,9 +2,14 @@
 import json
 import os
 import stat
+import subprocess
+import sys
+import time
 import unittest
+from unittest import mock
 
 from common import EXAMPLE, NIGHTLY, command, data
+from nightlyfiles import Kept
 from test_nightly import NightlyCase
 
 
@@ -143,7 +148,9 @@ class Files(NightlyCase):
         self.assertEqual((os.path.exists(kept), os.path.isdir(mine)), (False, True))
         write(kept, 'mine')
         status, _, err = self.night('--out', self.page, edit=fail + "\nif name == 'trap_8.case': out = out[:-1]")
-        self.assertEqual((status, 'cannot be kept: File exists' in err, 'Traceback' in err), (1, True, False), err)
+        self.assertEqual((status, 'Traceback' in err), (1, False), err)
+        self.assertIn(b'Outputs that could not be kept: 1\n  deep/trap_8.case: File exists\n', data(self.page + '.txt'))
+        self.assertIn(b'its output is not kept: File exists', data(self.page + '.html'))
         self.night('--out', self.page)
         self.assertEqual(data(kept), b'mine')
         self.night('--out', self.page, edit=fail)
@@ -151,6 +158,53 @@ class Files(NightlyCase):
         os.symlink(os.path.join(self.top, 'elsewhere'), os.path.join(folder, 'deep', 'er'))
         self.night('--out', self.page)
         self.assertTrue(os.path.exists(os.path.join(self.top, 'elsewhere', 'example.got')))
+
+    def test_a_full_disk_does_not_block_the_next_night(self):
+        fail, folder = "out = out.replace(b'sc 0', b'sc 9')", self.page + '.outputs'
+        os.mkdir(folder)         # a night that could make the folder, and no more
+        self.assertEqual(self.night('--out', self.page, edit=fail)[0], 1)
+        index = os.path.join(folder, 'index.txt')
+        with open(index, 'a') as file:
+            file.write('"deep/cut o')         # a night that could write only a part of a line
+        self.assertEqual(self.night('--out', self.page)[0], 0)
+        self.assertFalse(os.path.exists(folder))
+
+    def test_an_output_is_kept_whole_or_not_at_all(self):
+        kept, folder = Kept(os.path.join(self.top, 'k')), os.path.join(self.top, 'k')
+        kept.keep('a.case', {'got': b'one', 'err': b''})
+        index = data(os.path.join(folder, 'index.txt'))
+        with mock.patch('os.replace', side_effect=OSError(28, 'No space left on device')), self.assertRaises(OSError):
+            kept.keep('b.case', {'got': b'two', 'err': b''})
+        self.assertEqual((sorted(os.listdir(folder)), data(os.path.join(folder, 'index.txt'))), (['a.got', 'index.txt'], index))
+
+    def test_both_outputs_are_linked(self):
+        self.night('--out', self.page, edit="out = out[:-1]; sys.stderr.write('oops')")
+        page = data(self.page + '.html').decode()
+        self.assertIn('(<a href="page.outputs/deep/er/example.got">output</a>, <a href="page.outputs/deep/er/example.err">standard error</a>)', page)
+
+    def test_texts_that_only_look_like_a_page(self):
+        for text in ('Floecavern nightly runs, my own diary\n\ncomplete rubbish so far\n', None):
+            if text is None:
+                os.remove(self.page + '.txt')
+                self.assertEqual(self.night('--out', self.page)[0], 0)
+                text = data(self.page + '.txt').decode() + 'my notes on this night\n'
+            write(self.page + '.txt', text)
+            self.refused('is no page or counts that tools/nightly wrote', '--out', self.page)
+            self.assertEqual(data(self.page + '.txt').decode(), text)
+
+    def test_two_nights_of_one_name(self):
+        note, go = os.path.join(self.top, 'note'), os.path.join(self.top, 'go')
+        program = self.fake("open(%r, 'w')\n    while not os.path.exists(%r): time.sleep(0.02)" % (note, go))
+        night = subprocess.Popen([sys.executable, NIGHTLY, self.folder, '--program', program, '--out', self.page], stdout=subprocess.PIPE, stderr=subprocess.PIPE)
+        while not os.path.exists(note):
+            time.sleep(0.02)
+        status, _, err = command(NIGHTLY, self.folder, '--program', program, '--counts', self.counts, '--out', self.page)
+        self.assertEqual((status, 'another night is writing there now' in err), (1, True), err)
+        open(go, 'w').close()
+        night.communicate(timeout=30)
+        self.assertEqual(night.returncode, 0)
+        self.assertEqual(self.night('--out', self.page, '--counts', self.counts)[0], 0)
+        self.assertEqual([name for name in os.listdir(self.top) if name.startswith('.')], [])
 
     def test_a_folder_of_a_user_stays(self):
         os.mkdir(self.page + '.outputs')

@@ -1,13 +1,17 @@
 """tools/nightly: what its page, its counts and its JUnit file say."""
 import json
 import os
+import re
 import shutil
+import subprocess
 import time
 import unittest
 import xml.etree.ElementTree as xml
 
 from common import EXAMPLE, EXAMPLE_LINES, data
 from test_nightly import NightlyCase
+
+CHROMIUM = next(filter(None, map(shutil.which, ('chromium', 'chromium-browser', 'google-chrome'))), None)
 
 
 class Page(NightlyCase):
@@ -28,7 +32,7 @@ class Page(NightlyCase):
     def test_title_and_verdict(self):
         _, page, _ = self.night('--night', 'blue')
         self.assertEqual(page[0], 'Floecavern nightly, %s, night blue' % time.strftime('%Y-%m-%d'))
-        self.assertEqual(page[2], 'complete: 6 files, 1 of them refused, 25 events each with its line')
+        self.assertEqual(page[2], 'complete: 6 files, 1 of them refused, 25 events each with its line, 6 expected outputs not compared')
         self.night('--night', 'blue', '--out', self.page)
         text = data(self.page + '.html').decode()
         self.assertIn('<title>%s: complete</title>' % page[0], text)
@@ -100,13 +104,59 @@ class Page(NightlyCase):
         status, page, _ = self.night('--only', self.counts, edit="pass\nif name == 'trap_8.case': sys.exit(4)")
         self.assertEqual(status, 1)
         self.assertIn('only 2 of 6 files, run again', page[0])
-        self.assertEqual(page[2], 'not complete: 1 missing; only 2 of 6 files, 5 events')
+        self.assertEqual(page[2], 'not complete: 1 missing; only 2 of 6 files, 5 events, 2 expected outputs not compared')
         self.assertIn('  1 fail no more', page)
         self.assertIn('  1 fail still', page)
         self.assertNotIn('gone', '\n'.join(page))
         again = os.path.join(self.top, 'again')
         self.assertEqual(self.night('--only', self.counts, '--counts', again)[0], 0)
         self.assertIn('no case failed there', self.night('--only', again)[2])
+
+    def test_only_compares_as_the_night_did(self):
+        differs = "out = out.replace(b'sc 0', b'sc 1')"
+        self.night('--expect', '--counts', self.counts, edit=differs)
+        status, page, _ = self.night('--only', self.counts, edit=differs)
+        self.assertEqual((status, page[2]), (1, 'different: 1 different; only 1 of 6 files, 5 events'))
+        page = '\n'.join(self.night('--since', self.counts, edit=differs)[1])
+        self.assertIn('  only that night compared with expected outputs\n  1 differed, and are not compared now\n      deep/er/example.case\n', page)
+        self.assertNotIn('fail no more', page)
+
+    def test_only_runs_what_was_not_run(self):
+        self.night('--counts', self.counts, '--part', '1/1', edit='sys.exit(3)')
+        self.add('deep/new')
+        status, page, _ = self.night('--only', self.counts)
+        self.assertEqual((status, page[2][:31]), (0, 'complete: only 2 of 7 files, 10'))
+        self.night('--counts', self.counts, '--jobs', '1', edit="open(%r, 'a').write('#')\n    sys.exit(3)" % os.path.join(self.top, 'program'))
+        status, page, _ = self.night('--only', self.counts)
+        self.assertEqual(status, 1)
+        self.assertIn('in the night that is run again: the program was replaced during the run', '\n'.join(page))
+
+    def test_since_tells_what_an_earlier_night_lacked(self):
+        self.night('--expect', '--counts', self.counts, edit="open(%r, 'wb').write(data)" % os.path.join(self.folder, 'late.case'))
+        example = os.path.join(self.folder, 'deep', 'er', 'example.out')
+        text = data(example)
+        with open(example, 'wb') as file:
+            file.write(text + b'more\n')
+        os.remove(os.path.join(self.folder, 'late.case'))
+        page = '\n'.join(self.night('--expect', '--since', self.counts, edit='out = %r' % text)[1])
+        self.assertIn('  that night was not complete: 1 missing; ', page)
+        self.assertIn('  1 have other contents, or their expected outputs have\n      deep/er/example.case\n', page)
+
+    # as a browser shows it
+
+    @unittest.skipUnless(CHROMIUM, 'there is no chromium to show the page')
+    def test_the_page_fits_its_window(self):
+        self.add('a_very_long_name_of_a_folder_that_goes_on/and_on/' + 'x' * 100)
+        self.night('--out', self.page, '--expect', '--night', 'n' * 80, edit="sys.exit(3)\nif name == 'trap_8.case': out = out[:-1]")
+        html = data(self.page + '.html').decode()
+        script = '<script>document.title = "width " + document.documentElement.scrollWidth + " of " + window.innerWidth</script></body>'
+        with open(self.page + '.html', 'w') as file:
+            file.write(html.replace('</body>', script))
+        for width in (360, 1200):
+            shown = subprocess.run([CHROMIUM, '--headless', '--no-sandbox', '--disable-gpu', '--hide-scrollbars', '--dump-dom', '--user-data-dir=' + self.top + '/c',
+                                    '--window-size=%d,800' % width, 'file://' + self.page + '.html'], capture_output=True, timeout=60).stdout.decode()
+            got, of = map(int, re.search(r'<title>width (\d+) of (\d+)</title>', shown).groups())
+            self.assertLessEqual(got, of)
 
     # for machines
 

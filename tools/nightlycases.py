@@ -1,13 +1,15 @@
 """A folder of cases, the program's answer to each, and the record of a night. Used by tools/nightly.
 
 A record is what the page, the counts and the JUnit file are made of. It has one row for each case:
-  name, sha256 (of the bytes that were run), expected (the SHA-256 of its .out, with --expect), outcome, what (is missing or wrong), different (from
-  the .out), refusal (`NUMBER PLACE`), counts, seconds, kept (the path of its output, if it failed)
+  name, sha256 (of the bytes that were run), expected (the SHA-256 of its .out, with --expect), uncompared (it has an .out, which wasn't looked at),
+  outcome, what (is missing or wrong), different (from the .out), refusal (`NUMBER PLACE`), counts, seconds, kept (the paths of what it wrote, if it
+  failed), unkept (why that couldn't be kept)
 and `beside`, what is missing of the folder, the program or the parts: [name, what].
 """
 import hashlib
 import json
 import os
+import stat
 import sys
 import time
 from collections import Counter, namedtuple
@@ -24,22 +26,34 @@ Found = namedtuple('Found', 'names outputs others unreadable')
 
 # ---- the folder
 
+def leads_nowhere(path, name):
+    """Whether a name is a link whose end can't be reached: whatever is behind it, perhaps a folder of cases, isn't run. A case tells that itself."""
+    return os.path.islink(os.path.join(path, name)) and not os.path.exists(os.path.join(path, name)) and not name.endswith('.case')
+
+
 def find(folder):
     """What is below a folder: the cases by the order of their names, the expected outputs, all other files, and what can't be looked into.
-    Links to folders are followed, once each."""
-    files, unreadable, seen = [], [], set()
+    Links to folders are followed behind all else, so that a folder has its own name and is looked into once."""
+    files, unreadable, seen, later = [], [], set(), [folder]
+
+    def named(path, name):
+        return os.path.normpath(os.path.join(os.path.relpath(path, folder), name))
 
     def note(error):
-        unreadable.append([os.path.relpath(error.filename, folder), 'the folder cannot be read: %s' % error.strerror])
+        unreadable.append([named(error.filename, ''), 'the folder cannot be read: %s' % error.strerror])
 
-    for path, folders, here in os.walk(folder, onerror=note, followlinks=True):
-        real = os.path.realpath(path)
-        if real in seen:
-            folders.clear()
-            continue
-        seen.add(real)
-        folders.sort()
-        files += [os.path.normpath(os.path.join(os.path.relpath(path, folder), file)) for file in here]
+    while later:
+        for path, folders, here in os.walk(later.pop(0), onerror=note):
+            if os.path.realpath(path) in seen:
+                folders.clear()
+                continue
+            seen.add(os.path.realpath(path))
+            folders.sort()
+            later += [os.path.join(path, name) for name in folders if os.path.islink(os.path.join(path, name))]
+            lost = [name for name in here if leads_nowhere(path, name)]
+            unreadable += [[named(path, name), 'a link whose end cannot be reached'] for name in lost]
+            unreadable += [[named(path, name), 'a folder has the name of a case'] for name in folders if name.endswith('.case')]
+            files += [named(path, name) for name in here if name not in lost]
     names = {name for name in files if name.endswith('.case')}
     outputs = {name for name in files if name.endswith('.out')}
     others = set(files) - names - {name for name in outputs if name[:-4] + '.case' in names}
@@ -114,35 +128,45 @@ def first_difference(output, expected):
     return 'line %d ends in %s' % (len(got), 'a line feed, expected none' if ends[0] else 'no line feed, expected one')
 
 
-def difference(path, output):
+def plain(path):
+    """Raises OSError where no plain file is at a path: a pipe or a device might never end."""
+    if not stat.S_ISREG(os.stat(path).st_mode):
+        raise OSError(0, 'it is no plain file')
+
+
+def difference(path, output, limit):
+    """The first difference from the expected output, of which no more is read than an answer may have."""
     try:
+        plain(path[:-5] + '.out')
         with open(path[:-5] + '.out', 'rb') as file:
-            return first_difference(output, file.read())
+            return first_difference(output, file.read(limit + 1))
     except OSError as error:
         raise OSError(error.errno, 'its expected output cannot be read: %s' % error.strerror)
 
 
-def answer(args, path, row):
-    """Runs one case and fills its row. Gives what the program wrote to its two outputs."""
-    if not os.path.isfile(path):
+def answer(args, path, row, wrote):
+    """Runs one case and fills its row; what the program wrote goes to `wrote`."""
+    try:
+        plain(path)
+    except FileNotFoundError:
         raise OSError(0, 'vanished during the run' if row['sha256'] else 'no file is behind this name')
     with open(path, 'rb') as file:
         case, refusal = opened(file)
         row['counts'] = Counter(asked=len(case.events) if case else 0)
         os.lseek(file.fileno(), 0, os.SEEK_SET)         # of the file itself, which the program goes on to read
         start = time.monotonic()
-        output, error, row['what'] = run(args.program, file, args.timeout, args.output_limit)
+        wrote['got'], wrote['err'], row['what'] = run(args.program, file, args.timeout, args.output_limit)
         row['seconds'] = time.monotonic() - start
-    if not row['what']:
-        text = output.decode('ascii', 'backslashreplace')
-        row['what'] = short(judge(case, refusal, text)) or None
-        row['outcome'] = 'wrong' if row['what'] else 'performed' if case else 'refused'
-        row['different'] = difference(path, output) if args.expect else None
-        if row['outcome'] == 'performed':
-            row['counts'] += count(case, text)
-        elif row['outcome'] == 'refused':
-            row['refusal'] = refusal
-    return output, error
+    if row['what']:
+        return
+    text = wrote['got'].decode('ascii', 'backslashreplace')
+    row['what'] = short(judge(case, refusal, text)) or None
+    row['outcome'] = 'wrong' if row['what'] else 'performed' if case else 'refused'
+    if row['outcome'] == 'performed':
+        row['counts'] += count(case, text)
+    elif row['outcome'] == 'refused':
+        row['refusal'] = refusal
+    row['different'] = difference(path, wrote['got'], args.output_limit) if args.expect else None
 
 
 def failed(row):
@@ -150,29 +174,36 @@ def failed(row):
 
 
 def one(args, name, hashes, kept):
-    """The row of one file. Whatever goes wrong with it, the night goes on."""
-    path, output, error = os.path.join(args.folder, name), b'', b''
-    row = {'name': name, 'sha256': hashes[0], 'expected': hashes[1], 'outcome': 'missing', 'what': None, 'different': None, 'refusal': None,
-           'counts': Counter(), 'seconds': 0.0, 'kept': None}
+    """The row of one file. Whatever goes wrong with it, the night goes on, and what the program itself did wrong is still told."""
+    path, wrote = os.path.join(args.folder, name), {'got': b'', 'err': b''}
+    row = {'name': name, 'sha256': hashes[0], 'expected': hashes[1], 'uncompared': not args.expect and os.path.lexists(path[:-5] + '.out'),
+           'outcome': 'missing', 'what': None, 'different': None, 'refusal': None, 'counts': Counter(), 'seconds': 0.0, 'kept': [], 'unkept': None}
     try:
-        output, error = answer(args, path, row)
-        now = contents(args.folder, [name], args.expect)[name]
-        if now != hashes:
+        answer(args, path, row, wrote)
+        if contents(args.folder, [name], args.expect)[name] != hashes:
             raise OSError(0, 'the case or its expected output was changed during the run')
     except Exception as fault:
         what = fault.strerror if isinstance(fault, OSError) and fault.strerror else 'this tool failed on the case: %s: %s' % (type(fault).__name__, fault)
-        row.update(outcome='missing', what=what, refusal=None, counts=Counter(asked=row['counts']['asked']))
+        row.update(outcome='wrong' if row['outcome'] == 'wrong' else 'missing', what='; '.join(filter(None, (row['what'], what))), refusal=None,
+                   counts=Counter(asked=row['counts']['asked']))
     if failed(row):
         try:
-            row['kept'] = kept.keep(name, output, error)
+            row['kept'] = kept.keep(name, wrote)
         except OSError as fault:
-            row['kept'] = None
-            print('tools/nightly: the output of %s cannot be kept: %s' % (ascii(name), fault.strerror), file=sys.stderr)
+            row['unkept'] = fault.strerror or str(fault)
     row['counts'] = {key: n for key, n in row['counts'].items() if n}
     return row
 
 
 # ---- all of them
+
+def tell(text, end='\n'):
+    """A line on standard error; where that can't be written, the night goes on without it."""
+    try:
+        print(text, end=end, file=sys.stderr, flush=True)
+    except (OSError, ValueError):
+        pass
+
 
 class Progress:
     """One line on standard error: rewritten on a terminal, else a new one every ten seconds."""
@@ -180,7 +211,7 @@ class Progress:
     def __init__(self, total):
         self.total, self.done, self.bad, self.start = total, 0, 0, time.monotonic()
         self.shown = self.start
-        self.terminal = sys.stderr.isatty()
+        self.terminal = bool(sys.stderr) and sys.stderr.isatty()
 
     def tick(self, bad):
         self.done, self.bad = self.done + 1, self.bad + bad
@@ -188,8 +219,7 @@ class Progress:
         if self.done == self.total or now - self.shown >= (0.1 if self.terminal else 10):
             self.shown = now
             text = '%d of %d files, %d missing, wrong or different, %s' % (self.done, self.total, self.bad, seconds(now - self.start))
-            text, end = ('\r%s\033[K' % text, '' if self.done < self.total else '\n') if self.terminal else (text, '\n')
-            print(text, end=end, file=sys.stderr, flush=True)
+            tell(*(('\r%s\033[K' % text, '' if self.done < self.total else '\n') if self.terminal else (text,)))
 
 
 def run_cases(args, mine, hashes, kept):
@@ -229,6 +259,7 @@ def totals(rows):
     counts = sum((Counter(row['counts']) for row in rows), Counter())
     counts.update(files=len(rows), **Counter(row['outcome'] for row in rows))
     counts['different'] = sum(row['outcome'] in ('performed', 'refused') and row['different'] is not None for row in rows)
+    counts['uncompared'] = sum(row['uncompared'] for row in rows)
     return {key: n for key, n in counts.items() if n}
 
 
@@ -236,16 +267,16 @@ def run_all(args, found, kept):
     """The record of a run."""
     sha256, hashes = file_hash(args.program), contents(args.folder, found.names, args.expect)
     mine = [name for name in found.names if name in args.only] if args.only is not None else found.names[args.part - 1::args.parts]
-    start, stamp = time.monotonic(), time.strftime('%Y-%m-%d %H:%M:%S %Z')
+    start, began, stamp = time.monotonic(), time.time(), time.strftime('%Y-%m-%d %H:%M:%S %Z')
     rows = run_cases(args, mine, hashes, kept)
     taken = time.monotonic() - start
     wrong = beside(args, found, find(args.folder), rows, sha256)
     if args.only is not None:
-        wrong += [[name, 'is not in the folder any more'] for name in sorted(args.only.difference(found.names))]
+        wrong += args.carried + [[name, 'is not in the folder any more'] for name in sorted(args.only.difference(found.names))]
     return {
         'format': FORMAT, 'night': args.night, 'part': args.part, 'parts': args.parts, 'folder': os.path.abspath(args.folder),
         'only': args.only is not None, 'list': hash_of(found.names), 'contents': contents_hash(hashes), 'of': len(found.names), 'others': found.others,
-        'program': args.program, 'sha256': sha256, 'expect': args.expect, 'started': stamp, 'seconds': taken,
+        'program': args.program, 'sha256': sha256, 'expect': args.expect, 'started': stamp, 'began': began, 'seconds': taken,
         'time': '%s with %d at once' % (seconds(taken), args.jobs), 'counts': totals(rows), 'beside': wrong, 'since': None, 'cases': rows,
     }
 

@@ -2,6 +2,7 @@
 
 A night replaces only what is recognisably its own. Whatever else stands at a name is left alone, and the night isn't started.
 """
+import fcntl
 import json
 import os
 import re
@@ -9,19 +10,19 @@ import secrets
 import stat
 import threading
 
-# How a file of an earlier night begins, by what is to be written there.
+# A whole file of an earlier night, from its first byte to its last, by what is to be written there: what a user added at its end is a user's.
 OWN = {
-    'text': rb'Floecavern nightly[^\n]*\n\n(complete|not complete|different)\b',
-    'html': rb'<!doctype html>\n<html lang="en"><head><meta charset="utf-8">\n(<meta [^\n]*>\n)*<title>Floecavern nightly',
-    'counts': rb'\{\s*"format": "floecavern nightly counts \d+"',
-    'junit': rb'<\?xml [^\n]*\?>\n<testsuites name="floecavern nightly"',
+    'text': rb'Floecavern nightly[^\n]*\n\n(complete|not complete|different)\b[^\n]*\n.*\nCounts\n.*\nThis run\n(  [^\n]*\n)+',
+    'html': rb'<!doctype html>\n<html lang="en"><head><meta charset="utf-8">\n(<meta [^\n]*>\n)*<title>Floecavern nightly.*</main></body></html>\n',
+    'counts': rb'\{\s*"format": "floecavern nightly counts \d+".*\}\n',
+    'junit': rb'<\?xml [^\n]*\?>\n<testsuites name="floecavern nightly".*</testsuites>\n',
 }
 INDEX, INDEX_HEAD = 'index.txt', 'Floecavern nightly outputs'
 
 
 def is_own(path, kind):
     with open(path, 'rb') as file:
-        return re.match(OWN[kind], file.read(4096)) is not None
+        return re.fullmatch(OWN[kind], file.read(), re.DOTALL) is not None
 
 
 def identity(path):
@@ -104,10 +105,14 @@ def put(path, kind, text):
     why = occupied(path, kind)
     if why:
         raise OSError(0, why, path)
+    put_whole(path, text.encode('utf-8', 'backslashreplace'))
+
+
+def put_whole(path, data):
     new = os.path.join(os.path.dirname(path), '.nightly-' + secrets.token_hex(8))
     try:
-        with open(new, 'x', encoding='utf-8', errors='backslashreplace') as file:
-            file.write(text)
+        with open(new, 'xb') as file:
+            file.write(data)
         os.replace(new, path)
     except BaseException:
         if os.path.lexists(new):
@@ -115,13 +120,46 @@ def put(path, kind, text):
         raise
 
 
+class Held:
+    """The names of a night's outputs, held against any other night: by a lock on a file beside each, which goes with the night."""
+
+    def __init__(self, outputs):
+        self.locks = []
+        for path in sorted({os.path.realpath(path) for path, _ in outputs}):
+            self.hold(path)
+
+    def hold(self, path):
+        beside = os.path.join(os.path.dirname(path), '.%s.nightly-lock' % os.path.basename(path)[:200])
+        while True:
+            file = open(beside, 'a')
+            try:
+                fcntl.flock(file, fcntl.LOCK_EX | fcntl.LOCK_NB)
+            except OSError:
+                self.free()
+                raise ValueError('%s: another night is writing there now' % path)
+            if identity(beside) == (os.fstat(file.fileno()).st_dev, os.fstat(file.fileno()).st_ino):
+                self.locks.append((beside, file))
+                return
+            file.close()         # the night before has just ended and removed it
+
+    def free(self):
+        for beside, file in self.locks:
+            if os.path.exists(beside) and os.path.getsize(beside) == 0:
+                os.remove(beside)
+            file.close()
+        self.locks = []
+
+
 # ---- outputs of failing cases
 
 def old_outputs(folder):
-    """The files that an earlier night kept in a folder, by its index; None if the folder has no such index."""
+    """The files that an earlier night kept in a folder, by its index; None if the folder has no such index and isn't empty. A last line without
+    its line feed is one that a full disk cut off: nothing was written for it."""
     try:
+        if not os.listdir(folder):
+            return []
         with open(os.path.join(folder, INDEX), encoding='utf-8') as file:
-            head, *lines = file.read().splitlines()
+            head, *lines = file.read().split('\n')[:-1]
         names = [json.loads(line) for line in lines]
     except (OSError, ValueError):
         return None
@@ -144,8 +182,9 @@ def remove_outputs(folder):
         name = max(above, key=len)
         above.remove(name)
         remove_empty(os.path.join(folder, name))
-    if os.listdir(folder) == [INDEX]:
-        os.remove(os.path.join(folder, INDEX))
+    if os.listdir(folder) in ([], [INDEX]):
+        if os.path.exists(os.path.join(folder, INDEX)):
+            os.remove(os.path.join(folder, INDEX))
         remove_empty(folder)
     else:         # the index stays, empty, beside what a user put there: the folder is still a night's own
         with open(os.path.join(folder, INDEX), 'w', encoding='utf-8') as index:
@@ -165,21 +204,28 @@ class Kept:
     def __init__(self, folder):
         self.folder, self.lock = folder and os.path.abspath(folder), threading.Lock()
 
-    def keep(self, name, output, error):
-        """Writes a case's output (NAME.got) and standard error (NAME.err), and gives the path of the first; None if there is nothing to keep."""
-        if not self.folder or not (output or error):
-            return None
-        stem = os.path.join(self.folder, name[:-len('.case')])
-        paths = [(stem + end, data) for end, data in (('.got', output), ('.err', error)) if data]
+    def keep(self, name, wrote):
+        """Writes what a case's program wrote to standard output (NAME.got) and standard error (NAME.err), and gives the paths."""
+        stem = os.path.join(self.folder or '', name[:-len('.case')])
+        paths = [(stem + '.' + end, data) for end, data in wrote.items() if data] if self.folder else []
         with self.lock:
-            os.makedirs(os.path.dirname(stem), exist_ok=True)
             for path, data in paths:
-                with open(path, 'xb') as file:         # never a file of a user; so it is in the index only when it was made
-                    file.write(data)
-                self.note(path)
-        return paths[0][0]
+                self.keep_one(path, data)
+        return [path for path, _ in paths]
 
-    def note(self, path):
-        """One more line of the index, by which a later night knows what it may remove."""
-        with open(os.path.join(self.folder, INDEX), 'a', encoding='utf-8') as index:
-            index.write((INDEX_HEAD + '\n' if index.tell() == 0 else '') + json.dumps(os.path.relpath(path, self.folder)) + '\n')
+    def keep_one(self, path, data):
+        """One file, and before it a line of the index, by which a later night knows what it may remove; both or none. Never a file of a user."""
+        if os.path.lexists(path):
+            raise FileExistsError(17, 'File exists', path)
+        os.makedirs(self.folder, exist_ok=True)
+        index = os.path.join(self.folder, INDEX)
+        size = os.path.getsize(index) if os.path.exists(index) else 0
+        try:
+            with open(index, 'a', encoding='utf-8') as file:
+                file.write((INDEX_HEAD + '\n' if size == 0 else '') + json.dumps(os.path.relpath(path, self.folder)) + '\n')
+            os.makedirs(os.path.dirname(path), exist_ok=True)
+            put_whole(path, data)
+        except BaseException:
+            if os.path.exists(index):
+                os.truncate(index, size)
+            raise

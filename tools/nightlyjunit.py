@@ -21,14 +21,14 @@ def element(above, tag, **attributes):
     return xml.SubElement(above, tag, {key: clean(str(value)) for key, value in attributes.items()})
 
 
-def test(suite, folder, name, time, bad, kept=None):
+def test(suite, folder, name, time, bad, kept=()):
     """One test; bad is its kind and what is at fault, or None."""
     made = element(suite, 'testcase', classname='floecavern' if folder == '.' else 'floecavern.' + folder.replace('/', '.'), name=name, time='%.3f' % time)
     if bad:
         kind, what = bad
         element(made, 'error' if kind == 'missing' else 'failure', type=kind, message=what).text = clean(what)
     if bad and kept:
-        element(made, 'system-out').text = clean('the output is kept in ' + kept)
+        element(made, 'system-out').text = clean('what it wrote is kept in ' + ' and '.join(kept))
 
 
 def count(above):

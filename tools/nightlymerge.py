@@ -4,14 +4,15 @@ import re
 from collections import Counter
 
 from nightlycases import FORMAT, contents_hash, failed, hash_of, seal, totals
-from nightlypage import seconds
+from nightlypage import fault, printable, seconds, verdict
 
 SHAPE = {'format': str, 'night': str, 'part': int, 'parts': int, 'folder': str, 'only': bool, 'list': str, 'contents': str, 'of': int, 'others': list,
-         'program': str, 'sha256': str, 'expect': bool, 'started': str, 'seconds': float, 'time': str, 'counts': dict, 'beside': list, 'cases': list,
+         'program': str, 'sha256': str, 'expect': bool, 'started': str, 'began': float, 'seconds': float, 'time': str, 'counts': dict, 'beside': list, 'cases': list,
          'seal': str}
 TEXT = (str, type(None))
-ROW = {'name': str, 'sha256': str, 'expected': str, 'outcome': str, 'what': TEXT, 'different': TEXT, 'refusal': TEXT, 'counts': dict, 'seconds': float,
-       'kept': TEXT}
+ROW = {'name': str, 'sha256': str, 'expected': str, 'uncompared': bool, 'outcome': str, 'what': TEXT, 'different': TEXT, 'refusal': TEXT, 'counts': dict,
+       'seconds': float, 'kept': list, 'unkept': TEXT}
+APART = 24 * 3600         # seconds between the starts of two parts that may be of one night, if it has no name
 
 
 def shaped(value, shape):
@@ -21,7 +22,8 @@ def shaped(value, shape):
 def well_shaped(record):
     return shaped(record, SHAPE) and all(shaped(row, ROW) for row in record['cases']) and all(
         type(n) is int and n >= 0 for counts in [record['counts']] + [row['counts'] for row in record['cases']] for n in counts.values()) and all(
-        type(row) is list and [type(x) for x in row] == [str, str] for row in record['beside']) and all(type(x) is str for x in record['others'])
+        type(row) is list and [type(x) for x in row] == [str, str] for row in record['beside']) and all(
+        type(x) is str for texts in [record['others']] + [row['kept'] for row in record['cases']] for x in texts)
 
 
 def agrees(row):
@@ -70,6 +72,9 @@ def strangers(records):
             ('night', 'night'), ('parts', 'number of parts'), ('list', 'list of cases'), ('sha256', 'program'), ('expect', '--expect')) if r[key] != first[key]]
         if r['list'] == first['list'] and r['contents'] != first['contents'] and r['expect'] == first['expect']:
             wrong.append([path, 'this part has the same names as %s, but the files have other contents' % records[0][0]])
+        if not first['night'] and abs(r['began'] - first['began']) > APART:
+            wrong.append([path, 'this part began on %s and %s on %s: parts of one night begin within a day, or --night names it' % (
+                r['started'], records[0][0], first['started'])])
     return wrong
 
 
@@ -109,7 +114,8 @@ def merge(paths):
     rows = sorted((row for r in parts for row in r['cases']), key=lambda row: row['name'])
     wrong += [row for r in parts for row in r['beside']]
     times = [r['seconds'] for r in parts]
-    record = dict(parts[0], part=0, started=min(r['started'] for r in parts), beside=[list(row) for row in dict.fromkeys(map(tuple, wrong))],
+    earliest = min(parts, key=lambda r: r['began'])
+    record = dict(parts[0], part=0, started=earliest['started'], began=earliest['began'], beside=[list(row) for row in dict.fromkeys(map(tuple, wrong))],
                   seconds=sum(times), time='%s in all parts together, the longest %s' % (seconds(sum(times)), seconds(max(times))), cases=rows,
                   counts=totals(rows), others=sorted({name for r in parts for name in r['others']}), since=None)
     del record['seal']
@@ -118,17 +124,37 @@ def merge(paths):
 
 # ---- against an earlier night
 
+def notes(old, new):
+    """What a reader of a comparison has to know of the earlier night."""
+    word, numbers = verdict(old)
+    if old['beside']:
+        yield 'that night was %s: %s' % (word, numbers)
+    if old['folder'] != new['folder']:
+        yield 'that night was of another folder: %s' % printable(old['folder'])
+    if old['expect'] != new['expect']:
+        yield 'only %s night compared with expected outputs' % ('that' if old['expect'] else 'this')
+
+
+def changed(old, new, expect):
+    return old['sha256'] != new['sha256'] or expect and old['expected'] != new['expected']
+
+
 def compare(old, new):
     """What is new and what is gone since an earlier record; of cases that are run again, only these are compared."""
     before, after = ({row['name']: row for row in record['cases']} for record in (old, new))
-    both = sorted(before.keys() & after.keys())
+    both, expect = sorted(before.keys() & after.keys()), old['expect'] and new['expect']
+    right = [name for name in both if failed(before[name]) and not failed(after[name])]
+    unseen = [name for name in right if fault(before[name])[0] == 'different' and not new['expect']]
     groups = [
         ('fail now, and did not', [name for name in both if failed(after[name]) and not failed(before[name])]),
         ('new, and fail', sorted(name for name in after.keys() - before.keys() if failed(after[name]))),
         ('fail still', [name for name in both if failed(after[name]) and failed(before[name])]),
-        ('fail no more', [name for name in both if not failed(after[name]) and failed(before[name])]),
+        ('differed, and are not compared now', unseen),
+        ('fail no more', [name for name in right if name not in unseen]),
         ('new, and right', sorted(name for name in after.keys() - before.keys() if not failed(after[name]))),
         ('gone', [] if new['only'] else sorted(before.keys() - after.keys())),
-        ('have other contents', [name for name in both if before[name]['sha256'] != after[name]['sha256']]),
+        ('have other contents, or their expected outputs have' if expect else 'have other contents',
+         [name for name in both if changed(before[name], after[name], expect)]),
     ]
-    return {'night': old['night'], 'started': old['started'], 'program': old['sha256'], 'groups': [[what, names] for what, names in groups if names]}
+    return {'night': old['night'], 'started': old['started'], 'program': old['sha256'], 'notes': list(notes(old, new)),
+            'groups': [[what, names] for what, names in groups if names]}

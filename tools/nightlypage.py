@@ -22,6 +22,7 @@ table { border-collapse: collapse; width: 100%; }
 th, td { text-align: left; padding: .3rem .75rem .3rem 0; border-bottom: 1px solid var(--line); vertical-align: top; overflow-wrap: anywhere; }
 tr:last-child td { border-bottom: 0; } th { font-weight: 600; color: var(--soft); font-size: .85rem; overflow-wrap: normal; }
 .n { text-align: right; white-space: nowrap; font-variant-numeric: tabular-nums; width: 1%; }
+.whole { overflow-wrap: normal; }
 td.under { padding-left: 1.25rem; color: var(--soft); }
 td.name { min-width: 5.5rem; } td.name, li { overflow-wrap: anywhere; font-family: ui-monospace, "DejaVu Sans Mono", monospace; font-size: .9rem; }
 summary { overflow-wrap: anywhere; cursor: pointer; } details { margin: .35rem 0; } ul { margin: .25rem 0; padding-left: 1.5rem; }
@@ -77,9 +78,15 @@ def verdict(record):
     bad = ', '.join('%s %s' % (number(n), kind) for kind, n in sizes.items() if n)
     c = record['counts']
     files = of(c.get('files', 0), 'file') if not record['only'] else 'only %s of %s' % (number(c.get('files', 0)), of(record['of'], 'file'))
-    refused_files = ', %s of them refused' % number(c['refused']) if c.get('refused') else ''
-    done = '%s%s, %s%s' % (files, refused_files, of(c.get('events', 0), 'event'), ' each with its line' if word == 'complete' else '')
-    return word, '; '.join(filter(None, (bad, done)))
+    done = [part(record)] if record['parts'] > 1 and record['part'] else []
+    done += [files] + (['%s of them refused' % number(c['refused'])] if c.get('refused') else [])
+    done.append(of(c.get('events', 0), 'event') + (' each with its line' if word == 'complete' else ''))
+    done += ['%s not compared' % of(c['uncompared'], 'expected output')] if c.get('uncompared') else []
+    return word, '; '.join(filter(None, (bad, ', '.join(done))))
+
+
+def part(record):
+    return 'part %d of %d' % (record['part'], record['parts']) if record['part'] else '%d parts' % record['parts']
 
 
 def title(record):
@@ -87,7 +94,7 @@ def title(record):
     parts = [date] if date else []
     parts += ['night ' + printable(night)] if night and night != date else []
     if record['parts'] > 1:
-        parts.append('part %d of %d' % (record['part'], record['parts']) if record['part'] else '%d parts' % record['parts'])
+        parts.append(part(record))
     if record['only']:
         parts.append('only %s of %s, run again' % (number(len(record['cases'])), of(record['of'], 'file')))
     return ', '.join(['Floecavern nightly'] + parts)
@@ -103,6 +110,8 @@ def counted(record):
              (c.get('device', 0), 'device writes'), (c.get('yield', 0), 'yields')]
     if record['expect']:
         table.append((sum(fault(row) is None for row in rows), 'outputs equal to the expected ones'))
+    elif c.get('uncompared'):
+        table.append((c['uncompared'], 'expected outputs, not compared'))
     return [[number(n), what] for n, what in table]
 
 
@@ -164,13 +173,15 @@ def text_groups(record):
             lines += ['', '%s: %s' % (TITLES[kind], number(sum(map(len, same.values()))))]
         for what, names in same.items():
             lines += ['  %s: %s' % (number(len(names)), what)] + ['      ' + printable(name) for name in names]
-    return lines
+    unkept = [row for row in record['cases'] if row['unkept']]
+    lines += ['', 'Outputs that could not be kept: %s' % number(len(unkept))] if unkept else []
+    return lines + ['  %s: %s' % (printable(row['name']), row['unkept']) for row in unkept]
 
 
 def text_page(record):
     lines = [title(record), '', ': '.join(verdict(record))] + text_groups(record)
     if record['since']:
-        lines += ['', since_title(record['since'])]
+        lines += ['', since_title(record['since'])] + ['  ' + what for what in record['since']['notes']]
         for what, names in record['since']['groups'] or [['nothing is new and nothing is gone', []]]:
             lines += ['  %s %s' % (number(len(names)), what) if names else '  ' + what] + ['      ' + printable(name) for name in names]
     lines += ['', 'Counts'] + text_table(None, counted(record))
@@ -189,18 +200,19 @@ class Links:
 
     def __init__(self, record, page):
         self.start, self.folder = page and os.path.dirname(os.path.realpath(page)), record['folder']
-        self.kept = {row['name']: row['kept'] for row in record['cases'] if row['kept']}
-        self.names = {row['name'] for row in record['cases']}
+        self.rows = {row['name']: row for row in record['cases']}
 
     def link(self, path, text):
         return '<a href="%s">%s</a>' % (html.escape(quote(os.fsencode(os.path.relpath(path, self.start)))), html.escape(text))
 
     def case(self, name):
         """A case's name with its links; only its name where there is no page that could link, or no such case."""
-        if not self.start or name not in self.names:
+        if not self.start or name not in self.rows:
             return html.escape(printable(name))
-        kept = ' (%s)' % self.link(self.kept[name], 'output') if name in self.kept else ''
-        return self.link(os.path.join(self.folder, name), printable(name)) + kept
+        row = self.rows[name]
+        beside = [self.link(path, 'output' if path.endswith('.got') else 'standard error') for path in row['kept']]
+        beside += ['its output is not kept: ' + html.escape(row['unkept'])] if row['unkept'] else []
+        return self.link(os.path.join(self.folder, name), printable(name)) + (' (%s)' % ', '.join(beside) if beside else '')
 
 
 def html_rows(heads, classes, rows):
@@ -242,8 +254,9 @@ def html_groups(record, links):
                 [html_names(what, names, links) for what, names in list(same.items())[:LISTED]]
                 + (['<p>.. and %s more faults; the text page lists them all.</p>' % number(more)] if more > 0 else [])), 'first')
     if record['since']:
-        yield section(since_title(record['since']), '\n'.join(
-            html_names(what, names, links) for what, names in record['since']['groups']) or 'Nothing is new and nothing is gone.')
+        notes = ''.join('<p>%s</p>' % html.escape(what) for what in record['since']['notes'])
+        yield section(since_title(record['since']), notes + ('\n'.join(
+            html_names(what, names, links) for what, names in record['since']['groups']) or 'Nothing is new and nothing is gone.'))
 
 
 def html_tables(record, links):
@@ -254,7 +267,7 @@ def html_tables(record, links):
     yield section('Traps by cause', html_rows(['traps', 'cause', ''], ['n', 'n', ''], escaped(traps(record))))
     yield '</div>'
     if len(folders(record)) > 1:
-        yield section('By folder', html_rows(['files', 'events', 'folder', 'faults'], ['n', 'n', 'name', ''], escaped(folders(record))))
+        yield section('By folder', html_rows(['files', 'events', 'folder', 'faults'], ['n', 'n', 'name', 'whole'], escaped(folders(record))))
     yield section('Refused files', html_refused(record, links) or 'None.')
     yield section('This run', html_rows(None, ['', ''], escaped(about(record))), 'about')
 
