@@ -76,6 +76,15 @@ static void words(void)
            machine.state.x[1][7], word);
 }
 
+/* Writes what is still held back. Where not all could be written (a full disk, say), says so; the exit status. */
+static int written(void)
+{
+    if (fflush(stdout) == 0 && !ferror(stdout))
+        return 0;
+    perror("standard output");
+    return 1;
+}
+
 int main(void)
 {
     start();
@@ -106,5 +115,5 @@ int main(void)
     run("with a budget of 2", events, 5, 2);
     events[4] = floecavern_event_step(7);
     run("with an event of hart 7", events, 5, SIZE_MAX);
-    return 0;
+    return written();
 }

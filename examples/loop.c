@@ -9,6 +9,15 @@
 
 #include "floecavern.h"
 
+/* Writes what is still held back. Where not all could be written (a full disk, say), says so; the exit status. */
+static int written(void)
+{
+    if (fflush(stdout) == 0 && !ferror(stdout))
+        return 0;
+    perror("standard output");
+    return 1;
+}
+
 int main(void)
 {
     /* A word more than a block may have: a longer one is refused whatever its words, so that the rest is only counted. */
@@ -17,9 +26,13 @@ int main(void)
     size_t total = fread(words, 1, sizeof words, stdin), more;
     while ((more = fread(rest, 1, sizeof rest, stdin)) > 0)
         total += more;
+    if (ferror(stdin)) {
+        perror("standard input");
+        return 1;
+    }
     if (total % 4 != 0) {
         printf("bad input: length is not a multiple of 4\n");
-        return 0;
+        return written();
     }
     floecavern_verdict verdict = floecavern_check_words(words, total / 4 > 17 ? 17 : total / 4);
     if (verdict.refusal != FLOECAVERN_REFUSAL_NONE)
@@ -28,5 +41,5 @@ int main(void)
         printf("rejected %" PRIu64 " %d\n", verdict.place, (int)verdict.reason);
     else
         printf("accepted\n");
-    return 0;
+    return written();
 }

@@ -13,6 +13,15 @@
 static uint8_t file[65537];
 static floecavern_text text;
 
+/* Writes what is still held back. Where not all could be written (a full disk, say), says so; the exit status. */
+static int written(void)
+{
+    if (fflush(stdout) == 0 && !ferror(stdout))
+        return 0;
+    perror("standard output");
+    return 1;
+}
+
 int main(int argc, char **argv)
 {
     if (argc != 2) {
@@ -33,5 +42,6 @@ int main(int argc, char **argv)
     floecavern_refused_at refused = floecavern_report_text(file, n, &text);
     if (refused.refusal != FLOECAVERN_REFUSAL_NONE)
         fprintf(stderr, "%s: %s (byte %" PRIu64 ")\n", argv[1], floecavern_refusal_text(refused.refusal), refused.place);
-    return fwrite(text.bytes, 1, text.len, stdout) == text.len ? 0 : 1;
+    fwrite(text.bytes, 1, text.len, stdout);
+    return written();
 }

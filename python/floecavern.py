@@ -4,7 +4,7 @@ In the repository's root, after `rt staticlib capi`, on x86-64 Linux:
 
     cc -shared -o target/libfloecavern.so -Wl,--whole-archive target/staticlib/libcapi.a -Wl,--no-whole-archive
 
-FLOECAVERN_SO names a shared object at another place. Python 3.9 or later, no dependencies.
+FLOECAVERN_SO names a shared object at another place; a relative name counts from the current folder. Python 3.9 or later, no dependencies.
 
     import floecavern
     machine = floecavern.Machine(2, 0, 128)                     # two harts with their pc at 0, 128 bytes of memory there
@@ -42,7 +42,7 @@ def _library():
     path = os.environ.get('FLOECAVERN_SO', os.path.join(ROOT, 'target', 'libfloecavern.so'))
     if not os.path.exists(path):
         raise OSError('%s is missing. In the repository, after `rt staticlib capi`: %s' % (path, BUILD))
-    library = ctypes.CDLL(path)
+    library = ctypes.CDLL(os.path.abspath(path))                # a name without a folder would be looked for among the system's libraries
     lent, read, number, size = ctypes.c_void_p, ctypes.c_char_p, ctypes.c_uint64, ctypes.c_size_t
     machine = [lent, size, number, lent, size]
     for name, arguments in [('report', [read, size, lent, size]), ('check_loop', [read, size]),
@@ -256,11 +256,13 @@ class Event:
     data: int = 0
 
     def __post_init__(self):
+        for name, bits in [('kind', 8), ('hart', 8), ('size', 8), ('addr', 64), ('data', 64)]:
+            object.__setattr__(self, name, _number(name, getattr(self, name), bits))
         used = {1: ['hart'], 2: ['size', 'addr', 'data'], 3: ['hart']}.get(self.kind)
         if used is None:
-            raise ValueError('kind is %r: not 1, 2 or 3' % (self.kind,))
-        for name, bits in [('hart', 8), ('size', 8), ('addr', 64), ('data', 64)]:
-            if _number(name, getattr(self, name), bits) != 0 and name not in used:
+            raise ValueError('kind is %d: not 1, 2 or 3' % self.kind)
+        for name in ['hart', 'size', 'addr', 'data']:
+            if getattr(self, name) != 0 and name not in used:
                 raise ValueError('%s is %d: an event of kind %d has none' % (name, getattr(self, name), self.kind))
         if self.size <= 8:
             _number('data', self.data, 8 * self.size)
@@ -287,6 +289,18 @@ class Event:
 def _read(data):
     """A copy of bytes, so that it overlaps nothing that is written. A number or a text isn't bytes."""
     return bytes(memoryview(data))
+
+
+def _words(words):
+    """A list of words, numbers of 32 bits. Bytes, and any other buffer whose items aren't 4 bytes, hold no words."""
+    try:
+        with memoryview(words) as view:
+            size = view.itemsize
+    except TypeError:
+        size = None
+    if size not in (None, 4) or isinstance(words, str):
+        raise TypeError('%s is no list of words%s' % (type(words).__name__, '' if size is None else ': its items have a length of %d' % size))
+    return [_number('word', word, 32) for word in words]
 
 
 def _lent(state, mem):
@@ -374,11 +388,8 @@ def report(file):
 
 def check_loop(words):
     """Whether a block of instruction words, numbers of 32 bits, is a retry loop that is accepted. Refusal 6."""
-    if isinstance(words, (bytes, bytearray, str)):
-        raise TypeError('a block is a list of words, not %s' % type(words).__name__)
-    words = [_number('word', word, 32) for word in words]
     # A block of 17 or more words is refused whatever the words are, so that 17 of them say it.
-    block = b''.join(struct.pack('<I', word) for word in words[:17])
+    block = b''.join(struct.pack('<I', word) for word in _words(words)[:17])
     answer = _library().floecavern_check_loop(block, len(block))
     assert answer != _BAD_SIZE, 'whole words'
     if answer == 0:
@@ -434,7 +445,7 @@ class Machine:
     def put_words(self, addr, words):
         """Puts words into memory from `addr` on, 4 bytes each with the lowest first. This is no event: it breaks no reservation.
         Refusal 5, and nothing is written, if they aren't wholly in memory."""
-        data = b''.join(struct.pack('<I', _number('word', word, 32)) for word in words)
+        data = b''.join(struct.pack('<I', word) for word in _words(words))
         part = self._part(addr, len(data))
         if part is None:
             raise Refused(Refusal.DEVICE_ADDRESS)

@@ -2,6 +2,7 @@
 import os
 import re
 import resource
+import shutil
 import stat
 import subprocess
 import sys
@@ -13,6 +14,13 @@ import casefile
 import casetext
 
 START = 'memory 64\nhart 0\n'
+# Every place of a number in a text, and the line that it is on.
+NUMBERS = [('base %s', 1), ('memory %s', 1)] + [(START + line, 3) for line in ('x5=%s', 'pc=%s', 'at %s')] + [
+    (START + 'at 0\n' + line, 4) for line in (
+        '.byte %s', '.half 1 %s', '.word 1,%s', '.dword %s', '.space %s', '.space 1,%s', '.align %s', '.balign %s', '.align 2,%s', '.align 2,0,%s',
+        'li x5,%s', 'addi x1,x2,%s', 'lw x1,%s(x2)', 'sw x1,%s(x2)', 'jalr x1,%s(x2)', 'jr %s(x5)', 'lui x1,%s', 'slli x1,x2,%s', 'slliw x1,x2,%s',
+        'beq x1,x2,%s', 'jal x1,%s', 'bnez x5,%s', 'j %s', 'fence x0,x0,%s')] + [
+    (START + 'events\n' + line, 4) for line in ('step %s', 'yield %s', 'step 0 times %s', 'device %s 1 0', 'device 0 %s 0', 'device 0 1 %s')]
 
 
 def documented():
@@ -98,7 +106,8 @@ class Make(unittest.TestCase):
                 ('zork', 1, 'base, memory, hart, elf, at or events'), ('', 1, 'memory LENGTH'), ('memory 64\n', 2, 'without a hart'),
                 ('base 3', 1, 'no multiple of 64'), ('base 0x10000000040', 1, 'not 0x0 to'), ('base 0\nbase 0', 2, 'twice'), ('base', 1, 'write base'),
                 ('memory 65', 1, 'no multiple of 64'), ('memory 0', 1, 'not 0x40'), ('memory 64\nmemory 64', 2, 'twice'), ('memory x', 1, 'no number'),
-                ('hart 1', 1, 'write hart 0'), (START + 'hart 0', 3, 'write hart 1'), ('memory 64' + ''.join('\nhart %d' % k for k in range(9)), 10, 'at most 8'),
+                ('hart 1', 1, 'write hart 0'), (START + 'hart 0', 3, 'write hart 1'),
+                ('memory 64' + ''.join('\nhart %d' % k for k in range(9)), 10, 'at most 8'),
                 (START + 'x5', 3, 'NAME=VALUE'), (START + 'x99=1', 3, 'neither pc nor a register'), (START + 'x5=1 t0=2', 3, 'twice'),
                 (START + 'pc=2', 3, 'no multiple of 4'), (START + 'x0=1', 3, 'always zero'), (START + 'x5=0x10000000000000000', 3, 'x5: '),
                 (START + 'x5=here', 3, 'no label here'), (START + 'at 0\n\nfoo x1', 5, 'no instruction'), (START + 'at 0\nbeq x1,x2,here', 4, 'no label here'),
@@ -119,6 +128,29 @@ class Make(unittest.TestCase):
                 casetext.make(text + '\n')
             self.assertIn(what, str(caught.exception))
             self.assertEqual(caught.exception.line, line, text)
+
+    def refused_numbers(self, numbers, what):
+        """Each of the numbers is refused at each place, with its line and in few words."""
+        for text, line in NUMBERS:
+            for number in numbers:
+                with self.assertRaises(casetext.TextError, msg=(text, number[:40])) as caught:
+                    casetext.make(text % number + '\n')
+                self.assertIn(what, str(caught.exception))
+                self.assertLess(len(str(caught.exception)), 160)
+                self.assertEqual(caught.exception.line, line, text)
+
+    def test_leading_zeros(self):
+        """GNU as takes 010 for 8."""
+        self.refused_numbers(('010', '-010', '00', '-00', '08', '0' * 5000), 'has a leading zero')
+        for good in ('0', '-0', '0x0', '0x0010', '-0x0010', '0x' + '0' * 5000 + '10'):
+            case = casefile.read(casetext.make(START + 'x5=%s\nat 0\n.dword %s\nevents\n' % (good, good)))
+            self.assertEqual((case.harts[0].registers[4], int.from_bytes(case.memory[:8], 'little')), (int(good, 16) % (1 << 64),) * 2)
+
+    def test_long_numbers(self):
+        """Python refuses to convert a decimal number of more than 4300 digits."""
+        self.refused_numbers(('9' * 5000, '-' + '9' * 5000, '0x' + 'f' * 5000, '-0x1' + '0' * 16, '1' + '0' * 20), 'is out of range: it has more than 64 bits')
+        said = 'standard input:3: x5: %s.. (5000 characters) is out of range: it has more than 64 bits\n' % ('9' * 20)
+        self.assertEqual(command(CASE, 'make', given=(START + 'x5=' + '9' * 5000).encode()), (1, b'', said))
 
     def test_no_text(self):
         self.assertEqual(command(CASE, 'make', given=b'\xff'), (1, b'', 'standard input:1: no text: the byte 0xff at 0 is not UTF-8\n'))
@@ -188,10 +220,80 @@ class NoRoom(unittest.TestCase):
 
     @unittest.skipUnless(os.path.exists('/dev/full'), 'there is no /dev/full')
     def test_full_device(self):
-        for args in (['make'], ['show', EXAMPLE]):
+        for args in (['make'], ['show', EXAMPLE], ['--help'], ['make', '--help']):
             with open('/dev/full', 'wb') as full:
                 done = subprocess.run([sys.executable, CASE, *args], input=documented().encode(), stdout=full, stderr=subprocess.PIPE)
             self.assertEqual((done.returncode, done.stderr), (1, b'tools/case: standard output: No space left on device\n'))
+
+
+class Closed(unittest.TestCase):
+    """Standard streams that are closed: Python has None for each."""
+
+    def closed(self, how, *args, given=documented().encode()):
+        done = subprocess.run(['/bin/sh', '-c', 'exec "$@" ' + how, 'sh', sys.executable, CASE, *args], input=given, capture_output=True)
+        return done.returncode, done.stdout, done.stderr.decode()
+
+    def test_output(self):
+        for args in (['make'], ['show', EXAMPLE], ['show', EXAMPLE, '--lines', EXAMPLE_LINES], ['--help']):
+            self.assertEqual(self.closed('>&-', *args), (1, b'', 'tools/case: standard output: Bad file descriptor\n'))
+
+    def test_output_that_is_not_used(self):
+        with tempfile.TemporaryDirectory() as folder:
+            out = os.path.join(folder, 'a.case')
+            self.assertEqual(self.closed('>&-', 'make', '-o', out), (0, b'', ''))
+            self.assertEqual((os.listdir(folder), data(out)), (['a.case'], data(EXAMPLE)))
+
+    def test_input(self):
+        for args in (['make'], ['show', '-'], ['show', EXAMPLE, '--lines', '-']):
+            self.assertEqual(self.closed('<&-', *args), (1, b'', 'tools/case: standard input: Bad file descriptor\n'))
+
+    def test_input_that_is_not_for_reading(self):
+        with tempfile.TemporaryDirectory() as folder:
+            said = 'tools/case: standard input: Bad file descriptor\n'
+            self.assertEqual(self.closed('0>"%s"' % os.path.join(folder, 'a'), 'make'), (1, b'', said))
+
+    def test_warnings(self):
+        """A warning that has nowhere to go doesn't go into the case."""
+        self.assertEqual(self.closed('2>&-', 'make', given=START.encode()), (0, casetext.make(START), ''))
+
+
+class Inputs(unittest.TestCase):
+    """The text isn't replaced by its case, by whatever name."""
+
+    def setUp(self):
+        folder = tempfile.TemporaryDirectory()
+        self.addCleanup(folder.cleanup)
+        self.folder, self.text = folder.name, os.path.join(folder.name, 'my.txt')
+        with open(self.text, 'w') as file:
+            file.write(documented())
+
+    def named(self, name):
+        return os.path.join(self.folder, name)
+
+    def assert_kept(self, output, done):
+        self.assertEqual(done, (1, b'', 'tools/case: %s: it is the text, and stays as it is\n' % output))
+        self.assertEqual(data(self.text), documented().encode())
+        self.assertEqual([name for name in os.listdir(self.folder) if name.startswith('.')], [])
+
+    def test_names(self):
+        os.symlink('my.txt', self.named('link'))
+        os.link(self.text, self.named('hard'))
+        os.symlink('.', self.named('folder'))
+        os.symlink('hard', self.named('to-hard'))
+        for output in ('my.txt', 'link', 'hard', 'folder/my.txt', 'to-hard', './my.txt'):
+            self.assert_kept(self.named(output), command(CASE, 'make', self.text, '-o', self.named(output)))
+            self.assert_kept(self.text, command(CASE, 'make', self.named(output), '-o', self.text))
+
+    def test_standard_streams(self):
+        for args, how, name in (([self.text], '>>"$0"', 'standard output'), (['-o', self.text], '<"$0"', self.text),
+                                (['-'], '<"$0" 1<>"$0"', 'standard output')):
+            done = subprocess.run(['/bin/sh', '-c', 'exec "$@" ' + how, self.text, sys.executable, CASE, 'make', *args], capture_output=True)
+            self.assert_kept(name, (done.returncode, done.stdout, done.stderr.decode()))
+
+    def test_a_copy_is_another_file(self):
+        shutil.copy(self.text, self.named('copy'))
+        self.assertEqual(command(CASE, 'make', self.text, '-o', self.named('copy')), (0, b'', ''))
+        self.assertEqual(data(self.named('copy')), data(EXAMPLE))
 
 
 class Show(unittest.TestCase):
@@ -208,10 +310,34 @@ class Show(unittest.TestCase):
         self.assertEqual((status, err), (1, '-: event 3 (h1) has no line\n'))
         self.assertRegex(out.decode(), r'(?m)^  step 1 +# 3: no line$')
 
+    def test_long_numbers(self):
+        """A line with a number that Python doesn't convert is a wrong line like another."""
+        long = b'9' * 5000 + b' h1 sc 0\n'
+        status, out, err = command(CASE, 'show', EXAMPLE, '--lines', '-', given=data(EXAMPLE_LINES).replace(b'3 h1 sc 0\n', long))
+        self.assertEqual((status, err), (1, '-: event 3 (h1) has no line\n-: a line of no event: %r\n' % ('9' * 60)))
+        self.assertRegex(out.decode(), r'(?m)^  step 1 +# 3: no line$')
+        case, text = casefile.read(data(EXAMPLE)), data(EXAMPLE_LINES).decode()
+        for old, new in (('2 h1 ok', long.decode()[:-1]), ('h1 sc 0', 'h%s sc 0' % ('1' * 5000)), ('end 5', 'end ' + '5' * 5000),
+                         ('case 2', 'case ' + '2' * 5000), ('sc 0', 'trap %s 0' % ('1' * 5000))):
+            self.assertEqual(text.count(old), 1)
+            self.assertNotEqual(casefile.faults(case, text.replace(old, new)), [])
+        self.assertIsNone(casefile.right_line(3, case.events[3], long.decode()))
+        self.assertEqual(casefile.numbered(['1 d ok', long.decode()]), {1: ['1 d ok'], None: [long.decode()]})
+
+    def test_control_characters(self):
+        """What a terminal would obey is printed as an escape."""
+        given = data(EXAMPLE_LINES).replace(b'3 h1 sc 0', b'3 h1 \x1b[2J\r\t\0\x7f\x9b\xc3\xa4')
+        status, out, err = command(CASE, 'show', EXAMPLE, '--lines', '-', given=given)
+        self.assertEqual(status, 1)
+        self.assertRegex(out.decode('ascii'), r'(?m)^  step 1 +# 3 h1 \\x1b\[2J\\r\\t\\x00\\x7f\\x9b\\xc3\\xa4$')
+        self.assertRegex((out.decode('ascii') + err).replace('\n', ''), r'^[ -~]+$')
+        self.assertEqual(command(CASE, 'make', given=out), (0, data(EXAMPLE), ''))
+
     def test_bad_files(self):
         good = data(EXAMPLE)
         for given, what in ((b'', 'refused 7 0'), (b'\1' + good[1:], 'refused 8 0'), (good + b'\0', 'refused 8 36'),
-                            (good[:40] + b'\1' + good[41:], 'refused 9 40: harts: the base'), (good[:697] + b'\2' + good[698:], 'refused 11 696: events: event 0: hart 2')):
+                            (good[:40] + b'\1' + good[41:], 'refused 9 40: harts: the base'),
+                            (good[:697] + b'\2' + good[698:], 'refused 11 696: events: event 0: hart 2')):
             status, out, err = command(CASE, 'show', '-', given=given)
             self.assertEqual((status, out), (1, b''))
             self.assertTrue(err.startswith('standard input: no case: ' + what), err)

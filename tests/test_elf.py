@@ -86,6 +86,30 @@ class Loaded(Files):
         status, out, err = command(CASE, 'make', text)
         self.assertEqual((status, err, casefile.read(out).memory[:8]), (0, '', CODE))
 
+    def test_comments(self):
+        """A # inside a name is part of it."""
+        other = program(LOAD, content=CODE[::-1])
+        for name, content in (('prog', program(LOAD)), ('prog#2.elf', other), ('prog##', other), ('#', other)):
+            self.put(name, content)
+        for line, code in (('elf prog', CODE), ('elf prog #2.elf', CODE), ('elf prog\t# x', CODE), ('elf prog#2.elf', CODE[::-1]),
+                           ('  elf\tprog#2.elf # elf prog', CODE[::-1]), ('elf prog##  ## x', CODE[::-1]), ('elf ./#', CODE[::-1])):
+            self.assertEqual(self.case(b'', TEXT.replace('elf a.elf', line)).memory[:8], code, line)
+        for line, what in (('elf #', 'write elf FILE'), ('elf#prog', 'write elf FILE'), ('elf prog#3.elf', 'elf prog#3.elf: No such file'),
+                           ('elf prog# x', 'elf prog# x: No such file')):
+            with self.assertRaisesRegex(casetext.TextError, what):
+                self.case(b'', TEXT.replace('elf a.elf', line))
+
+    def test_it_is_not_replaced(self):
+        """The case isn't written over the program that it is made of, by whatever name."""
+        made, text = self.put('a.elf', program(LOAD)), self.put('a.txt', TEXT.encode())
+        link, hard = os.path.join(self.folder, 'link'), os.path.join(self.folder, 'hard')
+        os.symlink('a.elf', link)
+        os.link(made, hard)
+        for output in (made, link, hard):
+            said = 'tools/case: %s: it is the file of an elf line, and stays as it is\n' % output
+            self.assertEqual(command(CASE, 'make', text, '-o', output), (1, b'', said))
+            self.assertEqual(data(output), program(LOAD))
+
     def test_compressed(self):
         warnings = []
         self.case(program(LOAD, flags=5), warnings=warnings)

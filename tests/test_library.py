@@ -2,11 +2,13 @@
 import os
 import re
 import shutil
+import socket
 import subprocess
 import tempfile
 import unittest
 
 from common import EXAMPLE, EXAMPLE_LINES, ROOT, data
+import casetext
 
 LIBRARY = os.path.join(ROOT, 'target', 'staticlib', 'libcapi.a')
 CC, CXX = shutil.which('cc'), shutil.which('c++')
@@ -308,8 +310,8 @@ class Library(unittest.TestCase):
     def output(self, source, *args, given=b'', compiler=CC, language='c', standard='c11'):
         """What a program prints, compiled with every warning an error."""
         program = os.path.join(self.folder, 'program')
-        made = subprocess.run([compiler, '-x', language, '-std=' + standard, '-Wall', '-Wextra', '-pedantic', '-Werror', '-I' + os.path.join(ROOT, 'include'), source,
-                               '-x', 'none', LIBRARY, '-pthread', '-o', program], capture_output=True)
+        made = subprocess.run([compiler, '-x', language, '-std=' + standard, '-Wall', '-Wextra', '-pedantic', '-Werror',
+                               '-I' + os.path.join(ROOT, 'include'), source, '-x', 'none', LIBRARY, '-pthread', '-o', program], capture_output=True)
         self.assertEqual((made.returncode, made.stderr.decode()), (0, ''))
         done = subprocess.run([program, *args], input=given, capture_output=True)
         self.assertEqual((done.returncode, done.stderr), (0, b''))
@@ -332,8 +334,8 @@ class Library(unittest.TestCase):
         self.assertEqual(self.example('loop', given=data(os.path.join(crate, 'stdin'))), data(os.path.join(crate, 'stdout')))
 
     def test_loop_lengths(self):
-        for length, line in [(0, b'refused 6'), (67, b'bad input: length is not a multiple of 4'), (68, b'refused 6'), (69, b'bad input: length is not a multiple of 4'),
-                             (72, b'refused 6')]:
+        bad = b'bad input: length is not a multiple of 4'
+        for length, line in [(0, b'refused 6'), (67, bad), (68, b'refused 6'), (69, bad), (72, b'refused 6')]:
             self.assertEqual(self.example('loop', given=bytes(length)), line + b'\n')
 
     def test_events(self):
@@ -357,16 +359,62 @@ class Library(unittest.TestCase):
                         printed = self.output(source, EXAMPLE, compiler=compiler, language=language, standard=standard)
                         self.assertEqual(printed.decode(), TEXTS)
 
+    def built(self, name):
+        program = os.path.join(self.folder, name)
+        subprocess.run([CC, '-I' + os.path.join(ROOT, 'include'), os.path.join(ROOT, 'examples', name + '.c'), LIBRARY, '-o', program], check=True)
+        return program
+
     def test_refused_report(self):
         """The example's exit status is that of writing; why a file is refused goes to standard error."""
-        program = os.path.join(self.folder, 'report')
-        subprocess.run([CC, '-I' + os.path.join(ROOT, 'include'), os.path.join(ROOT, 'examples', 'report.c'), LIBRARY, '-o', program], check=True)
-        done = subprocess.run([program, self.written('empty', '')], capture_output=True)
+        done = subprocess.run([self.built('report'), self.written('empty', '')], capture_output=True)
         self.assertEqual((done.returncode, done.stdout), (0, b'refused 7 0\n'))
         self.assertRegex(done.stderr.decode(), "empty: the file's length is not 40 to 65536 \\(byte 0\\)\n$")
 
+    def long_case(self):
+        """A case with more lines than C holds back."""
+        path = os.path.join(self.folder, 'long.case')
+        with open(path, 'wb') as file:
+            file.write(casetext.make('memory 64\nhart 0\nevents\nstep 0 times 2000\n'))
+        return path
+
+    def test_output_that_is_lost(self):
+        """The examples tell that not all could be written: on a full disk, and where standard output is closed."""
+        crate = os.path.join(ROOT, 'crates', 'loopcheck')
+        for name, args, given in [('report', [EXAMPLE], b''), ('report', [self.long_case()], b''), ('events', [], b''),
+                                  ('loop', [], data(os.path.join(crate, 'stdin'))), ('loop', [], b''), ('loop', [], b'abc')]:
+            program = self.built(name)
+            with open('/dev/full', 'wb') as full:
+                done = subprocess.run([program, *args], input=given, stdout=full, stderr=subprocess.PIPE)
+            self.assertEqual((done.returncode, done.stderr), (1, b'standard output: No space left on device\n'), name)
+            done = subprocess.run(['/bin/sh', '-c', 'exec "$@" >&-', 'sh', program, *args], input=given, capture_output=True)
+            self.assertEqual((done.returncode, done.stderr), (1, b'standard output: Bad file descriptor\n'), name)
+
+    def test_input_that_is_not_read(self):
+        """An input that can't be read, or not to its end, is no block."""
+        program = self.built('loop')
+        given = os.open(self.folder, os.O_RDONLY)
+        done = subprocess.run([program], stdin=given, capture_output=True)
+        os.close(given)
+        self.assertEqual((done.returncode, done.stdout, done.stderr), (1, b'', b'standard input: Is a directory\n'))
+        done = subprocess.run(['/bin/sh', '-c', 'exec "$@" <&-', 'sh', program], capture_output=True)
+        self.assertEqual((done.returncode, done.stdout, done.stderr), (1, b'', b'standard input: Bad file descriptor\n'))
+        for sent in (16, 68, 5000):
+            mine, other = socket.socketpair()
+            with mine, subprocess.Popen([program], stdin=mine, stdout=subprocess.PIPE, stderr=subprocess.PIPE) as process:
+                mine.sendall(b'unread')
+                other.sendall(bytes(sent))
+                other.close()
+                self.assertEqual(process.communicate(), (b'', b'standard input: Connection reset by peer\n'))
+            self.assertEqual(process.returncode, 1)
+
 
 class Versions(unittest.TestCase):
+    def test_rust(self):
+        """offset_of! came with Rust 1.77, whose Cargo reads lock files of format 3 and none above."""
+        self.assertIn('\nrust-version = "1.77"\n', data(os.path.join(ROOT, 'rust', 'Cargo.toml')).decode())
+        self.assertIn('\nversion = 3\n', data(os.path.join(ROOT, 'rust', 'Cargo.lock')).decode())
+        self.assertTrue(b'Rust 1.77 or later' in data(os.path.join(ROOT, 'docs', 'USING.md')))
+
     def test_one_version(self):
         header = data(os.path.join(ROOT, 'include', 'floecavern.h')).decode()
         numbers = [re.search(r'#define FLOECAVERN_VERSION_%s (\d+)\n' % part, header).group(1) for part in ['MAJOR', 'MINOR', 'PATCH']]

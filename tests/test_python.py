@@ -1,5 +1,6 @@
 """python/floecavern.py over a shared object of the static library, which is made by the command that the documents give."""
 import copy
+import ctypes
 import os
 import pickle
 import re
@@ -226,7 +227,16 @@ class Values(Refuses):
                        {'kind': 1, 'hart': 256}]:
             self.assertRaises(ValueError, Event, **fields)
         self.assertRaises(ValueError, Event.device_write, 64, 256, 0)
-        self.assertEqual(Event.device_write(0x1048, 3, 2**64 - 2).to_bytes(), bytes([2, 0, 3, 0, 0, 0, 0, 0, 0x48, 0x10, 0, 0, 0, 0, 0, 0, 0xfe, 0xff, 0xff, 0, 0, 0, 0, 0]))
+        self.assertEqual(Event.device_write(0x1048, 3, 2**64 - 2).to_bytes(),
+                         bytes([2, 0, 3, 0, 0, 0, 0, 0, 0x48, 0x10, 0, 0, 0, 0, 0, 0, 0xfe, 0xff, 0xff, 0, 0, 0, 0, 0]))
+        for bad in [1.0, 2.0, 3.0, '1', None, [1]]:
+            self.assertRaises(TypeError, Event, bad)
+
+        class One:
+            def __index__(self):
+                return 1
+
+        self.assertEqual((Event(One(), hart=One()), Event(True)), (Event(1, hart=1), Event(1)))
         for bad in [bytes(24), None, 1]:
             self.unchanged(TypeError, run, [Event.step(0), bad])
             self.assertRaises(TypeError, machine().perform, bad)
@@ -242,6 +252,20 @@ class Values(Refuses):
             self.unchanged(TypeError, run_bytes, bad)
         for bad in [bytes(8), bytearray(8), 'text', None, 5]:
             self.assertRaises(TypeError, check_loop, bad)
+
+    def test_words(self):
+        """A buffer of bytes isn't taken for words; numbers are, and a buffer of items of 4 bytes."""
+        block = b''.join(word.to_bytes(4, 'little') for word in LOOP)
+        m = machine(words=[])
+        for bad in [block, bytearray(block), memoryview(block), memoryview(block).cast('H'), memoryview(block).cast('Q'), array('B', block), array('H', block),
+                    array('Q', LOOP), array('b', [0] * 8), (ctypes.c_uint8 * 16)(), (ctypes.c_uint64 * 4)(*LOOP), b'', bytearray(), 'text', '', None, 5]:
+            self.assertRaises(TypeError, check_loop, bad)
+            self.assertRaises(TypeError, m.put_words, 0, bad)
+        self.assertEqual(m, machine(words=[]))
+        for good in [LOOP, tuple(LOOP), array('I', LOOP), memoryview(array('I', LOOP)), memoryview(block).cast('I'), (ctypes.c_uint32 * 4)(*LOOP)]:
+            m = machine(words=[])
+            m.put_words(0, good)
+            self.assertEqual((m.bytes(0, 16), check_loop(good), check_loop(iter(good))), (block, Verdict(True), Verdict(True)))
 
     def test_events_in_the_memory(self):
         """A body that is part of the memory it runs on is read as it was."""
@@ -306,6 +330,15 @@ class Interface(unittest.TestCase):
         env = dict(os.environ, PYTHONPATH=os.path.join(ROOT, 'python'))
         done = subprocess.run([sys.executable, '-c', 'import floecavern\n' + code], env=env, capture_output=True, text=True)
         self.assertEqual((done.stdout, done.stderr), (printed + '\n', ''))
+
+    def test_relative_name(self):
+        """A shared object in the current folder, or named from it."""
+        folder, name = os.path.split(os.environ['FLOECAVERN_SO'])
+        for cwd, path in [(folder, name), (folder, './' + name), (os.path.dirname(folder), os.path.join(os.path.basename(folder), name))]:
+            env = dict(os.environ, FLOECAVERN_SO=path, PYTHONPATH=os.path.join(ROOT, 'python'))
+            code = 'import floecavern; print(floecavern.report_text(b""), end="")'
+            done = subprocess.run([sys.executable, '-c', code], env=env, cwd=cwd, capture_output=True, text=True)
+            self.assertEqual((done.stdout, done.stderr), ('refused 7 0\n', ''))
 
     def test_missing(self):
         env = dict(os.environ, FLOECAVERN_SO='/nowhere/libfloecavern.so', PYTHONPATH=os.path.join(ROOT, 'python'))

@@ -141,10 +141,10 @@ def header(case):
 
 
 def numbered(lines):
-    """The lines under the number that each starts with; under None those that start with none."""
+    """The lines under the number that each starts with; under None those that start with none, or with one that no event has."""
     found = {}
     for line in lines:
-        match = re.match(r'(0|[1-9][0-9]*) ', line)
+        match = re.match(r'(0|[1-9][0-9]{0,8}) ', line)      # Python doesn't convert a number of thousands of digits
         found.setdefault(int(match.group(1)) if match else None, []).append(line)
     return found
 

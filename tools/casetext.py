@@ -1,6 +1,6 @@
 """The text of a case:
 
-  # a comment goes to the end of its line; blank lines and indentation are free
+  # a comment goes to the end of its line (in an elf line it starts behind a space); blank lines and indentation are free
   base 0                    the memory's first address: a multiple of 64, at most 2^40 (0 if not given)
   memory 128                the memory's length in bytes, a multiple of 64
   hart 0 pc=0 x5=64         a hart, numbered from 0; what isn't given is zero, and pc the base (or an elf's entry)
@@ -20,12 +20,12 @@
     device 72 1 0x00        a device writes at address 72 one byte, 0x00 (1 to 8 bytes, the lowest byte first)
     yield 0                 hart 0's reservation is dropped
 
-Numbers are decimal, or hex after 0x; a register's and a .word's may be negative. A label may stand for a number where an address makes sense:
-registers, pc, .word, .dword, a device write's address. Registers are x0 to x31 or the ABI names. Instructions are those of the model: RV64I
-without FENCE.I and CSRs, lr, sc and amo* with .w or .d, amocas with .w, .d or .q, each with .aq, .rl or .aqrl behind it or not; fence is
-`fence`, `fence PRED,SUCC`, `fence.tso`, or `fence rd,rs1,NUMBER` with its upper 12 bits as a number. These pseudo-instructions stand for the
-words that GNU as makes of them: nop, li (any number of 64 bits; up to 8 words), mv, not, neg, negw, sext.w, seqz, snez, sltz, sgtz, beqz,
-bnez, blez, bgez, bltz, bgtz, bgt, ble, bgtu, bleu, j, jr, ret.
+Numbers are decimal without a leading zero (GNU as reads 010 as 8), or hex after 0x; a register's and a .word's may be negative. A label may
+stand for a number where an address makes sense: registers, pc, .word, .dword, a device write's address. Registers are x0 to x31 or the ABI
+names. Instructions are those of the model: RV64I without FENCE.I and CSRs, lr, sc and amo* with .w or .d, amocas with .w, .d or .q, each with
+.aq, .rl or .aqrl behind it or not; fence is `fence`, `fence PRED,SUCC`, `fence.tso`, or `fence rd,rs1,NUMBER` with its upper 12 bits as a
+number. These pseudo-instructions stand for the words that GNU as makes of them: nop, li (any number of 64 bits; up to 8 words), mv, not, neg,
+negw, sext.w, seqz, snez, sltz, sgtz, beqz, bnez, blez, bgez, bltz, bgtz, bgt, ble, bgtu, bleu, j, jr, ret.
 
 An example, which is crates/floecavern/stdin: two harts, an LR and an SC each, and a device write between them.
 
@@ -70,7 +70,7 @@ class Maker:
         self.folder = folder                                 # from where an elf line's file is named
         self.base = self.length = self.place = self.section = self.entry = None
         self.labels, self.harts, self.pieces, self.events = {}, [], [], []
-        self.has_events, self.warnings = False, []
+        self.has_events, self.warnings, self.files = False, [], []
         self.code = False                                    # whether the line before in memory is an instruction
 
     def line(self, n, text):
@@ -98,7 +98,10 @@ class Maker:
         self.warnings.append((self.n, what))
 
     def number(self, text, low, high, what):
-        value = riscv.number(text)
+        try:
+            value = riscv.number(text)
+        except ValueError as error:
+            self.fail('%s: %s' % (what, error))
         if value is None:
             self.fail('%s: %r is no number' % (what, text))
         if not low <= value <= high:
@@ -167,6 +170,7 @@ class Maker:
         if self.entry is not None:
             self.fail('elf is given twice')
         path = os.path.join(self.folder, name)
+        self.files.append(path)
         if os.path.exists(path) and not os.path.isfile(path):    # a device might never end
             self.fail('elf %s: it is no file' % name)
         try:
@@ -344,19 +348,28 @@ class Maker:
         return Case(self.base, harts, memory, events)
 
 
-def make(text, warnings=None, folder='.'):
-    """The bytes of the case file that a text describes; (line, what) of each warning is put to the list. folder: from where the file of an elf
-    line is named. Raises TextError."""
+def uncommented(line):
+    """A line without its comment. The name of a file may have a #: in an elf line a comment starts behind a space."""
+    if line.split()[:1] == ['elf']:
+        return re.split(r'\s#', line, maxsplit=1)[0].strip()
+    return line.partition('#')[0].strip()
+
+
+def make(text, warnings=None, folder='.', files=None):
+    """The bytes of the case file that a text describes. folder: from where the file of an elf line is named. (line, what) of each warning and
+    the names of the files that were read are put to the lists. Raises TextError."""
     maker = Maker(folder)
     lines = text.removesuffix('\n').split('\n')
     for n, line in enumerate(lines, 1):
-        line = line.partition('#')[0].strip()
+        line = uncommented(line)
         if line:
             maker.line(n, line)
     maker.n = len(lines)
     data = write(maker.case())
     if warnings is not None:
         warnings += maker.warnings
+    if files is not None:
+        files += maker.files
     return data
 
 
@@ -404,10 +417,15 @@ def event_text(event):
     return '%s %d' % ('step' if event.kind == STEP else 'yield', event.hart)
 
 
+def printable(line):
+    """A line with an escape for each character that a terminal might obey."""
+    return re.sub(r'[^ -~]', lambda found: found.group().encode('unicode_escape').decode(), line)
+
+
 def event_line(number, event, lines):
     """An event with its number or, where lines are given, what the program wrote for it; behind a device write of a word, its disassembly."""
     mine = ['%d' % number] if lines is None else lines.get(number, ['%d: no line' % number])
-    comment = ' | '.join(mine)
+    comment = ' | '.join(map(printable, mine))
     if len(mine) == 1 and ' trap ' in comment and right_line(number, event, comment):
         comment += '  (%s)' % CAUSES[int(comment.split()[3])]
     if event.size == 4 and event.address % 4 == 0 and riscv.disassemble(event.data):

@@ -140,10 +140,18 @@ def target(word):
 # ---- a text to its word
 
 def number(text):
-    """The number that a text writes in decimal or, after 0x, in hex; None of any other text."""
-    if re.fullmatch(r'-?[0-9]+', text):
-        return int(text)
-    return int(text, 16) if re.fullmatch(r'-?0[xX][0-9a-fA-F]+', text) else None
+    """The number that a text writes in decimal or, after 0x, in hex; None of any other text. ValueError of one that no line takes: GNU as reads
+    a decimal with a leading zero as octal, and nothing has more than 64 bits. Python doesn't convert a decimal of thousands of digits at all."""
+    decimal = re.fullmatch(r'-?([0-9]+)', text)
+    if not decimal and not re.fullmatch(r'-?0[xX][0-9a-fA-F]+', text):
+        return None
+    shown = text if len(text) <= 40 else '%s.. (%d characters)' % (text[:20], len(text))
+    if decimal and len(decimal[1]) > 1 and decimal[1][0] == '0':
+        raise ValueError('%s has a leading zero, which is octal in GNU as: write it without, or in hex after 0x' % shown)
+    value = 1 << 64 if decimal and len(decimal[1]) > 20 else int(text, 10 if decimal else 16)
+    if abs(value) >> 64:
+        raise ValueError('%s is out of range: it has more than 64 bits' % shown)
+    return value
 
 
 def register(text):
@@ -172,10 +180,11 @@ def immediate(field, text, resolve, address):
 
 def operands(text):
     """The operands of a line without the spaces around them. A space inside one, or an empty one, is refused: what was meant isn't known."""
-    text = re.sub(r'\s*([,()])\s*', r'\1', text.strip())
-    inside = re.search(r'[^,()]*\s[^,()]*', text)
-    if inside:
-        raise ValueError('%r has a space inside: operands are separated by commas' % inside.group())
+    parts = [part.strip() for part in re.split(r'([,()])', text)]
+    for part in parts:
+        if len(part.split()) > 1:
+            raise ValueError('%r has a space inside: operands are separated by commas' % part)
+    text = ''.join(parts)
     if text.startswith(',') or text.endswith(',') or ',,' in text:
         raise ValueError('an operand beside a comma is empty')
     return text
