@@ -179,8 +179,10 @@ class Nightly(NightlyCase):
         with mock.patch('sys.stderr') as stream:
             stream.write.side_effect = OSError(28, 'No space left on device')
             nightlycases.tell('a line')
-        with mock.patch('sys.stderr', None):
+        with mock.patch('sys.stderr', None), mock.patch('sys.stdout') as stream:
             self.assertFalse(nightlycases.Progress(1).terminal)
+            nightlycases.tell('a line')
+            stream.write.assert_not_called()
 
     def test_a_program_that_floods_its_output(self):
         self.only_the_example()

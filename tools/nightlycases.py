@@ -200,7 +200,8 @@ def one(args, name, hashes, kept):
 def tell(text, end='\n'):
     """A line on standard error; where that can't be written, the night goes on without it."""
     try:
-        print(text, end=end, file=sys.stderr, flush=True)
+        if sys.stderr:         # None if it is closed; print would then take standard output
+            print(text, end=end, file=sys.stderr, flush=True)
     except (OSError, ValueError):
         pass
 
