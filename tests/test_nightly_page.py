@@ -1,9 +1,11 @@
 """tools/nightly: what its page, its counts and its JUnit file say."""
+import html
 import json
 import os
 import re
 import shutil
 import subprocess
+import tempfile
 import time
 import unittest
 import xml.etree.ElementTree as xml
@@ -12,6 +14,18 @@ from common import EXAMPLE, EXAMPLE_LINES, data
 from test_nightly import NightlyCase
 
 CHROMIUM = next(filter(None, map(shutil.which, ('chromium', 'chromium-browser', 'google-chrome'))), None)
+
+
+def shown_width(path, width):
+    """How wide a browser shows a page in a frame of this width, and how wide the frame is: a window can't be as narrow as a telephone."""
+    script = '<script>parent.document.title = "width " + document.documentElement.scrollWidth + " of " + window.innerWidth</script></body>'
+    page = html.escape(data(path).decode().replace('</body>', script))
+    with tempfile.TemporaryDirectory() as folder:
+        with open(os.path.join(folder, 'frame.html'), 'w') as file:
+            file.write('<title></title><iframe srcdoc="%s" style="border: 0; width: %dpx; height: 800px"></iframe>' % (page, width))
+        shown = subprocess.run([CHROMIUM, '--headless', '--no-sandbox', '--disable-gpu', '--hide-scrollbars', '--dump-dom', '--window-size=1300,900',
+                                '--user-data-dir=' + folder + '/c', 'file://' + folder + '/frame.html'], capture_output=True, timeout=60).stdout.decode()
+    return tuple(map(int, re.search(r'<title>width (\d+) of (\d+)</title>', shown).groups()))
 
 
 class Page(NightlyCase):
@@ -148,15 +162,9 @@ class Page(NightlyCase):
     def test_the_page_fits_its_window(self):
         self.add('a_very_long_name_of_a_folder_that_goes_on/and_on/' + 'x' * 100)
         self.night('--out', self.page, '--expect', '--night', 'n' * 80, edit="sys.exit(3)\nif name == 'trap_8.case': out = out[:-1]")
-        html = data(self.page + '.html').decode()
-        script = '<script>document.title = "width " + document.documentElement.scrollWidth + " of " + window.innerWidth</script></body>'
-        with open(self.page + '.html', 'w') as file:
-            file.write(html.replace('</body>', script))
         for width in (360, 1200):
-            shown = subprocess.run([CHROMIUM, '--headless', '--no-sandbox', '--disable-gpu', '--hide-scrollbars', '--dump-dom', '--user-data-dir=' + self.top + '/c',
-                                    '--window-size=%d,800' % width, 'file://' + self.page + '.html'], capture_output=True, timeout=60).stdout.decode()
-            got, of = map(int, re.search(r'<title>width (\d+) of (\d+)</title>', shown).groups())
-            self.assertLessEqual(got, of)
+            shown, window = shown_width(self.page + '.html', width)
+            self.assertEqual((window, shown <= width), (width, True), shown)
 
     # for machines
 
