@@ -14,6 +14,7 @@ from unittest import mock
 
 from common import EXAMPLE, EXAMPLE_LINES, NIGHTLY, PROGRAM, command, data, vectors
 import nightlycases
+import nightlyrun
 from nightlycases import seal
 from nightlyfiles import Kept
 
@@ -174,6 +175,38 @@ class Nightly(NightlyCase):
             self.assertIn(b'complete: 6 files', data(prefix + '.txt'), name)
             self.assertEqual(done.returncode, 1 if name == '>/dev/full' else 0, name)
             os.remove(prefix + '.txt')
+
+    def test_a_page_that_is_written_nowhere(self):
+        line = 'exec "$0" "$1" "$2" --program "$3" >&-'
+        done = subprocess.run(['/bin/sh', '-c', line, sys.executable, NIGHTLY, self.folder, self.fake()], capture_output=True)
+        self.assertEqual((done.returncode, b'standard output is closed' in done.stderr), (1, True))
+
+    def test_signals_one_after_another(self):
+        program = self.fake('time.sleep(60)')
+        for pause in (0.0, 0.0005, 0.3):
+            night = subprocess.Popen([sys.executable, NIGHTLY, self.folder, '--program', program, '--jobs', '2'], stderr=subprocess.PIPE, stdout=subprocess.PIPE)
+            time.sleep(0.4)
+            for _ in range(3):
+                night.terminate()
+                time.sleep(pause)
+            self.assertIn(b'broken off', night.communicate(timeout=20)[1])
+
+    def test_a_program_that_is_being_started(self):
+        nightlyrun.stop.flag.set()
+        self.addCleanup(nightlyrun.stop.flag.clear)
+        start = time.monotonic()
+        with open(EXAMPLE, 'rb') as given:
+            self.assertIn('signal 9', nightlyrun.run(self.fake('time.sleep(60)'), given, 30)[2])
+        self.assertLess(time.monotonic() - start, 10)
+
+    def test_a_night_that_is_told_nothing_of_its_children(self):
+        done = subprocess.run([sys.executable, NIGHTLY, self.folder, '--program', self.fake()], capture_output=True,
+                              preexec_fn=lambda: signal.signal(signal.SIGCHLD, signal.SIG_IGN))
+        self.assertEqual(done.returncode, 0, done.stdout)
+
+    def test_large_limits(self):
+        self.assertEqual(self.night('--timeout', '1000000000', '--output-limit', '1000000000', '--expect')[0], 0)
+        self.assertEqual(self.night('--timeout', '1000000001')[0], 2)
 
     def test_progress_that_cannot_be_written(self):
         with mock.patch('sys.stderr') as stream:
@@ -354,13 +387,39 @@ class Nightly(NightlyCase):
         self.rewrite(files[2], lambda r: r.update(night='two'))
         self.assert_not_merged('another night', *files)
 
+    def test_what_a_merge_does_not_take(self):
+        files = self.parts(2)
+        for args in (['--expect'], ['--night', 'x'], ['--part', '1/2']):
+            self.assertEqual(command(NIGHTLY, '--merge', *files, *args)[0], 2)
+
+    def test_parts_of_which_one_compared(self):
+        files = [os.path.join(self.top, 'p%d' % k) for k in (1, 2)]
+        self.night('--part', '1/2', '--counts', files[0], '--expect')
+        self.night('--part', '2/2', '--counts', files[1])
+        page = self.merged(*files)[1]
+        self.assertIn('  3  outputs equal to the expected ones\n', page)
+        self.assertIn('  3  expected outputs, not compared\n', page)
+
     def test_a_part_says_that_it_is_one(self):
         self.assertTrue(self.night('--part', '2/3')[1][2].startswith('complete: part 2 of 3, 2 files, '))
 
     def test_parts_of_other_days(self):
         files = self.parts(2)
         self.rewrite(files[1], lambda r: r.update(began=r['began'] - 3 * 86400, started='2026-10-01 01:02:03 UTC'))
-        self.assert_not_merged('this part began on 2026-10-01 01:02:03 UTC and ', *files)
+        self.assert_not_merged(' on 2026-10-01 01:02:03 UTC: parts of one night begin within a day', *files)
+        self.rewrite(files[0], lambda r: r.update(began=r['began'] - 2 * 86400 - 3600))
+        self.assertEqual(self.merged(*files)[0], 0)
+        for file in files:
+            os.remove(file)
+        third = self.parts(3)
+        for file, hours in zip(third, (0, -20, 20)):
+            self.rewrite(file, lambda r: r.update(began=r['began'] + 3600 * hours))
+        for order in (third, third[::-1], third[1:] + third[:1]):
+            self.assert_not_merged('parts of one night begin within a day', *order)
+        for file in third:
+            os.remove(file)
+        files = self.parts(2)
+        self.rewrite(files[1], lambda r: r.update(began=r['began'] - 3 * 86400))
         for file in files:
             self.rewrite(file, lambda r: r.update(night='long'))
         self.assertEqual(self.merged(*files)[0], 0)

@@ -9,7 +9,7 @@ import unittest
 from unittest import mock
 
 from common import EXAMPLE, NIGHTLY, command, data
-from nightlyfiles import Kept
+from nightlyfiles import Held, Kept
 from test_nightly import NightlyCase
 
 
@@ -169,6 +169,24 @@ class Files(NightlyCase):
         self.assertEqual(self.night('--out', self.page)[0], 0)
         self.assertFalse(os.path.exists(folder))
 
+    def test_an_index_without_a_line_is_a_nights_own(self):
+        kept, folder = Kept(self.page + '.outputs'), self.page + '.outputs'
+        with mock.patch('os.replace', side_effect=OSError(28, 'No space left on device')), self.assertRaises(OSError):
+            kept.keep('b.case', {'got': b'two', 'err': b''})
+        self.assertEqual(os.listdir(folder), [])
+        open(os.path.join(folder, 'index.txt'), 'w').close()
+        self.assertEqual(self.night('--out', self.page)[0], 0)
+
+    def test_a_place_without_locks(self):
+        for error in (OSError(37, 'No locks available'), OSError(95, 'Operation not supported')):
+            with mock.patch('fcntl.flock', side_effect=error):
+                Held([(self.page + '.txt', 'text')]).free()
+        self.assertEqual([name for name in os.listdir(self.top) if name.startswith('.')], [])
+
+    def test_long_names(self):
+        for name in ('a' * 240, '\u4e2d' * 80):
+            self.assertEqual(self.night('--out', os.path.join(self.top, name))[0], 0, name)
+
     def test_an_output_is_kept_whole_or_not_at_all(self):
         kept, folder = Kept(os.path.join(self.top, 'k')), os.path.join(self.top, 'k')
         kept.keep('a.case', {'got': b'one', 'err': b''})
@@ -183,14 +201,17 @@ class Files(NightlyCase):
         self.assertIn('(<a href="page.outputs/deep/er/example.got">output</a>, <a href="page.outputs/deep/er/example.err">standard error</a>)', page)
 
     def test_texts_that_only_look_like_a_page(self):
-        for text in ('Floecavern nightly runs, my own diary\n\ncomplete rubbish so far\n', None):
-            if text is None:
-                os.remove(self.page + '.txt')
-                self.assertEqual(self.night('--out', self.page)[0], 0)
-                text = data(self.page + '.txt').decode() + 'my notes on this night\n'
-            write(self.page + '.txt', text)
-            self.refused('is no page or counts that tools/nightly wrote', '--out', self.page)
-            self.assertEqual(data(self.page + '.txt').decode(), text)
+        args = '--out', self.page, '--counts', self.counts, '--junit', self.counts + '.xml'
+        self.assertEqual(self.night(*args)[0], 0)
+        for path, more in ((self.page + '.txt', 'my notes\n'), (self.page + '.txt', '  checked by Ann\n'), (self.counts, '{"note": "Ann"}\n'),
+                           (self.page + '.html', '<p>Ann</p></main></body></html>\n'), (self.counts + '.xml', '<a></testsuites>\n')):
+            own = data(path).decode()
+            write(path, own + more)
+            self.refused('is no page or counts that tools/nightly wrote', *args)
+            self.assertEqual(data(path).decode(), own + more)
+            write(path, own)
+        write(self.page + '.txt', 'Floecavern nightly runs, my own diary\n\ncomplete rubbish so far\n')
+        self.refused('is no page or counts that tools/nightly wrote', *args)
 
     def test_two_nights_of_one_name(self):
         note, go = os.path.join(self.top, 'note'), os.path.join(self.top, 'go')

@@ -5,12 +5,13 @@ import os
 import re
 import shutil
 import subprocess
+import sys
 import tempfile
 import time
 import unittest
 import xml.etree.ElementTree as xml
 
-from common import EXAMPLE, EXAMPLE_LINES, data
+from common import EXAMPLE, EXAMPLE_LINES, NIGHTLY, data
 from test_nightly import NightlyCase
 
 CHROMIUM = next(filter(None, map(shutil.which, ('chromium', 'chromium-browser', 'google-chrome'))), None)
@@ -132,7 +133,7 @@ class Page(NightlyCase):
         status, page, _ = self.night('--only', self.counts, edit=differs)
         self.assertEqual((status, page[2]), (1, 'different: 1 different; only 1 of 6 files, 5 events'))
         page = '\n'.join(self.night('--since', self.counts, edit=differs)[1])
-        self.assertIn('  only that night compared with expected outputs\n  1 differed, and are not compared now\n      deep/er/example.case\n', page)
+        self.assertIn('  only that night compared with expected outputs\n  1 failed, and are not compared now\n      deep/er/example.case\n', page)
         self.assertNotIn('fail no more', page)
 
     def test_only_runs_what_was_not_run(self):
@@ -144,6 +145,50 @@ class Page(NightlyCase):
         status, page, _ = self.night('--only', self.counts)
         self.assertEqual(status, 1)
         self.assertIn('in the night that is run again: the program was replaced during the run', '\n'.join(page))
+
+    def test_only_runs_the_cases_of_a_folder_that_was_not_there(self):
+        away = os.path.join(self.top, 'away')
+        os.mkdir(away)
+        os.symlink(os.path.join(self.top, 'there'), os.path.join(self.folder, 'sub'))
+        for args in ((), ('--part', '1/1')):
+            self.night('--counts', self.counts, *args, edit='sys.exit(3)')
+            page = self.night('--only', self.counts, '--counts', self.counts + '2', edit='sys.exit(3)')[1]
+            self.assertEqual(('\n'.join(page).count('a link whose end cannot be reached'), page[2][:23]), (1, 'not complete: 2 missing'))
+            os.rename(away, os.path.join(self.top, 'there'))
+            shutil.copy(EXAMPLE, os.path.join(self.top, 'there', 'late.case'))
+            for counts in (self.counts, self.counts + '2'):
+                self.assertIn('only 2 of 7 files', self.night('--only', counts)[1][2])
+            os.remove(os.path.join(self.top, 'there', 'late.case'))
+            os.rename(os.path.join(self.top, 'there'), away)
+
+    def test_only_after_an_empty_folder(self):
+        empty = os.path.join(self.top, 'empty')
+        os.mkdir(empty)
+        program = os.path.join(self.top, 'cat')
+        with open(program, 'w') as file:
+            file.write('#!/bin/sh\ncat %s\n' % EXAMPLE_LINES)
+        os.chmod(program, 0o755)
+        subprocess.run([sys.executable, NIGHTLY, 'empty', '--program', program, '--counts', self.counts], cwd=self.top, capture_output=True)
+        shutil.copy(EXAMPLE, os.path.join(empty, 'a.case'))
+        done = subprocess.run([sys.executable, NIGHTLY, 'empty', '--program', program, '--only', self.counts], cwd=self.top, capture_output=True)
+        self.assertEqual(done.returncode, 0, done.stdout)
+
+    def test_since_where_a_case_cannot_be_found(self):
+        self.night('--counts', self.counts, edit='sys.exit(3)')
+        os.remove(os.path.join(self.folder, 'deep', 'er', 'example.case'))
+        page = '\n'.join(self.night('--only', self.counts)[1])
+        self.assertIn('is not in the folder any more', page)
+        self.assertIn('  1 gone\n      deep/er/example.case', page)
+        self.add('deep/another')
+        self.night('--part', '1/2', '--counts', self.counts)
+        self.add('aaa')
+        page = '\n'.join(self.night('--part', '1/2', '--since', self.counts)[1])
+        self.assertIn('that part was of another list of cases', page)
+
+    def test_a_folder_whose_name_begins_with_dots(self):
+        self.add('.. sub/a')
+        self.night('--out', self.page)
+        self.assertIn('<td class="name">.. sub</td>', data(self.page + '.html').decode())
 
     def test_since_tells_what_an_earlier_night_lacked(self):
         self.night('--expect', '--counts', self.counts, edit="open(%r, 'wb').write(data)" % os.path.join(self.folder, 'late.case'))
@@ -186,6 +231,7 @@ class Page(NightlyCase):
         self.assertEqual((top.get('failures'), len(top.findall('.//failure'))), ('1', 1))
         self.assertEqual((top.get('errors'), len(top.findall('.//error'))), ('1', 1))
         self.assertEqual(top.find('.//failure').get('type'), 'different')
+        self.assertTrue(top.find('.//property[@name="verdict"]').get('value').startswith('not complete: 1 missing, 1 different; 7 files'))
         os.remove(os.path.join(self.folder, 'deep', 'trap_8.case'))
         self.night('--junit', file, '--expect')
         self.assertIsNotNone(xml.parse(file).getroot().find("testsuite[@name='the night']/testcase/error"))

@@ -13,12 +13,12 @@ import stat
 import sys
 import time
 from collections import Counter, namedtuple
-from concurrent.futures import ThreadPoolExecutor
+from concurrent.futures import ThreadPoolExecutor, wait
 from itertools import zip_longest
 
 from casefile import Refused, count, faults, read
 from nightlypage import seconds
-from nightlyrun import kill_all, run
+from nightlyrun import kill_all, run, stop
 
 FORMAT = 'floecavern nightly counts 2'
 Found = namedtuple('Found', 'names outputs others unreadable')
@@ -181,7 +181,8 @@ def one(args, name, hashes, kept):
     try:
         answer(args, path, row, wrote)
         if contents(args.folder, [name], args.expect)[name] != hashes:
-            raise OSError(0, 'the case or its expected output was changed during the run')
+            gone = not os.path.lexists(path)
+            raise OSError(0, 'vanished during the run' if gone else 'the case or its expected output was changed during the run')
     except Exception as fault:
         what = fault.strerror if isinstance(fault, OSError) and fault.strerror else 'this tool failed on the case: %s: %s' % (type(fault).__name__, fault)
         row.update(outcome='wrong' if row['outcome'] == 'wrong' else 'missing', what='; '.join(filter(None, (row['what'], what))), refusal=None,
@@ -226,15 +227,21 @@ class Progress:
 def run_cases(args, mine, hashes, kept):
     rows, progress, pool = [], Progress(len(mine)), ThreadPoolExecutor(args.jobs)
     try:
-        for row in pool.map(lambda name: one(args, name, hashes[name], kept), mine):
-            rows.append(row)
-            progress.tick(failed(row))
+        stop.looked_at = True
+        for future in [pool.submit(one, args, name, hashes[name], kept) for name in mine]:
+            while wait([future], 0.2).not_done and not stop.flag.is_set():
+                pass
+            if stop.flag.is_set():
+                raise KeyboardInterrupt
+            rows.append(future.result())
+            progress.tick(failed(rows[-1]))
     except BaseException:
         pool.shutdown(wait=False, cancel_futures=True)
         kill_all()
         raise
     finally:
         pool.shutdown(cancel_futures=True)
+        stop.looked_at = False
     return rows
 
 
@@ -243,7 +250,7 @@ def beside(args, before, after, rows, sha256):
     wrong, told = list(before.unreadable), {row['name'] for row in rows if row['outcome'] == 'missing'}
     there, here = set(before.names), set(after.names)
     if not before.names:
-        wrong.append([args.folder, 'no *.case file is in this folder'])
+        wrong.append([os.path.abspath(args.folder), 'no *.case file is in this folder'])
     if args.expect:
         cases = {name[:-5] for name in before.names}
         wrong += [[name[:-4] + '.case', 'its .out is here, but not the case'] for name in sorted(before.outputs) if name[:-4] not in cases]

@@ -3,6 +3,7 @@
 A night replaces only what is recognisably its own. Whatever else stands at a name is left alone, and the night isn't started.
 """
 import fcntl
+import hashlib
 import json
 import os
 import re
@@ -12,7 +13,8 @@ import threading
 
 # A whole file of an earlier night, from its first byte to its last, by what is to be written there: what a user added at its end is a user's.
 OWN = {
-    'text': rb'Floecavern nightly[^\n]*\n\n(complete|not complete|different)\b[^\n]*\n.*\nCounts\n.*\nThis run\n(  [^\n]*\n)+',
+    'text': rb'Floecavern nightly[^\n]*\n\n(complete|not complete|different)\b[^\n]*\n.*\nCounts\n.*\nThis run\n'
+            rb'(  (night|folder|program|SHA-256|started|time|slowest|not run) +[^\n]*\n)+',
     'html': rb'<!doctype html>\n<html lang="en"><head><meta charset="utf-8">\n(<meta [^\n]*>\n)*<title>Floecavern nightly.*</main></body></html>\n',
     'counts': rb'\{\s*"format": "floecavern nightly counts \d+".*\}\n',
     'junit': rb'<\?xml [^\n]*\?>\n<testsuites name="floecavern nightly".*</testsuites>\n',
@@ -22,7 +24,13 @@ INDEX, INDEX_HEAD = 'index.txt', 'Floecavern nightly outputs'
 
 def is_own(path, kind):
     with open(path, 'rb') as file:
-        return re.fullmatch(OWN[kind], file.read(), re.DOTALL) is not None
+        data = file.read()
+    try:
+        ends = b'</html>' if kind == 'html' else b'</testsuites>' if kind == 'junit' else None
+        whole = data.count(ends) == 1 if ends else kind != 'counts' or isinstance(json.loads(data), dict)
+    except (ValueError, RecursionError):
+        return False
+    return whole and re.fullmatch(OWN[kind], data, re.DOTALL) is not None
 
 
 def identity(path):
@@ -129,18 +137,23 @@ class Held:
             self.hold(path)
 
     def hold(self, path):
-        beside = os.path.join(os.path.dirname(path), '.%s.nightly-lock' % os.path.basename(path)[:200])
+        """Takes the lock of one name. Where a place has no locks (as some network folders), the night goes on without."""
+        name = hashlib.sha256(os.fsencode(os.path.basename(path))).hexdigest()[:16]
+        beside = os.path.join(os.path.dirname(path), '.nightly-%s.lock' % name)
         while True:
-            file = open(beside, 'a')
             try:
+                file = open(beside, 'a')
+                self.locks.append((beside, file))
                 fcntl.flock(file, fcntl.LOCK_EX | fcntl.LOCK_NB)
-            except OSError:
+            except BlockingIOError:
+                self.locks.pop()[1].close()
                 self.free()
                 raise ValueError('%s: another night is writing there now' % path)
-            if identity(beside) == (os.fstat(file.fileno()).st_dev, os.fstat(file.fileno()).st_ino):
-                self.locks.append((beside, file))
+            except OSError:
                 return
-            file.close()         # the night before has just ended and removed it
+            if identity(beside) == (os.fstat(file.fileno()).st_dev, os.fstat(file.fileno()).st_ino):
+                return
+            self.locks.pop()[1].close()         # the night before has just ended and removed it
 
     def free(self):
         for beside, file in self.locks:
@@ -156,8 +169,9 @@ def old_outputs(folder):
     """The files that an earlier night kept in a folder, by its index; None if the folder has no such index and isn't empty. A last line without
     its line feed is one that a full disk cut off: nothing was written for it."""
     try:
-        if not os.listdir(folder):
-            return []
+        there = os.listdir(folder)
+        if not there or there == [INDEX] and not os.path.getsize(os.path.join(folder, INDEX)):
+            return []         # a full disk let a night make these, and no more
         with open(os.path.join(folder, INDEX), encoding='utf-8') as file:
             head, *lines = file.read().split('\n')[:-1]
         names = [json.loads(line) for line in lines]
@@ -226,6 +240,8 @@ class Kept:
             os.makedirs(os.path.dirname(path), exist_ok=True)
             put_whole(path, data)
         except BaseException:
-            if os.path.exists(index):
+            if size:
                 os.truncate(index, size)
+            elif os.path.exists(index):
+                os.remove(index)
             raise

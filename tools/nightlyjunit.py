@@ -7,7 +7,7 @@ import os
 import re
 import xml.etree.ElementTree as xml
 
-from nightlypage import fault, title
+from nightlypage import fault, title, verdict
 
 NO_XML = re.compile('[^\t\n\r\x20-\ud7ff\ue000-\ufffd\U00010000-\U0010ffff]')
 
@@ -31,6 +31,13 @@ def test(suite, folder, name, time, bad, kept=()):
         element(made, 'system-out').text = clean('what it wrote is kept in ' + ' and '.join(kept))
 
 
+def start(top, record, name, time):
+    """A suite, with the night's verdict: that it is of a part, or only of cases that were run again, stands there too."""
+    suite = element(top, 'testsuite', name=name, time='%.3f' % time, timestamp=record['started'][:19].replace(' ', 'T'))
+    element(element(suite, 'properties'), 'property', name='verdict', value=': '.join(verdict(record)))
+    return suite
+
+
 def count(above):
     """Gives an element the numbers of tests below it."""
     for key, tag in (('tests', 'testcase'), ('failures', 'failure'), ('errors', 'error')):
@@ -38,17 +45,17 @@ def count(above):
 
 
 def junit(record):
-    folders, stamp = {}, record['started'][:19].replace(' ', 'T')
+    folders = {}
     for row in record['cases']:
         folders.setdefault(os.path.dirname(row['name']) or '.', []).append(row)
     top = xml.Element('testsuites', name='floecavern nightly')
     top.append(xml.Comment(' %s ' % re.sub('-(?=-)', '- ', clean(title(record)))))
     for name, rows in sorted(folders.items()):
-        suite = element(top, 'testsuite', name=name, time='%.3f' % sum(row['seconds'] for row in rows), timestamp=stamp)
+        suite = start(top, record, name, sum(row['seconds'] for row in rows))
         for row in rows:
             test(suite, name, os.path.basename(row['name']), row['seconds'], fault(row), row['kept'])
     if record['beside']:
-        suite = element(top, 'testsuite', name='the night', time='0.000', timestamp=stamp)
+        suite = start(top, record, 'the night', 0)
         for name, what in record['beside']:
             test(suite, '.', name, 0, ('missing', what))
     for above in (top, *top.findall('testsuite')):

@@ -4,7 +4,7 @@ import re
 from collections import Counter
 
 from nightlycases import FORMAT, contents_hash, failed, hash_of, seal, totals
-from nightlypage import fault, printable, seconds, verdict
+from nightlypage import printable, seconds, verdict
 
 SHAPE = {'format': str, 'night': str, 'part': int, 'parts': int, 'folder': str, 'only': bool, 'list': str, 'contents': str, 'of': int, 'others': list,
          'program': str, 'sha256': str, 'expect': bool, 'started': str, 'began': float, 'seconds': float, 'time': str, 'counts': dict, 'beside': list, 'cases': list,
@@ -72,15 +72,20 @@ def strangers(records):
             ('night', 'night'), ('parts', 'number of parts'), ('list', 'list of cases'), ('sha256', 'program'), ('expect', '--expect')) if r[key] != first[key]]
         if r['list'] == first['list'] and r['contents'] != first['contents'] and r['expect'] == first['expect']:
             wrong.append([path, 'this part has the same names as %s, but the files have other contents' % records[0][0]])
-        if not first['night'] and abs(r['began'] - first['began']) > APART:
-            wrong.append([path, 'this part began on %s and %s on %s: parts of one night begin within a day, or --night names it' % (
-                r['started'], records[0][0], first['started'])])
     return wrong
+
+
+def apart(records):
+    """Parts of a night without a name that began more than a day apart."""
+    (early, a), (late, b) = (pick(records, key=lambda record: record[1]['began']) for pick in (min, max))
+    if a['night'] or b['began'] - a['began'] <= APART:
+        return []
+    return [[late, 'this part began on %s and %s on %s: parts of one night begin within a day, or --night names it' % (b['started'], early, a['started'])]]
 
 
 def merge_faults(records, by_part):
     """What the parts lack together. records: (path, record) of each file that could be read; by_part: the same under each part's number."""
-    first, wrong, by_case, hashes = records[0][1], strangers(records), {}, {}
+    first, wrong, by_case, hashes = records[0][1], strangers(records) + apart(records), {}, {}
     wrong += [['part %d of %d' % (k, first['parts']), 'is missing'] for k in range(1, first['parts'] + 1) if k not in by_part]
     wrong += [['part %d' % k, 'is there %d times: %s' % (len(same), ', '.join(path for path, _ in same))]
               for k, same in sorted(by_part.items()) if len(same) > 1]
@@ -131,6 +136,8 @@ def notes(old, new):
         yield 'that night was %s: %s' % (word, numbers)
     if old['folder'] != new['folder']:
         yield 'that night was of another folder: %s' % printable(old['folder'])
+    if old['part'] and old['parts'] > 1 and old['list'] != new['list']:
+        yield 'that part was of another list of cases: what is new or gone here may be in another part'
     if old['expect'] != new['expect']:
         yield 'only %s night compared with expected outputs' % ('that' if old['expect'] else 'this')
 
@@ -144,15 +151,17 @@ def compare(old, new):
     before, after = ({row['name']: row for row in record['cases']} for record in (old, new))
     both, expect = sorted(before.keys() & after.keys()), old['expect'] and new['expect']
     right = [name for name in both if failed(before[name]) and not failed(after[name])]
-    unseen = [name for name in right if fault(before[name])[0] == 'different' and not new['expect']]
+    unseen = right if old['expect'] and not new['expect'] else []
+    gone = sorted(name for name in before.keys() - after.keys() if failed(before[name]) or not new['only'])
+    hidden = any('cannot be re' in what for _, what in new['beside'])
     groups = [
         ('fail now, and did not', [name for name in both if failed(after[name]) and not failed(before[name])]),
         ('new, and fail', sorted(name for name in after.keys() - before.keys() if failed(after[name]))),
         ('fail still', [name for name in both if failed(after[name]) and failed(before[name])]),
-        ('differed, and are not compared now', unseen),
+        ('failed, and are not compared now', unseen),
         ('fail no more', [name for name in right if name not in unseen]),
         ('new, and right', sorted(name for name in after.keys() - before.keys() if not failed(after[name]))),
-        ('gone', [] if new['only'] else sorted(before.keys() - after.keys())),
+        ('gone, or where it could not be looked' if hidden else 'gone', gone),
         ('have other contents, or their expected outputs have' if expect else 'have other contents',
          [name for name in both if changed(before[name], after[name], expect)]),
     ]

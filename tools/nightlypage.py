@@ -109,8 +109,8 @@ def counted(record):
              (c.get('sc 0', 0), '.. SC that stored'), (c.get('sc 1', 0), '.. SC that failed'), (trapped, 'steps trapped'),
              (c.get('device', 0), 'device writes'), (c.get('yield', 0), 'yields')]
     if record['expect']:
-        table.append((sum(fault(row) is None for row in rows), 'outputs equal to the expected ones'))
-    elif c.get('uncompared'):
+        table.append((sum(fault(row) is None and not row['uncompared'] for row in rows), 'outputs equal to the expected ones'))
+    if c.get('uncompared'):
         table.append((c['uncompared'], 'expected outputs, not compared'))
     return [[number(n), what] for n, what in table]
 
@@ -215,10 +215,10 @@ class Links:
         return self.link(os.path.join(self.folder, name), printable(name)) + (' (%s)' % ', '.join(beside) if beside else '')
 
 
-def html_rows(heads, classes, rows):
-    """A table; its cells are HTML already."""
+def html_rows(heads, classes, rows, parts=False):
+    """A table; its cells are HTML already. With parts, what begins with `.. ` is a part of what stands above it."""
     def cells(tag, row):
-        kinds = ['under' if cell.startswith('.. ') else kind for kind, cell in zip(classes, row)]
+        kinds = ['under' if parts and cell.startswith('.. ') else kind for kind, cell in zip(classes, row)]
         return '<tr>%s</tr>' % ''.join('<%s class="%s">%s</%s>' % (tag, kind, cell[3 if kind == 'under' else 0:], tag) for kind, cell in zip(kinds, row))
     more = '<p>.. and %s more; the text page lists them all.</p>' % number(len(rows) - LISTED) if len(rows) > LISTED else ''
     return '<table>%s</table>%s' % ('\n'.join(([cells('th', heads)] if heads else []) + [cells('td', row) for row in rows[:LISTED]]), more)
@@ -263,7 +263,7 @@ def html_tables(record, links):
     def escaped(rows):
         return [list(map(html.escape, row)) for row in rows]
     yield '<div class="columns">'
-    yield section('Counts', html_rows(None, ['n', ''], escaped(counted(record))))
+    yield section('Counts', html_rows(None, ['n', ''], escaped(counted(record)), parts=True))
     yield section('Traps by cause', html_rows(['traps', 'cause', ''], ['n', 'n', ''], escaped(traps(record))))
     yield '</div>'
     if len(folders(record)) > 1:

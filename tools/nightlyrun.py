@@ -14,6 +14,16 @@ OUTPUT_LIMIT = 1 << 20        # bytes; the longest right answer, of a file of 65
 alive, lock = set(), threading.Lock()
 
 
+class Stop:
+    """Whether the night is to be broken off, and whether somebody looks at that."""
+
+    def __init__(self):
+        self.flag, self.looked_at = threading.Event(), False
+
+
+stop = Stop()
+
+
 def kill_group(pid):
     try:
         os.killpg(pid, signal.SIGKILL)
@@ -22,7 +32,8 @@ def kill_group(pid):
 
 
 def kill_all():
-    """Ends every program that still runs: they are in groups of their own, so a Ctrl-C doesn't reach them."""
+    """Ends every program that still runs, and each that is being started: they are in groups of their own, so a Ctrl-C doesn't reach them."""
+    stop.flag.set()
     with lock:
         for pid in alive:
             kill_group(pid)
@@ -36,7 +47,7 @@ def collect(process, deadline, limit):
             selector.register(pipe, selectors.EVENT_READ)
         while selector.get_map() and not met:
             left = deadline - time.monotonic()
-            for key, _ in selector.select(left) if left > 0 else ():
+            for key, _ in selector.select(min(left, 3600)) if left > 0 else ():         # a selector takes no longer ones
                 chunk = os.read(key.fd, 1 << 16)
                 got[key.fileobj] += chunk
                 if not chunk:
@@ -80,6 +91,8 @@ def run(program, given, timeout, limit=OUTPUT_LIMIT):
     process = subprocess.Popen([program], stdin=given, stdout=subprocess.PIPE, stderr=subprocess.PIPE, start_new_session=True)
     with lock:
         alive.add(process.pid)
+        if stop.flag.is_set():
+            kill_group(process.pid)
     try:
         output, error, met = collect(process, deadline, limit)
         ended = has_ended(process) if met else ends_by(process, deadline)
