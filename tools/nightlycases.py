@@ -242,6 +242,8 @@ def run_cases(args, mine, hashes, kept):
     finally:
         pool.shutdown(cancel_futures=True)
         stop.looked_at = False
+    if stop.flag.is_set():         # behind the last case, before the handler raises by itself again
+        raise KeyboardInterrupt
     return rows
 
 

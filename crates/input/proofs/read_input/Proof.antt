@@ -1,10 +1,12 @@
 use borrow.Author.Needs.{needs}
 use mathlib.Core.Path.{_≡_, sym}
+use mathlib.Core.Bool.{false}
 use mathlib.Core.List.{List}
 use Prim.Native.Nat.{ℕ, _-_, _≤_}
 use lib.ListN.{length}
 use lib.Seq.{length-take-le}
 use Rattle.io.specs.Counts.{Counts}
+use Rattle.word.proofs.TestLaws.{contrary}
 use Rattle.input.proofs.read_input.Statement.{statement}
 use Rattle.input.proofs.read_input.Tie as tie
 
@@ -13,7 +15,7 @@ counts : (n : ℕ) (xs : List ℕ) → n ≤ length xs → Counts n xs
 counts n xs fits = (fits, sym (length-take-le _ _ fits))
 
 abbrev Inv-loop : tie.InvT-loop
-Inv-loop fd buf₀ length₀ failed₀ buf got failed = (got ≤ length buf) × (length buf ≡ length buf₀)
+Inv-loop fd buf₀ length₀ failed₀ buf got failed = (got ≤ length buf) × (length buf ≡ length buf₀) × (failed ≡ false)
 
 abbrev μ-loop : tie.MeasureT-loop
 μ-loop fd buf₀ length₀ failed₀ buf got failed = length buf - got
@@ -58,19 +60,19 @@ same-length : tie.Need-same-length Inv-loop μ-loop
 same-length c = search needs
 
 returns : tie.Need-returns Inv-loop μ-loop
-returns c = counts _ _ (search needs)
+returns c = (counts _ _ (search needs), λ t. contrary t (search needs))
 
 same-length-2 : tie.Need-same-length-2 Inv-loop μ-loop
 same-length-2 c = search needs
 
 returns-2 : tie.Need-returns-2 Inv-loop μ-loop
-returns-2 c = counts _ _ (search needs)
+returns-2 c = (counts _ _ (search needs), λ t. search needs)
 
 same-length-3 : tie.Need-same-length-3 Inv-loop μ-loop
 same-length-3 c = search needs
 
 returns-3 : tie.Need-returns-3 Inv-loop μ-loop
-returns-3 c = counts _ _ (search needs)
+returns-3 c = (counts _ _ (search needs), λ t. contrary t (search needs))
 
 pub read-input-spec : {M : Type 1} → statement M
 read-input-spec =
