@@ -8,14 +8,16 @@
  * say: a pointer is not NULL, also where its length is 0; its length in bytes follows it, and that many bytes are the
  * caller's; a buffer that is written overlaps no other argument. A call needs up to 16 KiB of stack.
  *
- * The contracts are in crates/capi/src/lib.rt and steps.rt, the numbers in crates/capi/specs/Answers.antt and Events.antt.
+ * The contracts are in crates/capi/src/lib.rt, steps.rt and replay.rt, the numbers in crates/capi/specs/Answers.antt,
+ * Events.antt and Replay.antt.
  *
  * The machine is performed in two ways: floecavern_report takes a whole case file; floecavern_step,
- * floecavern_device_write, floecavern_yield and floecavern_run take a state and a memory that the caller keeps.
- * floecavern_check_loop looks at a block of words alone.
+ * floecavern_device_write, floecavern_yield and floecavern_run take a state and a memory that the caller keeps, and so
+ * does floecavern_replay, which compares a board's step log with the model. floecavern_check_loop looks at a block of
+ * words alone.
  *
- * Those six functions take bytes and answer a number. The second half of this file is the typed form, for programs:
- * inline functions over the six, with a machine, events and outcomes as structs. Compiles as C89 to C17 and as C++.
+ * Those seven functions take bytes and answer a number. The second half of this file is the typed form, for programs:
+ * inline functions over the seven, with a machine, events and outcomes as structs. Compiles as C89 to C17 and as C++.
  */
 #ifndef FLOECAVERN_H
 #define FLOECAVERN_H
@@ -25,9 +27,9 @@
 #include <string.h>
 
 /* The version of this interface: of this header, of rust/ and of python/ alike. */
-#define FLOECAVERN_VERSION "0.2.0"
+#define FLOECAVERN_VERSION "0.3.0"
 #define FLOECAVERN_VERSION_MAJOR 0
-#define FLOECAVERN_VERSION_MINOR 2
+#define FLOECAVERN_VERSION_MINOR 3
 #define FLOECAVERN_VERSION_PATCH 0
 
 /* A condition that must hold where this is compiled: name is an identifier that no other assertion has. */
@@ -156,18 +158,20 @@ FLOECAVERN_ASSERT(reservations_stand_at_2120, offsetof(floecavern_state, reserva
  * Refusals, in the order they are tried: 1 the length of memory or the base breaks the rules above; 2 so does the state:
  * its count; or, of a hart below the count, x0 is not 0, pc is not a multiple of 4, or the reservation's width is not 4
  * or 8, its address not aligned to that, or its bytes not in memory; 3 the hart is not below the count; 4 a device write
- * of 0 or more than 8 bytes; 5 one not wholly in memory; 11, of a run alone: its events.
+ * of 0 or more than 8 bytes; 5 one not wholly in memory; 11, of a run alone: its events; 12 and 13, of a replay alone: its
+ * log.
  *
  * What is written. value gets 8 bytes, the lowest first: a trap's value, and 0 with every other answer but
  * FLOECAVERN_BAD_SIZE. A retired event changes state and memory as the model says: of the state, the registers and the
  * pcs, and each used hart's reservation, of which it writes held 1, addr and width, or three zeros, also where it is as
- * before. The count never changes, and no byte of a hart at or above it. An answer of 256 or more leaves every byte of
- * state and memory as it was; FLOECAVERN_BAD_SIZE leaves value too. After each call the bytes mean the state that the
- * model's answer has, so calls one after another perform events one after another (crates/capi/proofs/Means.antt).
+ * before. The count never changes, and no byte of a hart at or above it. An answer of 256 or more to an event or a run
+ * leaves every byte of state and memory as it was; FLOECAVERN_BAD_SIZE leaves value too. After each call the bytes mean
+ * the state that the model's answer has, so calls one after another perform events one after another
+ * (crates/capi_means/proofs/Means.antt).
  *
  * A memory of a wrong length, as a wrong base, is refusal 1 and no bad size.
  *
- * The macros below are for answers to events and runs, not for those of floecavern_check_loop; some use r twice. */
+ * The macros below are for answers to events, runs and replays, not for those of floecavern_check_loop; some use r twice. */
 typedef enum {
     FLOECAVERN_RETIRED = 0,
     FLOECAVERN_SC_STORED = 1,
@@ -216,9 +220,50 @@ uint64_t floecavern_run(uint8_t *state, size_t state_len, uint64_t base, uint8_t
 
 #define FLOECAVERN_PERFORMED 0
 
+/* A board's step log, replayed: the hart of each row steps, up to the first row that does not agree with the model.
+ *
+ * log, log_len     48 bytes a row: `H PPPPPPPPPPPPPPPP WWWWWWWW DD VVVVVVVVVVVVVVVV` and a line feed. The hart, one decimal
+ *                  digit; its pc and the word there, lower-case hex digits; rd, two decimal digits, and the value in rd
+ *                  after the step, hex digits. rd is 00 and its value zero where the word has no rd, as FENCE, a branch
+ *                  or a store; of a pair it is the first register. A log has no greatest length
+ * told, told_len   24 bytes, which get three numbers of 8 bytes, the lowest first: how many rows there are before the
+ *                  stop, which is the number of the row that stopped it, from 0; the board's value; the model's value
+ *
+ * Answers, each row tried in the order of this list, and what is told behind the number of rows
+ *   FLOECAVERN_STOP_AGREED (0)   every row agreed (0, 0)
+ *   FLOECAVERN_STOP_FORM (1)     the row is badly formed, or its hart is not below the count (0, 0)
+ *   FLOECAVERN_STOP_PC (2)       its pc is not the hart's (the row's pc, the hart's)
+ *   FLOECAVERN_STOP_WORD (3)     its word is not the one at the pc, which is wholly in memory (the row's word, that one)
+ *   256 + cause                  the step traps (0, the trap's value)
+ *   FLOECAVERN_STOP_RD (4)       its rd is not the word's (the row's rd, the word's)
+ *   FLOECAVERN_STOP_VALUE (5)    its value is not what rd holds after the step (the row's value, what rd holds)
+ *   512 + number                 the replay is refused, and state and memory are as they were: 1 or 2 as above; 12 the
+ *                                log is no multiple of 48 bytes; 13 it has no rows (0, 0, behind 0 rows)
+ *   FLOECAVERN_BAD_SIZE          state_len is not 2312 or told_len is not 24: nothing is written
+ *
+ * A stop, also one by a trap, is no refusal: state and memory are then written as after exactly the rows before it, and
+ * with FLOECAVERN_STOP_AGREED as after all of them. What the bytes mean afterwards is the state that the model's replay
+ * has (crates/capi_means/proofs/ReplayMeans.antt); so a log that is cut between two rows can be replayed by two calls. */
+uint64_t floecavern_replay(uint8_t *state, size_t state_len, uint64_t base, uint8_t *mem, size_t mem_len,
+                           const uint8_t *log, size_t log_len, uint8_t *told, size_t told_len);
+
+/* Why a replay ended. */
+typedef enum {
+    FLOECAVERN_STOP_AGREED = 0,
+    FLOECAVERN_STOP_FORM = 1,
+    FLOECAVERN_STOP_PC = 2,
+    FLOECAVERN_STOP_WORD = 3,
+    FLOECAVERN_STOP_RD = 4,
+    FLOECAVERN_STOP_VALUE = 5,
+    FLOECAVERN_STOP_TRAP = 256,   /* 256 + cause, in an answer */
+    FLOECAVERN_STOP_REFUSED = 512 /* 512 + number, in an answer */
+} floecavern_stop;
+
+#define FLOECAVERN_ROW_SIZE 48
+
 /* ---- The typed form ----
  *
- * Inline functions over the six above. Sizes are right by type; a NULL or a length that no buffer can have is refused
+ * Inline functions over the seven above. Sizes are right by type; a NULL or a length that no buffer can have is refused
  * by the model's own number, as each function says. What is asked is that machine, text, event and bytes are not NULL,
  * that a length is that of the buffer before it, and that a machine, its memory and a text overlap no other argument. */
 #if defined(__GNUC__)
@@ -242,7 +287,7 @@ typedef enum {
     FLOECAVERN_CAUSE_ENVIRONMENT_CALL = 8
 } floecavern_cause;
 
-/* Refusals: 1 to 5 of an event, 6 of a block, 7 to 11 of a case file, 1, 2 and 11 of a run. */
+/* Refusals: 1 to 5 of an event, 6 of a block, 7 to 11 of a case file, 1, 2 and 11 of a run, 1, 2, 12 and 13 of a replay. */
 typedef enum {
     FLOECAVERN_REFUSAL_NONE = 0,
     FLOECAVERN_REFUSAL_MEMORY = 1,
@@ -255,7 +300,9 @@ typedef enum {
     FLOECAVERN_REFUSAL_TABLE = 8,
     FLOECAVERN_REFUSAL_HARTS_BODY = 9,
     FLOECAVERN_REFUSAL_MEMORY_BODY = 10,
-    FLOECAVERN_REFUSAL_EVENTS = 11
+    FLOECAVERN_REFUSAL_EVENTS = 11,
+    FLOECAVERN_REFUSAL_LOG_LENGTH = 12,
+    FLOECAVERN_REFUSAL_LOG_EMPTY = 13
 } floecavern_refusal;
 
 /* Why a block of words is rejected. */
@@ -301,6 +348,8 @@ FLOECAVERN_INLINE const char *floecavern_refusal_text(uint64_t refusal)
     case 9: return "the harts body is wrong";
     case 10: return "the memory body's length is wrong";
     case 11: return "an event or the length of the events is wrong";
+    case 12: return "the log's length is not a multiple of 48";
+    case 13: return "the log has no rows";
     default: return "no refusal of the model";
     }
 }
@@ -334,6 +383,18 @@ typedef struct {
     uint64_t performed;
     uint64_t place;
 } floecavern_ran;
+
+/* What a replay came to: why it ended, and how many rows there are before the stop. board and model are the two values of
+ * a difference, cause and value are a trap's, refusal is a refusal's; they are 0 with every other kind. */
+typedef struct {
+    floecavern_stop kind;
+    floecavern_refusal refusal;
+    floecavern_cause cause;
+    uint64_t rows;
+    uint64_t board;
+    uint64_t model;
+    uint64_t value;
+} floecavern_replayed;
 
 /* What the checker says of a block: accepted if reason and refusal are both NONE. */
 typedef struct {
@@ -513,6 +574,38 @@ FLOECAVERN_INLINE floecavern_ran floecavern_machine_run(floecavern_machine *mach
     if (count > SIZE_MAX / FLOECAVERN_EVENT_SIZE)
         return floecavern_machine_run_bytes(machine, NULL, 1, budget);
     return floecavern_machine_run_bytes(machine, (const uint8_t *)events, FLOECAVERN_EVENT_SIZE * count, budget);
+}
+
+/* The log of a board, replayed: len bytes, 48 for each row. Refusals 1, 2, 12 and 13. A log of NULL has no rows, which is
+ * 13; one that has a length all the same is refused by 12, as one whose length is no multiple of 48. */
+FLOECAVERN_INLINE floecavern_replayed floecavern_machine_replay(floecavern_machine *machine, const uint8_t *log, size_t len)
+{
+    static const uint8_t none[1] = {0};
+    uint8_t told[24];
+    floecavern_replayed replayed;
+    uint64_t answer;
+    if (log == NULL) {
+        log = none;
+        len = len == 0 ? 0 : 1;
+    }
+    answer = floecavern_replay((uint8_t *)&machine->state, sizeof machine->state, machine->base,
+                               floecavern_machine_bytes(machine), floecavern_machine_length(machine), log, len, told,
+                               sizeof told);
+    memset(&replayed, 0, sizeof replayed);
+    replayed.rows = floecavern_number(told);
+    if (FLOECAVERN_IS_TRAP(answer)) {
+        replayed.kind = FLOECAVERN_STOP_TRAP;
+        replayed.cause = (floecavern_cause)FLOECAVERN_CAUSE(answer);
+        replayed.value = floecavern_number(told + 16);
+    } else if (FLOECAVERN_IS_REFUSAL(answer)) {
+        replayed.kind = FLOECAVERN_STOP_REFUSED;
+        replayed.refusal = (floecavern_refusal)FLOECAVERN_NUMBER(answer);
+    } else {
+        replayed.kind = (floecavern_stop)answer;
+        replayed.board = floecavern_number(told + 8);
+        replayed.model = floecavern_number(told + 16);
+    }
+    return replayed;
 }
 
 /* Starts a machine: count harts with their pc at base, registers 0 and no reservations. The memory is left as it is.

@@ -26,12 +26,12 @@ import struct
 from dataclasses import dataclass
 from typing import NamedTuple, Optional
 
-__version__ = '0.2.0'
+__version__ = '0.3.0'
 
 BUILD = 'cc -shared -o target/libfloecavern.so -Wl,--whole-archive target/staticlib/libcapi.a -Wl,--no-whole-archive'
 ROOT = os.path.dirname(os.path.dirname(os.path.abspath(__file__)))
 
-STATE_SIZE, EVENT_SIZE, REPORT_ROOM, MAX_HARTS, MAX_MEMORY = 2312, 24, 262_144, 8, 1_048_576
+STATE_SIZE, EVENT_SIZE, ROW_SIZE, REPORT_ROOM, MAX_HARTS, MAX_MEMORY = 2312, 24, 48, 262_144, 8, 1_048_576
 
 _BAD_SIZE, _TRAP, _REFUSED, _ALL = 2**64 - 1, 256, 512, 2**64 - 1
 
@@ -48,7 +48,7 @@ def _library():
     for name, arguments in [('report', [read, size, lent, size]), ('check_loop', [read, size]),
                             ('step', machine + [size, lent, size]), ('yield', machine + [size, lent, size]),
                             ('device_write', machine + [number, size, number, lent, size]),
-                            ('run', machine + [read, size, size, lent, size])]:
+                            ('run', machine + [read, size, size, lent, size]), ('replay', machine + [read, size, lent, size])]:
         function = getattr(library, 'floecavern_' + name)
         function.argtypes, function.restype = arguments, number
     return library
@@ -92,7 +92,7 @@ class Cause(_Numbered):
 
 
 class Refusal(_Numbered):
-    """Why a call is refused: 1 to 5 an event, 6 a block, 7 to 11 a case file, 1, 2 and 11 a run."""
+    """Why a call is refused: 1 to 5 an event, 6 a block, 7 to 11 a case file, 1, 2 and 11 a run, 1, 2, 12 and 13 a replay."""
     MEMORY = 1, "the memory's length or base is wrong"
     STATE = 2, 'the state is wrong'
     HART = 3, 'the hart is not below the count'
@@ -104,6 +104,8 @@ class Refusal(_Numbered):
     HARTS_BODY = 9, 'the harts body is wrong'
     MEMORY_BODY = 10, "the memory body's length is wrong"
     EVENTS = 11, 'an event or the length of the events is wrong'
+    LOG_LENGTH = 12, "the log's length is not a multiple of 48"
+    LOG_EMPTY = 13, 'the log has no rows'
 
 
 class Reason(_Numbered):
@@ -153,6 +155,38 @@ RETIRED, SC_STORED, SC_FAILED = Outcome(Kind.RETIRED), Outcome(Kind.SC_STORED), 
 
 def trap(cause, value):
     return Outcome(Kind.TRAP, Cause(cause), value)
+
+
+class StopKind(enum.Enum):
+    AGREED = 0
+    FORM = 1
+    PC = 2
+    WORD = 3
+    RD = 4
+    VALUE = 5
+    TRAP = _TRAP
+
+
+class Stop(NamedTuple):
+    """Why a replay ended. Of a difference (PC, WORD, RD, VALUE) it has the board's value and the model's, of a trap the cause and the value."""
+    kind: StopKind
+    board: int = 0
+    model: int = 0
+    cause: Optional[Cause] = None
+    value: int = 0
+
+    def __str__(self):
+        name = self.kind.name.lower()
+        if self.kind is StopKind.TRAP:
+            return str(trap(self.cause, self.value))
+        digits = {StopKind.PC: '%016x', StopKind.WORD: '%08x', StopKind.RD: '%02d', StopKind.VALUE: '%016x'}.get(self.kind)
+        return name if digits is None else ' '.join([name, digits % self.board, digits % self.model])
+
+
+class Replayed(NamedTuple):
+    """What a replay came to: how many rows there are before the stop, and the stop. State and memory are the ones after exactly those rows."""
+    rows: int
+    stop: Stop
 
 
 class Verdict(NamedTuple):
@@ -370,6 +404,18 @@ def run_bytes(state, base, mem, events, budget=None):
     return performed
 
 
+def replay(state, base, mem, log):
+    """A board's step log, 48 bytes for each row, replayed: the hart of each row steps, up to the first row that doesn't agree with the model.
+    Refusals 1, 2, 12 and 13."""
+    log = _read(log)
+    answer, (rows, board, model) = _call('replay', 3, state, base, mem, log, len(log))
+    if answer >= _REFUSED:
+        raise Refused(answer - _REFUSED)
+    if answer >= _TRAP:
+        return Replayed(rows, Stop(StopKind.TRAP, cause=Cause(answer - _TRAP), value=model))
+    return Replayed(rows, Stop(StopKind(answer), board, model))
+
+
 def report_text(file):
     """All that the program `floecavern` writes for the bytes of a case file, whatever they are."""
     file, out = _read(file), (ctypes.c_uint8 * REPORT_ROOM)()
@@ -481,3 +527,6 @@ class Machine:
 
     def run_bytes(self, events, budget=None):
         return run_bytes(self.state, self.base, self.mem, events, budget)
+
+    def replay(self, log):
+        return replay(self.state, self.base, self.mem, log)

@@ -40,10 +40,10 @@ SIZES = '''
 #include <stdlib.h>
 #include <string.h>
 #include "floecavern.h"
-static uint8_t state[2313], mem[128], out[17], was_state[2313], was_mem[128], was_out[17];
+static uint8_t state[2313], mem[128], out[25], was_state[2313], was_mem[128], was_out[25];
 static void check(uint64_t r)
 {
-    if (r != FLOECAVERN_BAD_SIZE || memcmp(state, was_state, 2313) || memcmp(mem, was_mem, 128) || memcmp(out, was_out, 17))
+    if (r != FLOECAVERN_BAD_SIZE || memcmp(state, was_state, 2313) || memcmp(mem, was_mem, 128) || memcmp(out, was_out, 25))
         abort();
 }
 int main(void)
@@ -51,16 +51,18 @@ int main(void)
     for (int i = 0; i < 2313; i++)
         was_state[i] = state[i] = i == 0 ? 1 : 0;
     mem[0] = was_mem[0] = 0x13; /* addi x0,x0,0 is 0x00000013 */
-    memset(out, 0xa5, 17);
-    memset(was_out, 0xa5, 17);
+    memset(out, 0xa5, 25);
+    memset(was_out, 0xa5, 25);
     static const uint8_t event[24] = {1};
-    size_t sizes[][3] = {{2311, 8, 16}, {2313, 8, 16}, {0, 8, 16}, {2312, 7, 15}, {2312, 9, 17}, {2312, 0, 0}};
+    static const char row[] = "0 0000000000000000 00000013 00 0000000000000000\\n";
+    size_t sizes[][4] = {{2311, 8, 16, 24}, {2313, 8, 16, 24}, {0, 8, 16, 24}, {2312, 7, 15, 23}, {2312, 9, 17, 25}, {2312, 0, 0, 0}};
     for (int i = 0; i < 6; i++) {
-        size_t n = sizes[i][0], v = sizes[i][1], r = sizes[i][2];
+        size_t n = sizes[i][0], v = sizes[i][1], r = sizes[i][2], t = sizes[i][3];
         check(floecavern_step(state, n, 0, mem, 128, 0, out, v));
         check(floecavern_device_write(state, n, 0, mem, 128, 64, 1, 1, out, v));
         check(floecavern_yield(state, n, 0, mem, 128, 0, out, v));
         check(floecavern_run(state, n, 0, mem, 128, event, 24, 1, out, r));
+        check(floecavern_replay(state, n, 0, mem, 128, (const uint8_t *)row, 48, out, t));
     }
     static uint8_t room[FLOECAVERN_REPORT_ROOM];
     for (size_t i = 0; i < 2; i++) {
@@ -72,6 +74,9 @@ int main(void)
     for (size_t n = 1; n < 8; n++)
         if ((floecavern_check_loop(event, n) == FLOECAVERN_BAD_SIZE) != (n % 4 != 0))
             abort();
+    if (floecavern_replay(state, 2312, 0, mem, 128, (const uint8_t *)row, 48, out, 24) != FLOECAVERN_STOP_AGREED || out[0] != 1 || out[1] != 0)
+        abort();
+    state[2056] = 0;
     return floecavern_step(state, 2312, 0, mem, 128, 0, out, 8) == FLOECAVERN_RETIRED ? 0 : 1;
 }
 '''
@@ -189,6 +194,50 @@ static void runs(void)
     CHECK(ran(floecavern_machine_run(&machine, events, 3, 1), 2, 0, 0));
 }
 
+static int replayed(floecavern_replayed r, floecavern_stop kind, uint64_t rows, uint64_t board, uint64_t model)
+{
+    return r.kind == kind && r.rows == rows && r.board == board && r.model == model && (int)r.refusal == 0 && (int)r.cause == 0 && r.value == 0;
+}
+
+/* The log of a machine from start: hart 1's LR and SC, then hart 0's LR. */
+static const char rows[] = "1 0000000000001000 1002a32f 06 0000000000000000\n"
+                           "1 0000000000001004 1882a3af 07 0000000000000000\n"
+                           "0 0000000000001000 1002a32f 06 0000000000000000\n";
+
+/* The log with another byte, replayed from start. */
+static floecavern_replayed other(size_t place, char byte)
+{
+    uint8_t log[144];
+    memcpy(log, rows, 144);
+    log[place] = (uint8_t)byte;
+    start();
+    return floecavern_machine_replay(&machine, log, 144);
+}
+
+static void replays(void)
+{
+    floecavern_replayed r;
+    CHECK(replayed(other(0, '1'), FLOECAVERN_STOP_AGREED, 3, 0, 0) && machine.state.pc[0] == 4100 && machine.state.pc[1] == 4104);
+    CHECK(replayed(other(48, '2'), FLOECAVERN_STOP_FORM, 1, 0, 0) && machine.state.pc[1] == 4100 && machine.state.reservation[1].held == 1);
+    CHECK(replayed(other(48 + 17, '8'), FLOECAVERN_STOP_PC, 1, 4104, 4100));
+    CHECK(replayed(other(96 + 26, 'e'), FLOECAVERN_STOP_WORD, 2, 0x1002a32e, 0x1002a32f) && machine.state.pc[1] == 4104);
+    CHECK(replayed(other(48 + 28, '9'), FLOECAVERN_STOP_RD, 1, 97, 7) && machine.state.pc[1] == 4100 && machine.state.reservation[1].held == 1);
+    CHECK(replayed(other(96 + 46, 'a'), FLOECAVERN_STOP_VALUE, 2, 10, 0) && machine.state.pc[0] == 4096 && machine.state.reservation[0].held == 0);
+    start();
+    machine.state.x[1][5] = 4161;
+    r = floecavern_machine_replay(&machine, (const uint8_t *)rows, 144);
+    CHECK(r.kind == FLOECAVERN_STOP_TRAP && r.cause == FLOECAVERN_CAUSE_LOAD_ADDRESS_MISALIGNED && r.value == 4161 && r.rows == 0 && r.model == 0);
+    was = machine;
+    r = floecavern_machine_replay(&machine, (const uint8_t *)rows, 143);
+    CHECK(r.kind == FLOECAVERN_STOP_REFUSED && r.refusal == FLOECAVERN_REFUSAL_LOG_LENGTH && r.rows == 0);
+    CHECK(floecavern_machine_replay(&machine, (const uint8_t *)rows, 0).refusal == FLOECAVERN_REFUSAL_LOG_EMPTY);
+    CHECK(floecavern_machine_replay(&machine, NULL, 0).refusal == FLOECAVERN_REFUSAL_LOG_EMPTY);
+    CHECK(floecavern_machine_replay(&machine, NULL, 48).refusal == FLOECAVERN_REFUSAL_LOG_LENGTH);
+    CHECK(memcmp(&machine, &was, sizeof was) == 0);
+    machine.mem = NULL;
+    CHECK(floecavern_machine_replay(&machine, NULL, 1).refusal == FLOECAVERN_REFUSAL_MEMORY);
+}
+
 static int verdict(floecavern_verdict v, int refusal, int reason, uint64_t place)
 {
     return (int)v.refusal == refusal && (int)v.reason == reason && v.place == place;
@@ -206,7 +255,7 @@ static void others(void)
     refused = floecavern_report_text(NULL, 40, &text);
     CHECK(refused.refusal == FLOECAVERN_REFUSAL_FILE_LENGTH && refused.place == 0);
     CHECK(text.len == 12 && memcmp(text.bytes, "refused 7 0\n", 12) == 0);
-    CHECK(FLOECAVERN_VERSION_MAJOR == 0 && FLOECAVERN_VERSION_MINOR == 2 && FLOECAVERN_VERSION_PATCH == 0);
+    CHECK(FLOECAVERN_VERSION_MAJOR == 0 && FLOECAVERN_VERSION_MINOR == 3 && FLOECAVERN_VERSION_PATCH == 0);
 }
 
 int main(int argc, char **argv)
@@ -218,6 +267,7 @@ int main(int argc, char **argv)
     outcomes();
     starts();
     runs();
+    replays();
     others();
     CHECK(floecavern_report_text(file, n, &text).refusal == FLOECAVERN_REFUSAL_NONE && text.len > 40);
     file[720] = 9;
@@ -225,7 +275,7 @@ int main(int argc, char **argv)
     CHECK(floecavern_report_text(file, n, &text).place == 720);
     for (i = 0; i <= 9; i++)
         printf("cause %d %s\n", (int)i, floecavern_cause_text(i));
-    for (i = 0; i <= 12; i++)
+    for (i = 0; i <= 14; i++)
         printf("refusal %d %s\n", (int)i, floecavern_refusal_text(i));
     for (i = 0; i <= 7; i++)
         printf("reason %d %s\n", (int)i, floecavern_reason_text(i));
@@ -238,7 +288,7 @@ CAUSES = ['instruction address misaligned', 'instruction access fault', 'illegal
 REFUSALS = ['not refused', "the memory's length or base is wrong", 'the state is wrong', 'the hart is not below the count',
             'a device write of 0 or more than 8 bytes', 'a device write not wholly in memory', 'a block of fewer than 2 or more than 16 words',
             "the file's length is not 40 to 65536", 'the table of contents is wrong', 'the harts body is wrong', "the memory body's length is wrong",
-            'an event or the length of the events is wrong', 'no refusal of the model']
+            'an event or the length of the events is wrong', "the log's length is not a multiple of 48", 'the log has no rows', 'no refusal of the model']
 REASONS = ['not rejected', 'place 0 is not an LR', 'a word that a retry loop may not hold', 'a jump or branch that a retry loop may not make',
            "the LR's rs1 is written before the SC", 'the SC has another width or rs1 than the LR', 'no SC', 'no reason of the model']
 TEXTS = ''.join('%s %d %s\n' % (name, n, line) for name, lines in [('cause', CAUSES), ('refusal', REFUSALS), ('reason', REASONS)]
@@ -256,7 +306,7 @@ STACK = '''
 #include "floecavern.h"
 enum { SIZE = 1 << 18 };
 static uint8_t stack[SIZE] __attribute__((aligned(4096)));
-static uint8_t file[65536], out[FLOECAVERN_REPORT_ROOM], mem[65536], value[8], ran[16], events[24 * 1000];
+static uint8_t file[65536], out[FLOECAVERN_REPORT_ROOM], mem[65536], value[8], ran[16], told[24], events[24 * 1000];
 static size_t len;
 static floecavern_state state;
 static void *nothing(void *p) { return p; }
@@ -266,6 +316,13 @@ static void *step(void *p) { floecavern_step((uint8_t *)&state, sizeof state, 0,
 static void *device(void *p) { floecavern_device_write((uint8_t *)&state, sizeof state, 0, mem, sizeof mem, 64, 8, 1, value, 8); return p; }
 static void *yield(void *p) { floecavern_yield((uint8_t *)&state, sizeof state, 0, mem, sizeof mem, 0, value, 8); return p; }
 static void *run(void *p) { floecavern_run((uint8_t *)&state, sizeof state, 0, mem, sizeof mem, events, sizeof events, 1000, ran, 16); return p; }
+static void *replay(void *p)
+{
+    static const char row[] = "0 0000000000000000 1002a32f 06 000000001002a32e\\n";
+    memset(&state.pc, 0, sizeof state.pc);
+    floecavern_replay((uint8_t *)&state, sizeof state, 0, mem, sizeof mem, (const uint8_t *)row, 48, told, 24);
+    return p;
+}
 static size_t used(void *(*call)(void *))
 {
     pthread_attr_t attr;
@@ -289,9 +346,9 @@ int main(int argc, char **argv)
     mem[0] = 0x2f, mem[1] = 0xa3, mem[2] = 0x02, mem[3] = 0x10; /* lr.w x6,(x5) */
     for (size_t i = 0; i < sizeof events; i += 24)
         events[i] = 1, events[i + 1] = i / 24 % 8;
-    void *(*calls[])(void *) = {report, loop, step, device, yield, run};
+    void *(*calls[])(void *) = {report, loop, step, device, yield, run, replay};
     size_t most = 0, none = used(nothing);
-    for (size_t i = 0; i < 6; i++) {
+    for (size_t i = 0; i < 7; i++) {
         size_t n = used(calls[i]);
         most = n > most ? n : most;
     }
@@ -341,6 +398,16 @@ class Library(unittest.TestCase):
     def test_events(self):
         self.assertEqual(self.example('events'), EVENTS)
 
+    def test_replay(self):
+        crate = os.path.join(ROOT, 'crates', 'replay')
+        case, log = os.path.join(crate, 'data', 'case'), os.path.join(crate, 'data', 'log')
+        self.assertEqual(self.example('replay', case, log), data(os.path.join(crate, 'stdout')))
+        rows = data(log).decode()
+        for given, lines in [(rows[:480], 'log 10 rows\nagreed 10\nend 10\n'), (rows[:479], 'refused 12 0\n'), ('', 'refused 13 0\n'),
+                             (rows[:96] + 'x' * 48, 'log 3 rows\nrow 2 form\nend 2\n')]:
+            self.assertEqual(self.example('replay', case, self.written('log', given)).decode(), lines)
+        self.assertEqual(self.example('replay', log, log), b'refused 7 0\n' if len(rows) > 65536 else b'refused 8 0\n')
+
     def test_stack(self):
         used = int(self.output(self.written('stack.c', STACK), EXAMPLE))
         self.assertTrue(4096 < used <= 16384, used)
@@ -381,6 +448,7 @@ class Library(unittest.TestCase):
         """The examples tell that not all could be written: on a full disk, and where standard output is closed."""
         crate = os.path.join(ROOT, 'crates', 'loopcheck')
         for name, args, given in [('report', [EXAMPLE], b''), ('report', [self.long_case()], b''), ('events', [], b''),
+                                  ('replay', [os.path.join(ROOT, 'crates', 'replay', 'data', name) for name in ['case', 'log']], b''),
                                   ('loop', [], data(os.path.join(crate, 'stdin'))), ('loop', [], b''), ('loop', [], b'abc')]:
             program = self.built(name)
             with open('/dev/full', 'wb') as full:

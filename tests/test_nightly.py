@@ -76,13 +76,13 @@ class Nightly(NightlyCase):
     def test_good_folder(self):
         prefix = os.path.join(self.top, 'page')
         status, page, _ = self.night('--out', prefix, '--expect')
-        self.assertEqual((status, page), (0, ['complete: 6 files, 1 of them refused, 25 events each with its line']))
+        self.assertEqual((status, page), (0, ['complete: 6 files, 1 of them refused, 25 events each with its line; no board was compared']))
         text = data(prefix + '.txt').decode()
         self.assertEqual(text.splitlines()[2], page[0])
         for row in ('6  files', '5  .. cases, performed', '1  .. no cases, refused', '0  .. without a right answer', '6  outputs equal to the expected ones'):
             self.assertRegex(text, '(?m)^ +%s$' % row)
         page = data(prefix + '.html').decode()
-        self.assertIn('<div class="verdict good">complete: 6 files, 1 of them refused, 25 events each with its line</div>', page)
+        self.assertIn('<div class="verdict good">complete: 6 files, 1 of them refused, 25 events each with its line; no board was compared</div>', page)
         self.assertNotIn('src=', page)
 
     def test_counts_of_the_example(self):
@@ -319,7 +319,8 @@ class Nightly(NightlyCase):
             self.assertEqual({name: data(name) for name in files}, files)
 
     def test_expected_outputs_that_are_not_compared(self):
-        self.assertEqual(self.night()[1][2], 'complete: 6 files, 1 of them refused, 25 events each with its line, 6 expected outputs not compared')
+        self.assertEqual(self.night()[1][2], 'complete: 6 files, 1 of them refused, 25 events each with its line, 6 expected outputs not compared; '
+                         'no board was compared')
         self.assertIn('  6  expected outputs, not compared', '\n'.join(self.night()[1]))
 
     def fixed(self, lines):
@@ -495,7 +496,8 @@ class Nightly(NightlyCase):
     def test_a_part_given_twice_is_one_line(self):
         files = self.parts(2)
         status, page = self.merged(*files, files[1])
-        self.assertEqual((status, page.splitlines()[2]), (1, 'not complete: 1 missing; 6 files, 1 of them refused, 25 events, 6 expected outputs not compared'))
+        self.assertEqual((status, page.splitlines()[2]), (1, 'not complete: 1 missing; 6 files, 1 of them refused, 25 events, '
+                                                             '6 expected outputs not compared; no board was compared'))
         self.assertIn('is there 2 times: %s, %s\n' % (files[1], files[1]), page)
 
     def test_a_part_that_is_not_complete(self):

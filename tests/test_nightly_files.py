@@ -216,7 +216,8 @@ class Files(NightlyCase):
     def test_two_nights_of_one_name(self):
         note, go = os.path.join(self.top, 'note'), os.path.join(self.top, 'go')
         program = self.fake("open(%r, 'w')\n    while not os.path.exists(%r): time.sleep(0.02)" % (note, go))
-        night = subprocess.Popen([sys.executable, NIGHTLY, self.folder, '--program', program, '--out', self.page], stdout=subprocess.PIPE, stderr=subprocess.PIPE)
+        night = subprocess.Popen([sys.executable, NIGHTLY, self.folder, '--program', program, '--out', self.page],
+                                 stdout=subprocess.PIPE, stderr=subprocess.PIPE)
         while not os.path.exists(note):
             time.sleep(0.02)
         status, _, err = command(NIGHTLY, self.folder, '--program', program, '--counts', self.counts, '--out', self.page)

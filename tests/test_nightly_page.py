@@ -18,8 +18,10 @@ CHROMIUM = next(filter(None, map(shutil.which, ('chromium', 'chromium-browser', 
 
 
 def shown_width(path, width):
-    """How wide a browser shows a page in a frame of this width, and how wide the frame is: a window can't be as narrow as a telephone."""
-    script = '<script>parent.document.title = "width " + document.documentElement.scrollWidth + " of " + window.innerWidth</script></body>'
+    """How far to the right a browser shows something of a page in a frame of this width, and how wide the frame is: a window can't be as narrow as
+    a telephone."""
+    script = ('<script>parent.document.title = "width " + Math.max(document.documentElement.scrollWidth, ...Array.from(document.querySelectorAll("main *"), '
+              'part => Math.floor(part.getBoundingClientRect().right))) + " of " + window.innerWidth</script></body>')
     page = html.escape(data(path).decode().replace('</body>', script))
     with tempfile.TemporaryDirectory() as folder:
         with open(os.path.join(folder, 'frame.html'), 'w') as file:
@@ -47,7 +49,7 @@ class Page(NightlyCase):
     def test_title_and_verdict(self):
         _, page, _ = self.night('--night', 'blue')
         self.assertEqual(page[0], 'Floecavern nightly, %s, night blue' % time.strftime('%Y-%m-%d'))
-        self.assertEqual(page[2], 'complete: 6 files, 1 of them refused, 25 events each with its line, 6 expected outputs not compared')
+        self.assertEqual(page[2], 'complete: 6 files, 1 of them refused, 25 events each with its line, 6 expected outputs not compared; no board was compared')
         self.night('--night', 'blue', '--out', self.page)
         text = data(self.page + '.html').decode()
         self.assertIn('<title>%s: complete</title>' % page[0], text)
@@ -59,7 +61,7 @@ class Page(NightlyCase):
         self.add('deep/c')
         edit = "out = out.replace(b'sc 0', b'sc 1')\nif name in ('a.case', 'b.case'): sys.exit(3)\nif name == 'c.case': out = out[:-1]"
         _, page, _ = self.night('--expect', edit=edit)
-        self.assertEqual(page[2], 'not complete: 2 missing, 1 wrong, 1 different; 9 files, 1 of them refused, 25 events')
+        self.assertEqual(page[2], 'not complete: 2 missing, 1 wrong, 1 different; 9 files, 1 of them refused, 25 events; no board was compared')
         self.assertEqual(page[4:8], ['Missing: 2', '  2: the program ended with status 3', '      deep/a.case', '      deep/b.case'])
         self.assertEqual(page[9:12], ['Wrong: 1', '  1: the last line has no line feed', '      deep/c.case'])
 
@@ -119,7 +121,7 @@ class Page(NightlyCase):
         status, page, _ = self.night('--only', self.counts, edit="pass\nif name == 'trap_8.case': sys.exit(4)")
         self.assertEqual(status, 1)
         self.assertIn('only 2 of 6 files, run again', page[0])
-        self.assertEqual(page[2], 'not complete: 1 missing; only 2 of 6 files, 5 events, 2 expected outputs not compared')
+        self.assertEqual(page[2], 'not complete: 1 missing; only 2 of 6 files, 5 events, 2 expected outputs not compared; no board was compared')
         self.assertIn('  1 fail no more', page)
         self.assertIn('  1 fail still', page)
         self.assertNotIn('gone', '\n'.join(page))
@@ -131,7 +133,7 @@ class Page(NightlyCase):
         differs = "out = out.replace(b'sc 0', b'sc 1')"
         self.night('--expect', '--counts', self.counts, edit=differs)
         status, page, _ = self.night('--only', self.counts, edit=differs)
-        self.assertEqual((status, page[2]), (1, 'different: 1 different; only 1 of 6 files, 5 events'))
+        self.assertEqual((status, page[2]), (1, 'different: 1 different; only 1 of 6 files, 5 events; no board was compared'))
         page = '\n'.join(self.night('--since', self.counts, edit=differs)[1])
         self.assertIn('  only that night compared with expected outputs\n  1 failed, and are not compared now\n      deep/er/example.case\n', page)
         self.assertNotIn('fail no more', page)

@@ -16,8 +16,8 @@ from common import EXAMPLE, EXAMPLE_LINES, ROOT, data, vector_pairs
 
 sys.path.insert(0, os.path.join(ROOT, 'python'))
 import floecavern
-from floecavern import (RETIRED, SC_FAILED, SC_STORED, Cause, Event, Machine, Reason, Refusal, Refused, Reservation, State, Verdict, check_loop,
-                        device_write, report, report_text, run, run_bytes, step, trap, yield_hart)
+from floecavern import (RETIRED, SC_FAILED, SC_STORED, Cause, Event, Machine, Reason, Refusal, Refused, Replayed, Reservation, State, Stop, StopKind,
+                        Verdict, check_loop, device_write, replay, report, report_text, run, run_bytes, step, trap, yield_hart)
 
 LIBRARY = os.path.join(ROOT, 'target', 'staticlib', 'libcapi.a')
 LR, SC = 0x1002a32f, 0x1882a3af  # lr.w x6,(x5); sc.w x7,x8,(x5)
@@ -119,6 +119,29 @@ class Calls(Refuses):
         for bad in [Event.step(2), Event.yield_hart(255), Event.device_write(64, 0, 9), Event.device_write(64, 9, 0), Event.device_write(249, 8, 0)]:
             self.refuses_unchanged(Refusal.EVENTS, m, run, events + [bad] + events, 1, place=120)
         self.refuses_unchanged(Refusal.EVENTS, m, run_bytes, bytes(23), place=0)
+
+    def test_replays(self):
+        """The log of an LR and an SC, and the log with another byte: the machine is then the one after the rows before it."""
+        log = b'1 0000000000000000 1002a32f 06 0000000000000000\n1 0000000000000004 1882a3af 07 0000000000000000\n'
+        m = machine()
+        self.assertEqual((m.replay(log), m.state.pc[1]), (Replayed(2, Stop(StopKind.AGREED)), 8))
+        for place, byte, stop, text in [(0, '2', Stop(StopKind.FORM), 'form'), (17, '0', Stop(StopKind.PC, 0, 4), 'pc 0000000000000000 0000000000000004'),
+                                        (26, 'e', Stop(StopKind.WORD, SC - 1, SC), 'word 1882a3ae 1882a3af'),
+                                        (28, '9', Stop(StopKind.RD, 97, 7), 'rd 97 07'),
+                                        (31, 'f', Stop(StopKind.VALUE, 15 << 60, 0), 'value f000000000000000 0000000000000000')]:
+            m, before = machine(), machine()
+            before.step(1)
+            changed = bytearray(log)
+            changed[48 + place] = ord(byte)
+            self.assertEqual((m.replay(changed), m, str(stop)), (Replayed(1, stop), before, text))
+        m.state.x[1][5] = 66
+        stop = Stop(StopKind.TRAP, cause=Cause.STORE_ADDRESS_MISALIGNED, value=66)
+        self.assertEqual(m.replay(memoryview(log)[48:]), Replayed(0, stop))
+        self.assertEqual(str(stop), 'trap 6 0000000000000042: store/AMO address misaligned')
+        self.refuses_unchanged(Refusal.LOG_LENGTH, m, replay, log[1:])
+        self.refuses_unchanged(Refusal.LOG_EMPTY, m, replay, b'')
+        self.refuses(Refusal.STATE, replay, State(0), 0, bytearray(64), b'')
+        self.refuses(Refusal.MEMORY, replay, State(1), 1, bytearray(64), b'x')
 
     def test_loops(self):
         self.assertEqual(check_loop(LOOP), Verdict(True))
@@ -250,6 +273,7 @@ class Values(Refuses):
         for bad in [24, 'text', None]:
             self.assertRaises(TypeError, report, bad)
             self.unchanged(TypeError, run_bytes, bad)
+            self.unchanged(TypeError, replay, bad)
         for bad in [bytes(8), bytearray(8), 'text', None, 5]:
             self.assertRaises(TypeError, check_loop, bad)
 

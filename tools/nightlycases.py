@@ -1,101 +1,30 @@
-"""A folder of cases, the program's answer to each, and the record of a night. Used by tools/nightly.
+"""The program's answer to each case, and the record of a night. Used by tools/nightly.
 
 A record is what the page, the counts and the JUnit file are made of. It has one row for each case:
   name, sha256 (of the bytes that were run), expected (the SHA-256 of its .out, with --expect), uncompared (it has an .out, which wasn't looked at),
   outcome, what (is missing or wrong), different (from the .out), refusal (`NUMBER PLACE`), counts, seconds, kept (the paths of what it wrote, if it
-  failed), unkept (why that couldn't be kept)
-and `beside`, what is missing of the folder, the program or the parts: [name, what].
+  failed), unkept (why that couldn't be kept), logs (a row for each log of a board, see nightlylogs.py), unlogged (the folder has logs, but none of it)
+and `beside`, what is missing of the folder, the programs or the parts: [name, what]; `strays`, the rows of logs that have no case; `logs`, the number
+of logs in the whole folder.
 """
-import hashlib
 import json
 import os
-import stat
 import sys
 import time
-from collections import Counter, namedtuple
+from collections import Counter
 from concurrent.futures import ThreadPoolExecutor, wait
 from itertools import zip_longest
 
-from casefile import Refused, count, faults, read
-from nightlypage import seconds
+from casefile import count, faults
+from nightlyfolder import all_logs, contents, contents_hash, file_hash, find, hash_of, list_hash, log_like, opened, plain
+from nightlylogs import one_log, stray_log
+from nightlypage import case_failed, failed, seconds
 from nightlyrun import kill_all, run, stop
 
-FORMAT = 'floecavern nightly counts 2'
-Found = namedtuple('Found', 'names outputs others unreadable')
-
-
-# ---- the folder
-
-def leads_nowhere(path, name):
-    """Whether a name is a link whose end can't be reached: whatever is behind it, perhaps a folder of cases, isn't run. A case tells that itself."""
-    return os.path.islink(os.path.join(path, name)) and not os.path.exists(os.path.join(path, name)) and not name.endswith('.case')
-
-
-def find(folder):
-    """What is below a folder: the cases by the order of their names, the expected outputs, all other files, and what can't be looked into.
-    Links to folders are followed behind all else, so that a folder has its own name and is looked into once."""
-    files, unreadable, seen, later = [], [], set(), [folder]
-
-    def named(path, name):
-        return os.path.normpath(os.path.join(os.path.relpath(path, folder), name))
-
-    def note(error):
-        unreadable.append([named(error.filename, ''), 'the folder cannot be read: %s' % error.strerror])
-
-    while later:
-        for path, folders, here in os.walk(later.pop(0), onerror=note):
-            if os.path.realpath(path) in seen:
-                folders.clear()
-                continue
-            seen.add(os.path.realpath(path))
-            folders.sort()
-            later += [os.path.join(path, name) for name in folders if os.path.islink(os.path.join(path, name))]
-            lost = [name for name in here if leads_nowhere(path, name)]
-            unreadable += [[named(path, name), 'a link whose end cannot be reached'] for name in lost]
-            unreadable += [[named(path, name), 'a folder has the name of a case'] for name in folders if name.endswith('.case')]
-            files += [named(path, name) for name in here if name not in lost]
-    names = {name for name in files if name.endswith('.case')}
-    outputs = {name for name in files if name.endswith('.out')}
-    others = set(files) - names - {name for name in outputs if name[:-4] + '.case' in names}
-    return Found(sorted(names), outputs, sorted(others), unreadable)
-
-
-def file_hash(path):
-    """The SHA-256 of a file; '' of one that can't be read."""
-    sha = hashlib.sha256()
-    try:
-        if not os.path.isfile(path):
-            return ''
-        with open(path, 'rb') as file:
-            for block in iter(lambda: file.read(1 << 20), b''):
-                sha.update(block)
-    except OSError:
-        return ''
-    return sha.hexdigest()
-
-
-def hash_of(values):
-    return hashlib.sha256('\0'.join(values).encode('utf-8', 'surrogateescape')).hexdigest()
-
-
-def contents(folder, names, expect):
-    """name: (the hash of the case, with --expect the hash of its expected output)."""
-    return {name: (file_hash(os.path.join(folder, name)), file_hash(os.path.join(folder, name[:-5] + '.out')) if expect else '') for name in names}
-
-
-def contents_hash(hashes):
-    return hash_of(text for name in sorted(hashes) for text in (name, *hashes[name]))
+FORMAT = 'floecavern nightly counts 3'
 
 
 # ---- one case
-
-def opened(file):
-    """An open file's case (None if it is none) and its refusal (None, or `NUMBER PLACE`)."""
-    try:
-        return read(file.read(65537)), None         # a longer file is refused for its length, whatever it holds
-    except Refused as refused:
-        return None, '%d %d' % (refused.number, refused.place)
-
 
 def judge(case, refusal, text):
     """What is wrong with an answer."""
@@ -126,12 +55,6 @@ def first_difference(output, expected):
         if mine != other:
             return 'line %d is %s, expected %s' % (line, 'missing' if mine is None else quoted(mine), 'no more lines' if other is None else quoted(other))
     return 'line %d ends in %s' % (len(got), 'a line feed, expected none' if ends[0] else 'no line feed, expected one')
-
-
-def plain(path):
-    """Raises OSError where no plain file is at a path: a pipe or a device might never end."""
-    if not stat.S_ISREG(os.stat(path).st_mode):
-        raise OSError(0, 'it is no plain file')
 
 
 def difference(path, output, limit):
@@ -169,15 +92,13 @@ def answer(args, path, row, wrote):
     row['different'] = difference(path, wrote['got'], args.output_limit) if args.expect else None
 
 
-def failed(row):
-    return row['outcome'] in ('missing', 'wrong') or row['different'] is not None
-
-
-def one(args, name, hashes, kept):
-    """The row of one file. Whatever goes wrong with it, the night goes on, and what the program itself did wrong is still told."""
+def one(args, name, hashes, kept, logs=None):
+    """The row of one file. Whatever goes wrong with it, the night goes on, and what the program itself did wrong is still told. `logs` are the hashes of
+    its logs by their names; None in a folder without logs."""
     path, wrote = os.path.join(args.folder, name), {'got': b'', 'err': b''}
     row = {'name': name, 'sha256': hashes[0], 'expected': hashes[1], 'uncompared': not args.expect and os.path.lexists(path[:-5] + '.out'),
-           'outcome': 'missing', 'what': None, 'different': None, 'refusal': None, 'counts': Counter(), 'seconds': 0.0, 'kept': [], 'unkept': None}
+           'outcome': 'missing', 'what': None, 'different': None, 'refusal': None, 'counts': Counter(), 'seconds': 0.0, 'kept': [], 'unkept': None,
+           'unlogged': logs == {}}
     try:
         answer(args, path, row, wrote)
         if contents(args.folder, [name], args.expect)[name] != hashes:
@@ -187,12 +108,13 @@ def one(args, name, hashes, kept):
         what = fault.strerror if isinstance(fault, OSError) and fault.strerror else 'this tool failed on the case: %s: %s' % (type(fault).__name__, fault)
         row.update(outcome='wrong' if row['outcome'] == 'wrong' else 'missing', what='; '.join(filter(None, (row['what'], what))), refusal=None,
                    counts=Counter(asked=row['counts']['asked']))
-    if failed(row):
+    if case_failed(row):
         try:
             row['kept'] = kept.keep(name, wrote)
         except OSError as fault:
             row['unkept'] = fault.strerror or str(fault)
     row['counts'] = {key: n for key, n in row['counts'].items() if n}
+    row['logs'] = [one_log(args, name, hashes[0], log, sha256, kept) for log, sha256 in (logs or {}).items()]
     return row
 
 
@@ -220,15 +142,16 @@ class Progress:
         now = time.monotonic()
         if self.done == self.total or now - self.shown >= (0.1 if self.terminal else 10):
             self.shown = now
-            text = '%d of %d files, %d missing, wrong or different, %s' % (self.done, self.total, self.bad, seconds(now - self.start))
+            text = '%d of %d files, %d missing, wrong, different or not clean, %s' % (self.done, self.total, self.bad, seconds(now - self.start))
             tell(*(('\r%s\033[K' % text, '' if self.done < self.total else '\n') if self.terminal else (text,)))
 
 
-def run_cases(args, mine, hashes, kept):
+def run_cases(args, mine, hashes, kept, logs):
+    """The rows of cases. `logs`: name: the hashes of its logs; None in a folder without logs."""
     rows, progress, pool = [], Progress(len(mine)), ThreadPoolExecutor(args.jobs)
     try:
         stop.looked_at = True
-        for future in [pool.submit(one, args, name, hashes[name], kept) for name in mine]:
+        for future in [pool.submit(one, args, name, hashes[name], kept, logs and logs[name]) for name in mine]:
             while wait([future], 0.2).not_done and not stop.flag.is_set():
                 pass
             if stop.flag.is_set():
@@ -242,52 +165,61 @@ def run_cases(args, mine, hashes, kept):
     finally:
         pool.shutdown(cancel_futures=True)
         stop.looked_at = False
-    if stop.flag.is_set():         # behind the last case, before the handler raises by itself again
+    if stop.flag.is_set():         # a signal behind the last case: the logs without a case are still to be read
         raise KeyboardInterrupt
     return rows
 
 
 def beside(args, before, after, rows, sha256):
-    """What is missing of the folder and the program themselves."""
-    wrong, told = list(before.unreadable), {row['name'] for row in rows if row['outcome'] == 'missing'}
-    there, here = set(before.names), set(after.names)
+    """What is missing of the folder and the programs themselves. sha256: the programs' hashes by their paths."""
+    wrong, told = list(before.unreadable), {row['name'] for case in rows for row in (case, *case['logs']) if row['outcome'] == 'missing'}
+    there, here = ({*found.names, *all_logs(found)} for found in (before, after))
     if not before.names:
         wrong.append([os.path.abspath(args.folder), 'no *.case file is in this folder'])
     if args.expect:
         cases = {name[:-5] for name in before.names}
         wrong += [[name[:-4] + '.case', 'its .out is here, but not the case'] for name in sorted(before.outputs) if name[:-4] not in cases]
-    wrong += [[name, 'appeared during the run, and was not run'] for name in after.names if name not in there]
-    wrong += [[name, 'vanished during the run'] for name in before.names if name not in here | told]
+    late = set(log_like(after.others)).difference(before.others) if all_logs(before) else set()         # a log that is still being copied, perhaps
+    wrong += [[name, 'appeared during the run, and was not run'] for name in sorted(here - there | late)]
+    wrong += [[name, 'vanished during the run'] for name in sorted(there - here - told)]
     wrong += [row for row in after.unreadable if row not in wrong]
-    if file_hash(args.program) != sha256:
-        wrong.append([args.program, 'the program was replaced during the run'])
+    wrong += [[path, 'the program was replaced during the run'] for path, before in sha256.items() if file_hash(path) != before]
     return wrong
 
 
-def totals(rows):
-    """The sums of the rows."""
-    counts = sum((Counter(row['counts']) for row in rows), Counter())
+def totals(rows, strays):
+    """The sums of the rows of cases, of their logs and of logs without a case."""
+    counts = Counter()
+    for row in (*rows, *(log for row in rows for log in row['logs']), *strays):
+        counts.update(row['counts'])
     counts.update(files=len(rows), **Counter(row['outcome'] for row in rows))
     counts['different'] = sum(row['outcome'] in ('performed', 'refused') and row['different'] is not None for row in rows)
     counts['uncompared'] = sum(row['uncompared'] for row in rows)
+    counts['unlogged'] = sum(row['unlogged'] for row in rows)
     return {key: n for key, n in counts.items() if n}
 
 
 def run_all(args, found, kept):
     """The record of a run."""
-    sha256, hashes = file_hash(args.program), contents(args.folder, found.names, args.expect)
+    hashes, logs = contents(args.folder, found.names, args.expect), {log: file_hash(os.path.join(args.folder, log)) for log in all_logs(found)}
+    sha256 = {path: file_hash(path) for path in ([args.program, args.replay] if found.logs else [args.program])}
+    of_case = {name: {log: logs[log] for log in found.logs.get(name, ())} for name in found.names} if logs else None
     mine = [name for name in found.names if name in args.only] if args.only is not None else found.names[args.part - 1::args.parts]
     start, began, stamp = time.monotonic(), time.time(), time.strftime('%Y-%m-%d %H:%M:%S %Z')
-    rows = run_cases(args, mine, hashes, kept)
+    rows = run_cases(args, mine, hashes, kept, of_case)
+    strays = [stray_log(args.folder, log, logs[log]) for log in found.strays]
     taken = time.monotonic() - start
     wrong = beside(args, found, find(args.folder), rows, sha256)
     if args.only is not None:
         wrong += args.carried + [[name, 'is not in the folder any more'] for name in sorted(args.only.difference(found.names))]
     return {
         'format': FORMAT, 'night': args.night, 'part': args.part, 'parts': args.parts, 'folder': os.path.abspath(args.folder),
-        'only': args.only is not None, 'list': hash_of(found.names), 'contents': contents_hash(hashes), 'of': len(found.names), 'others': found.others,
-        'program': args.program, 'sha256': sha256, 'expect': args.expect, 'started': stamp, 'began': began, 'seconds': taken,
-        'time': '%s with %d at once' % (seconds(taken), args.jobs), 'counts': totals(rows), 'beside': wrong, 'since': None, 'cases': rows,
+        'only': args.only is not None, 'list': list_hash(found.names, logs), 'contents': contents_hash(hashes, logs), 'of': len(found.names),
+        'logs': len(logs), 'others': found.others, 'program': args.program, 'sha256': sha256[args.program],
+        'replay': args.replay if found.logs else '', 'replay_sha256': sha256.get(args.replay, '') if found.logs else '',
+        'expect': args.expect, 'started': stamp, 'began': began, 'seconds': taken,
+        'time': '%s with %d at once' % (seconds(taken), args.jobs), 'counts': totals(rows, strays), 'beside': wrong, 'since': None, 'strays': strays,
+        'cases': rows,
     }
 
 

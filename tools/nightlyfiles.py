@@ -11,10 +11,12 @@ import secrets
 import stat
 import threading
 
+from nightlyfolder import is_log
+
 # A whole file of an earlier night, from its first byte to its last, by what is to be written there: what a user added at its end is a user's.
 OWN = {
-    'text': rb'Floecavern nightly[^\n]*\n\n(complete|not complete|different)\b[^\n]*\n.*\nCounts\n.*\nThis run\n'
-            rb'(  (night|folder|program|SHA-256|started|time|slowest|not run) +[^\n]*\n)+',
+    'text': rb'Floecavern nightly[^\n]*\n\n(clean|not clean|complete|not complete|different)\b[^\n]*\n.*\nCounts\n.*\nThis run\n'
+            rb'(  (night|folder|program|replay|SHA-256|started|time|slowest|not run) +[^\n]*\n)+',
     'html': rb'<!doctype html>\n<html lang="en"><head><meta charset="utf-8">\n(<meta [^\n]*>\n)*<title>Floecavern nightly.*</main></body></html>\n',
     'counts': rb'\{\s*"format": "floecavern nightly counts \d+".*\}\n',
     'junit': rb'<\?xml [^\n]*\?>\n<testsuites name="floecavern nightly".*</testsuites>\n',
@@ -87,8 +89,9 @@ def refusals(outputs, inputs, folder):
     wrong = meetings(outputs, inputs)
     for path, kind in outputs:
         real = os.path.realpath(path)
-        if folder and real.endswith(('.case', '.out')) and os.path.commonpath([real, os.path.realpath(folder)]) == os.path.realpath(folder):
-            wrong.append('%s: would be taken for a case or an expected output of the folder' % path)
+        taken = real.endswith(('.case', '.out')) or is_log(real)
+        if folder and taken and os.path.commonpath([real, os.path.realpath(folder)]) == os.path.realpath(folder):
+            wrong.append('%s: would be taken for a case, an expected output or a log of the folder' % path)
         else:
             try:
                 why = occupied(path, kind) or cannot_write(path)
@@ -219,8 +222,8 @@ class Kept:
         self.folder, self.lock = folder and os.path.abspath(folder), threading.Lock()
 
     def keep(self, name, wrote):
-        """Writes what a case's program wrote to standard output (NAME.got) and standard error (NAME.err), and gives the paths."""
-        stem = os.path.join(self.folder or '', name[:-len('.case')])
+        """Writes what the program wrote to standard output (NAME.got; of a log NAME.log.got) and standard error (.err), and gives the paths."""
+        stem = os.path.join(self.folder or '', name[:-len('.case')] if name.endswith('.case') else name)
         paths = [(stem + '.' + end, data) for end, data in wrote.items() if data] if self.folder else []
         with self.lock:
             for path, data in paths:

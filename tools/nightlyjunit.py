@@ -1,13 +1,16 @@
 """A nightly run as JUnit XML, for CI systems that show test results. Used by tools/nightly.
 
-A folder is a suite and a case a test. A missing answer is an error, a wrong or different one a failure; what is missing of the folder, the program
-or the parts is an error of the suite `the night`, so that no reader of the file takes a night that isn't complete for a good one.
+A folder is a suite, and a case and a log are tests. A missing answer is an error, a wrong or different one a failure. Of a log, a stop is a failure
+too, and one that was not compared for another reason an error, as is a case without a log where the folder has logs. What is missing of the folder,
+the program or the parts, a log without a case and a file that is like a log are errors of the suite `the night`, so that no reader of the file takes
+a night that isn't complete or clean for a good one.
 """
 import os
 import re
 import xml.etree.ElementTree as xml
 
 from nightlypage import fault, title, verdict
+from nightlysheet import alike, log_fault, log_reason
 
 NO_XML = re.compile('[^\t\n\r\x20-\ud7ff\ue000-\ufffd\U00010000-\U0010ffff]')
 
@@ -26,7 +29,7 @@ def test(suite, folder, name, time, bad, kept=()):
     made = element(suite, 'testcase', classname='floecavern' if folder == '.' else 'floecavern.' + folder.replace('/', '.'), name=name, time='%.3f' % time)
     if bad:
         kind, what = bad
-        element(made, 'error' if kind == 'missing' else 'failure', type=kind, message=what).text = clean(what)
+        element(made, 'failure' if kind in ('wrong', 'different', 'stopped') else 'error', type=kind, message=what).text = clean(what)
     if bad and kept:
         element(made, 'system-out').text = clean('what it wrote is kept in ' + ' and '.join(kept))
 
@@ -36,6 +39,14 @@ def start(top, record, name, time):
     suite = element(top, 'testsuite', name=name, time='%.3f' % time, timestamp=record['started'][:19].replace(' ', 'T'))
     element(element(suite, 'properties'), 'property', name='verdict', value=': '.join(verdict(record)))
     return suite
+
+
+def log_tests(suite, folder, row):
+    """The tests of a case's logs; of a case without one, that it has none."""
+    for log in row['logs']:
+        test(suite, folder, os.path.basename(log['name']), log['seconds'], (log_reason(log), log_fault(log)) if log_reason(log) else None, log['kept'])
+    if row['unlogged']:
+        test(suite, folder, os.path.basename(row['name'])[:-5] + '.log', 0, ('missing', 'the case has no log'))
 
 
 def count(above):
@@ -51,12 +62,16 @@ def junit(record):
     top = xml.Element('testsuites', name='floecavern nightly')
     top.append(xml.Comment(' %s ' % re.sub('-(?=-)', '- ', clean(title(record)))))
     for name, rows in sorted(folders.items()):
-        suite = start(top, record, name, sum(row['seconds'] for row in rows))
+        taken = sum(row['seconds'] for case in rows for row in (case, *case['logs']))
+        suite = start(top, record, name, taken)
         for row in rows:
             test(suite, name, os.path.basename(row['name']), row['seconds'], fault(row), row['kept'])
-    if record['beside']:
+            log_tests(suite, name, row)
+    beside = record['beside'] + [[log['name'], log['what']] for log in record['strays']]
+    beside += [[name, "has a name like a log's"] for name in alike(record)]
+    if beside:
         suite = start(top, record, 'the night', 0)
-        for name, what in record['beside']:
+        for name, what in beside:
             test(suite, '.', name, 0, ('missing', what))
     for above in (top, *top.findall('testsuite')):
         count(above)

@@ -3,15 +3,23 @@ import json
 import re
 from collections import Counter
 
-from nightlycases import FORMAT, contents_hash, failed, hash_of, seal, totals
-from nightlypage import printable, seconds, verdict
+from nightlycases import FORMAT, seal, totals
+from nightlyfolder import board, contents_hash, is_log, list_hash
+from nightlylogs import possible_stop
+from nightlypage import all_rows, case_failed, failed, verdict
+from nightlyrows import KINDS
+from nightlysheet import alike, log_reason, logs_of, printable, seconds
 
 SHAPE = {'format': str, 'night': str, 'part': int, 'parts': int, 'folder': str, 'only': bool, 'list': str, 'contents': str, 'of': int, 'others': list,
-         'program': str, 'sha256': str, 'expect': bool, 'started': str, 'began': float, 'seconds': float, 'time': str, 'counts': dict, 'beside': list, 'cases': list,
-         'seal': str}
+         'logs': int, 'strays': list, 'replay': str, 'replay_sha256': str,
+         'program': str, 'sha256': str, 'expect': bool, 'started': str, 'began': float, 'seconds': float, 'time': str, 'counts': dict, 'beside': list,
+         'cases': list, 'seal': str}
 TEXT = (str, type(None))
 ROW = {'name': str, 'sha256': str, 'expected': str, 'uncompared': bool, 'outcome': str, 'what': TEXT, 'different': TEXT, 'refusal': TEXT, 'counts': dict,
-       'seconds': float, 'kept': list, 'unkept': TEXT}
+       'seconds': float, 'kept': list, 'unkept': TEXT, 'logs': list, 'unlogged': bool}
+LOG = {'name': str, 'board': str, 'sha256': str, 'bytes': (int, type(None)), 'outcome': str, 'what': TEXT, 'refusal': TEXT,
+       'stop': (dict, type(None)), 'counts': dict, 'seconds': float, 'kept': list, 'unkept': TEXT, 'uncontrolled': TEXT}
+STOP = {'row': int, 'field': str, 'board': TEXT, 'model': TEXT, 'line': str, 'form': TEXT}
 APART = 24 * 3600         # seconds between the starts of two parts that may be of one night, if it has no name
 
 
@@ -21,9 +29,10 @@ def shaped(value, shape):
 
 def well_shaped(record):
     return shaped(record, SHAPE) and all(shaped(row, ROW) for row in record['cases']) and all(
-        type(n) is int and n >= 0 for counts in [record['counts']] + [row['counts'] for row in record['cases']] for n in counts.values()) and all(
+        shaped(log, LOG) and (log['stop'] is None or shaped(log['stop'], STOP)) for _, log in logs_of(record)) and all(
+        type(n) is int and n >= 0 for counts in [record['counts']] + [row['counts'] for row in all_rows(record)] for n in counts.values()) and all(
         type(row) is list and [type(x) for x in row] == [str, str] for row in record['beside']) and all(
-        type(x) is str for texts in [record['others']] + [row['kept'] for row in record['cases']] for x in texts)
+        type(x) is str for texts in [record['others']] + [row['kept'] for row in all_rows(record)] for x in texts)
 
 
 def agrees(row):
@@ -35,6 +44,33 @@ def agrees(row):
     if row['outcome'] == 'refused':
         return not c['asked'] + c['events'] + parts and not row['what'] and bool(re.fullmatch(r'(7|8|9|10|11) \d+', row['refusal'] or ''))
     return row['outcome'] in ('missing', 'wrong') and not c['events'] + parts and bool(row['what'])
+
+
+def log_agrees(log, case):
+    """Whether a log's row agrees with itself and its case's name: each row of the log is in one count of what it came to, and in one of what it holds."""
+    outcomes = ('agreed', 'stopped', 'refused', 'wrong', 'missing') if case else ('stray',)
+    if not is_log(log['name']) or case and not (log['name'].startswith(case[:-4]) and log['board'] == board(log['name'], case)):
+        return False
+    c, kinds = Counter(log['counts']), {key: sum(log['counts'].get('%s %s' % (key, kind), 0) for kind in KINDS) for key in ('row', 'agreed')}
+    rows, agreed, ends = c['log rows'], c['rows agreed'], c['rows differ'] + c['rows malformed']
+    if c['logs'] != 1 or rows != -(-(log['bytes'] or 0) // 48) or rows != kinds['row'] or agreed != kinds['agreed'] or log['outcome'] not in outcomes:
+        return False
+    if rows != agreed + ends + c['rows behind'] + c['rows unanswered'] or any(c['agreed ' + kind] > c['row ' + kind] for kind in KINDS):
+        return False
+    if log['outcome'] == 'agreed':
+        return rows == agreed > 0 and log['bytes'] == 48 * rows and not log['stop'] and not log['what'] and not log['refusal']
+    if log['outcome'] == 'stopped':
+        return bool(ends == 1 and log['stop'] and possible_stop(log['stop']) and log['stop']['row'] == agreed and c['rows unanswered'] == 0
+                    and not log['what'] and not log['refusal'])
+    right = re.fullmatch(r'(7|8|9|1[0-3]) \d+', log['refusal'] or '') if log['outcome'] == 'refused' else log['what'] and not log['refusal']
+    return rows == c['rows unanswered'] and not log['stop'] and bool(right)
+
+
+def logs_agree(record):
+    """Whether the logs of a record agree with themselves, with their cases and with the number of logs in the folder; a case has none twice."""
+    return all(log_agrees(log, case) for case, log in logs_of(record)) and len({log['name'] for _, log in logs_of(record)}) <= record['logs'] and all(
+        row['unlogged'] == (record['logs'] > 0 and not row['logs']) and len({log['name'] for log in row['logs']}) == len(row['logs'])
+        for row in record['cases'])
 
 
 def load(path):
@@ -52,10 +88,10 @@ def load(path):
         return 'is no counts file of this version of tools/nightly'
     if record['seal'] != seal(record):
         return 'was changed after it was written: its hash is another'
-    if record['counts'] != totals(record['cases']):
+    if record['counts'] != totals(record['cases'], record['strays']):
         return 'does not agree with itself: its counts are not the sums of its cases'
     wrong = [row['name'] for row in record['cases'] if not agrees(row)]
-    if wrong or not 0 <= record['part'] <= record['parts']:
+    if wrong or not 0 <= record['part'] <= record['parts'] or not logs_agree(record):
         return 'does not agree with itself' + (': the counts of %s' % ascii(wrong[0]) if wrong else '')
     return record
 
@@ -69,7 +105,8 @@ def strangers(records):
         if r['only'] or not r['part']:
             wrong.append([path, 'is no part: it is of %s' % ('cases that were run again' if r['only'] else 'a whole night, merged')])
         wrong += [[path, 'this part has another %s than %s' % (what, records[0][0])] for key, what in (
-            ('night', 'night'), ('parts', 'number of parts'), ('list', 'list of cases'), ('sha256', 'program'), ('expect', '--expect')) if r[key] != first[key]]
+            ('night', 'night'), ('parts', 'number of parts'), ('list', 'list of cases'), ('sha256', 'program'), ('replay_sha256', 'program of --replay'),
+            ('expect', '--expect')) if r[key] != first[key]]
         if r['list'] == first['list'] and r['contents'] != first['contents'] and r['expect'] == first['expect']:
             wrong.append([path, 'this part has the same names as %s, but the files have other contents' % records[0][0]])
     return wrong
@@ -85,7 +122,7 @@ def apart(records):
 
 def merge_faults(records, by_part):
     """What the parts lack together. records: (path, record) of each file that could be read; by_part: the same under each part's number."""
-    first, wrong, by_case, hashes = records[0][1], strangers(records) + apart(records), {}, {}
+    first, wrong, by_case, by_log, hashes = records[0][1], strangers(records) + apart(records), {}, {}, {}
     wrong += [['part %d of %d' % (k, first['parts']), 'is missing'] for k in range(1, first['parts'] + 1) if k not in by_part]
     wrong += [['part %d' % k, 'is there %d times: %s' % (len(same), ', '.join(path for path, _ in same))]
               for k, same in sorted(by_part.items()) if len(same) > 1]
@@ -93,13 +130,17 @@ def merge_faults(records, by_part):
         for row in r['cases']:
             by_case.setdefault(row['name'], []).append(path)
             hashes[row['name']] = (row['sha256'], row['expected'])
+            for log in row['logs']:
+                by_log.setdefault(log['name'], []).append(row['name'])
+    logs = {log['name']: log['sha256'] for (_, r), *_ in by_part.values() for _, log in logs_of(r)}
     wrong += [[name, 'is in more than one part: %s' % ', '.join(files)] for name, files in sorted(by_case.items()) if len(files) > 1]
+    wrong += [[name, 'is the log of more than one case: %s' % ', '.join(cases)] for name, cases in sorted(by_log.items()) if len(set(cases)) > 1]
     if len(by_case) < first['of']:
         wrong.append([first['folder'], '%d of its %d cases are in no part' % (first['of'] - len(by_case), first['of'])])
-    elif hash_of(sorted(by_case)) != first['list']:
-        wrong.append([first['folder'], 'the cases of the parts are not the cases of the folder'])
-    elif contents_hash(hashes) != first['contents']:
-        wrong.append([first['folder'], 'the contents of the cases are not those of the folder'])
+    elif list_hash(by_case, logs) != first['list']:
+        wrong.append([first['folder'], 'the cases of the parts are not the cases of the folder, or their logs are not its logs'])
+    elif contents_hash(hashes, logs) != first['contents']:
+        wrong.append([first['folder'], 'the contents of the cases are not those of the folder, or those of their logs are not'])
     return wrong
 
 
@@ -116,15 +157,22 @@ def merge(paths):
         by_part.setdefault(r['part'], []).append((path, r))
     wrong += merge_faults(records, by_part)
     parts = [same[0][1] for same in by_part.values()]
-    rows = sorted((row for r in parts for row in r['cases']), key=lambda row: row['name'])
     wrong += [row for r in parts for row in r['beside']]
     times = [r['seconds'] for r in parts]
     earliest = min(parts, key=lambda r: r['began'])
     record = dict(parts[0], part=0, started=earliest['started'], began=earliest['began'], beside=[list(row) for row in dict.fromkeys(map(tuple, wrong))],
-                  seconds=sum(times), time='%s in all parts together, the longest %s' % (seconds(sum(times)), seconds(max(times))), cases=rows,
-                  counts=totals(rows), others=sorted({name for r in parts for name in r['others']}), since=None)
+                  seconds=sum(times), time='%s in all parts together, the longest %s' % (seconds(sum(times)), seconds(max(times))),
+                  others=sorted({name for r in parts for name in r['others']}), since=None, **together(parts))
     del record['seal']
     return record
+
+
+def together(parts):
+    """The cases and logs of all parts. Where they are not of one folder, one of them may have had logs and another none: then all cases need theirs."""
+    strays = sorted({log['name']: log for r in parts for log in r['strays']}.values(), key=lambda log: log['name'])
+    logs = max(len({log['name'] for r in parts for _, log in logs_of(r)}), *(r['logs'] for r in parts))
+    rows = sorted((dict(row, unlogged=logs > 0 and not row['logs']) for r in parts for row in r['cases']), key=lambda row: row['name'])
+    return {'cases': rows, 'strays': strays, 'logs': logs, 'counts': totals(rows, strays)}
 
 
 # ---- against an earlier night
@@ -132,38 +180,61 @@ def merge(paths):
 def notes(old, new):
     """What a reader of a comparison has to know of the earlier night."""
     word, numbers = verdict(old)
-    if old['beside']:
+    if old['beside'] or old['strays'] or alike(old):
         yield 'that night was %s: %s' % (word, numbers)
     if old['folder'] != new['folder']:
         yield 'that night was of another folder: %s' % printable(old['folder'])
     if old['part'] and old['parts'] > 1 and old['list'] != new['list']:
-        yield 'that part was of another list of cases: what is new or gone here may be in another part'
+        yield 'that part was of another list of cases or logs: what is new or gone here may be in another part'
     if old['expect'] != new['expect']:
         yield 'only %s night compared with expected outputs' % ('that' if old['expect'] else 'this')
+    if bool(old['logs']) != bool(new['logs']):
+        yield 'only %s night compared boards' % ('that' if old['logs'] else 'this')
+
+
+def units(record):
+    """name: (whether it fails, its row) of each case and each log. A case without a log fails where the folder has logs."""
+    found = {row['name']: (case_failed(row) or row['unlogged'], row) for row in record['cases']}
+    found.update((log['name'], (log_reason(log) is not None, log)) for _, log in logs_of(record))
+    return found
 
 
 def changed(old, new, expect):
-    return old['sha256'] != new['sha256'] or expect and old['expected'] != new['expected']
+    return old['sha256'] != new['sha256'] or expect and old.get('expected') != new.get('expected')
+
+
+def again(record, old, new):
+    """Of an earlier night, the names that a night of cases that are run again can tell of: these cases, those that failed and are gone, the logs of
+    both, and the logs that had no case."""
+    cases = {row['name'] for row in record['cases']} | {row['name'] for row in old['cases'] if failed(row)}
+    logs = {log['name'] for case, log in logs_of(old) if case is None or case in cases}
+    return cases | logs | set(new)
 
 
 def compare(old, new):
-    """What is new and what is gone since an earlier record; of cases that are run again, only these are compared."""
-    before, after = ({row['name']: row for row in record['cases']} for record in (old, new))
+    """What is new and what is gone since an earlier record, of cases and logs; of cases that are run again, only these are compared."""
+    before, after = units(old), units(new)
+    if new['only']:
+        before = {name: before[name] for name in before if name in again(new, old, after)}
     both, expect = sorted(before.keys() & after.keys()), old['expect'] and new['expect']
-    right = [name for name in both if failed(before[name]) and not failed(after[name])]
-    unseen = right if old['expect'] and not new['expect'] else []
-    gone = sorted(name for name in before.keys() - after.keys() if failed(before[name]) or not new['only'])
+    right = [name for name in both if before[name][0] and not after[name][0]]
+    wrong = {row['name'] for row in old['cases'] if case_failed(row)}
+    unseen = [name for name in right if name in wrong] if old['expect'] and not new['expect'] else []
+    unlogged = [name for name in right if before[name][1].get('unlogged') and name not in wrong and not new['logs']]
+    stopped = [name for name in both if before[name][1].get('stop') and after[name][1].get('stop')]
     hidden = any('cannot be re' in what for _, what in new['beside'])
     groups = [
-        ('fail now, and did not', [name for name in both if failed(after[name]) and not failed(before[name])]),
-        ('new, and fail', sorted(name for name in after.keys() - before.keys() if failed(after[name]))),
-        ('fail still', [name for name in both if failed(after[name]) and failed(before[name])]),
+        ('fail now, and did not', [name for name in both if after[name][0] and not before[name][0]]),
+        ('new, and fail', sorted(name for name in after.keys() - before.keys() if after[name][0])),
+        ('fail still', [name for name in both if after[name][0] and before[name][0]]),
+        ('stop still, but in another way', [name for name in stopped if before[name][1]['stop'] != after[name][1]['stop']]),
         ('failed, and are not compared now', unseen),
-        ('fail no more', [name for name in right if name not in unseen]),
-        ('new, and right', sorted(name for name in after.keys() - before.keys() if not failed(after[name]))),
-        ('gone, or where it could not be looked' if hidden else 'gone', gone),
+        ('had no log, and no board is compared now', unlogged),
+        ('fail no more', [name for name in right if name not in unseen + unlogged]),
+        ('new, and right', sorted(name for name in after.keys() - before.keys() if not after[name][0])),
+        ('gone, or where it could not be looked' if hidden else 'gone', sorted(before.keys() - after.keys())),
         ('have other contents, or their expected outputs have' if expect else 'have other contents',
-         [name for name in both if changed(before[name], after[name], expect)]),
+         [name for name in both if changed(before[name][1], after[name][1], expect)]),
     ]
     return {'night': old['night'], 'started': old['started'], 'program': old['sha256'], 'notes': list(notes(old, new)),
             'groups': [[what, names] for what, names in groups if names]}

@@ -20,6 +20,11 @@ class Stop:
     def __init__(self):
         self.flag, self.looked_at = threading.Event(), False
 
+    def check(self):
+        """Raises OSError if the night is to be broken off: a long log isn't read to its end then."""
+        if self.flag.is_set():
+            raise OSError(0, 'the night is broken off')
+
 
 stop = Stop()
 
@@ -85,10 +90,11 @@ def complaint(process, met, ended, error, timeout, limit):
     return 'the program wrote to standard error' + said if error else None
 
 
-def run(program, given, timeout, limit=OUTPUT_LIMIT):
-    """Runs the program with the file `given` as its standard input: (standard output, standard error, None or why this is no answer)."""
-    deadline = time.monotonic() + timeout
-    process = subprocess.Popen([program], stdin=given, stdout=subprocess.PIPE, stderr=subprocess.PIPE, start_new_session=True)
+def run(program, given, timeout, limit=OUTPUT_LIMIT, arguments=()):
+    """Runs the program with the file `given` (None: an empty one) as its standard input: (standard output, standard error, None or why this is no
+    answer)."""
+    deadline, given = time.monotonic() + timeout, subprocess.DEVNULL if given is None else given
+    process = subprocess.Popen([program, *arguments], stdin=given, stdout=subprocess.PIPE, stderr=subprocess.PIPE, start_new_session=True)
     with lock:
         alive.add(process.pid)
         if stop.flag.is_set():

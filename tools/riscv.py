@@ -1,5 +1,5 @@
 """The 32-bit words of the model as text, and back: RV64I without FENCE.I and CSRs, A, and AMOCAS; and what pseudo-instructions stand for.
-Used by tools/case."""
+Used by tools/case and tools/nightly."""
 import functools
 import re
 

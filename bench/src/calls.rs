@@ -2,6 +2,7 @@
 
 use crate::case::{run, EVENT};
 use crate::layout;
+use crate::log::{replay, Reason};
 use crate::loops::{self, Verdict};
 use crate::machine::{Memory, Outcome, State};
 
@@ -26,6 +27,7 @@ pub enum Call {
     DeviceWrite { addr: u64, size: usize, data: u64 },
     Yield { hart: usize },
     Run { events: Vec<u8>, budget: usize },
+    Replay { log: Vec<u8> },
 }
 
 impl Call {
@@ -45,13 +47,16 @@ impl Call {
             Call::DeviceWrite { .. } => "device_write",
             Call::Yield { .. } => "yield",
             Call::Run { .. } => "run",
+            Call::Replay { .. } => "replay",
         }
     }
 
-    /// The bytes it tells beside its answer: a trap's value; how many events a run performed, and the place of its refusal.
+    /// The bytes it tells beside its answer: a trap's value; how many events a run performed, and the place of its refusal; how many
+    /// rows of a log agreed, and the values of the next one, the board's and the model's.
     pub fn told(&self) -> usize {
         match self {
             Call::Run { .. } => 16,
+            Call::Replay { .. } => 24,
             _ => 8,
         }
     }
@@ -71,8 +76,10 @@ pub fn perform(machine: &mut Machine, call: &Call, told: &mut [u8]) -> u64 {
         Call::DeviceWrite { addr, size, data } => event(state.device(&mut memory, addr, size, data).map(|()| Outcome::Retired), told),
         Call::Yield { hart } => event(state.yield_hart(&memory, hart).map(|()| Outcome::Retired), told),
         Call::Run { ref events, budget } => run_all(&mut state, &mut memory, events, budget, told),
+        Call::Replay { ref log } => replay_all(&mut state, &mut memory, log, told),
     };
-    if answer < TRAP {
+    // A trap stops a replay, and the rows before it have been performed.
+    if answer < TRAP || answer < REFUSED && matches!(call, Call::Replay { .. }) {
         layout::write(&state, &mut machine.state);
     }
     answer
@@ -101,6 +108,28 @@ fn run_all(state: &mut State, memory: &mut Memory, events: &[u8], budget: usize,
     answer
 }
 
+fn replay_all(state: &mut State, memory: &mut Memory, log: &[u8], told: &mut [u8]) -> u64 {
+    let (rows, answer, board, model) = match replay(state, memory, log) {
+        Err(number) => (0, REFUSED + number as u64, 0, 0),
+        Ok(replayed) => {
+            let (answer, board, model) = match replayed.stop {
+                None => (0, 0, 0),
+                Some(Reason::Form) => (1, 0, 0),
+                Some(Reason::Pc { board, model }) => (2, board, model),
+                Some(Reason::Word { board, model }) => (3, board.into(), model.into()),
+                Some(Reason::Rd { board, model }) => (4, board.into(), model.into()),
+                Some(Reason::Value { board, model }) => (5, board, model),
+                Some(Reason::Trap(trap)) => (TRAP + trap.cause as u64, 0, trap.value),
+            };
+            (replayed.rows as u64, answer, board, model)
+        }
+    };
+    for (place, number) in [rows, board, model].into_iter().enumerate() {
+        layout::put(told, 8 * place, number);
+    }
+    answer
+}
+
 /// The calls, one for each event, for an events body that isn't refused.
 pub fn of_events(events: &[u8]) -> impl Iterator<Item = Call> + '_ {
     events.chunks_exact(EVENT).map(Call::of_event)
@@ -108,7 +137,7 @@ pub fn of_events(events: &[u8]) -> impl Iterator<Item = Call> + '_ {
 
 /// The answer for a block of words, each 4 bytes, the lowest first.
 pub fn check_loop(words: &[u8]) -> u64 {
-    if words.len() % 4 != 0 {
+    if !words.len().is_multiple_of(4) {
         return BAD_SIZE;
     }
     let words: Vec<u32> = words.chunks_exact(4).map(|w| u32::from_le_bytes(w.try_into().unwrap())).collect();

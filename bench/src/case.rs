@@ -51,7 +51,7 @@ fn event_allowed(bytes: &[u8], count: usize, base: u64, length: usize) -> bool {
 
 /// Refusal 11, with the place counted from the body's first byte.
 fn check_events(body: &[u8], count: usize, base: u64, length: usize) -> Result<(), Refusal> {
-    if body.len() % EVENT != 0 {
+    if !body.len().is_multiple_of(EVENT) {
         return refuse(11, 0);
     }
     for (n, bytes) in body.chunks_exact(EVENT).enumerate() {

@@ -21,6 +21,7 @@ pub fn perform(machine: &mut Machine, call: &Call, told: &mut [u8]) -> u64 {
             Call::Run { events, budget } => {
                 floecavern_run(state, state_len, base, mem, mem_len, events.as_ptr(), events.len(), *budget, out, out_len)
             }
+            Call::Replay { log } => floecavern_replay(state, state_len, base, mem, mem_len, log.as_ptr(), log.len(), out, out_len),
         }
     }
 }

@@ -1,7 +1,8 @@
-//! A second implementation of document 01, written from the papers alone, to compare the proved one with and to measure it against.
+//! A second implementation of document 01 and of request 1 of document 02, written from the papers alone, to compare the proved one with
+//! and to measure it against.
 //!
-//! The implementation is `word`, `machine`, `case` and `loops`; `layout` and `calls` put it behind the calls of include/floecavern.h.
-//! `floecavern` is the proved library itself. `generate` and `work` make inputs for both.
+//! The implementation is `word`, `machine`, `case`, `log` and `loops`; `layout` and `calls` put it behind the calls of include/floecavern.h.
+//! `floecavern` is the proved library itself. `generate` and `work` make inputs for both; `reached` counts what generated logs reach.
 
 pub mod calls;
 pub mod case;
@@ -9,8 +10,10 @@ pub mod clock;
 pub mod floecavern;
 pub mod generate;
 pub mod layout;
+pub mod log;
 pub mod loops;
 pub mod machine;
+pub mod reached;
 pub mod word;
 pub mod work;
 

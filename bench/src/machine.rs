@@ -43,12 +43,47 @@ pub enum Outcome {
     Trap(Trap),
 }
 
+/// Looks on at a step, and can stop it before anything has changed. Each watcher has a step compiled for it, so that one without a
+/// watcher costs nothing; what is inlined always is inlined in both.
+pub trait Watch {
+    type Stop: From<Trap>;
+
+    /// The word at pc is wholly in memory, and this is it.
+    fn fetched(&mut self, word: u32) -> Result<(), Self::Stop>;
+
+    /// The step doesn't trap. It puts `value` in `rd`, which changes nothing if that is x0; both are 0 where the word has no rd.
+    fn retires(&mut self, rd: u8, value: u64) -> Result<(), Self::Stop>;
+}
+
+/// Nobody looks on.
+struct Unwatched;
+
+impl Watch for Unwatched {
+    type Stop = Trap;
+
+    #[inline]
+    fn fetched(&mut self, _: u32) -> Result<(), Trap> {
+        Ok(())
+    }
+
+    #[inline]
+    fn retires(&mut self, _: u8, _: u64) -> Result<(), Trap> {
+        Ok(())
+    }
+}
+
 pub fn base_allowed(base: u64) -> bool {
-    base % 64 == 0 && base <= 1 << 40
+    base.is_multiple_of(64) && base <= 1 << 40
 }
 
 pub fn length_allowed(len: usize) -> bool {
-    (64..=1 << 20).contains(&len) && len % 64 == 0
+    (64..=1 << 20).contains(&len) && len.is_multiple_of(64)
+}
+
+/// `width` is a power of two.
+#[inline]
+fn aligned(addr: u64, width: u64) -> bool {
+    addr & (width - 1) == 0
 }
 
 impl Memory<'_> {
@@ -59,25 +94,31 @@ impl Memory<'_> {
         (offset <= self.bytes.len() as u64 - width).then_some(offset as usize)
     }
 
+    /// The word at `pc`, if it is wholly in memory.
+    #[inline]
+    pub fn word(&self, pc: u64) -> Option<u32> {
+        self.place(pc, 4).map(|place| read(&self.bytes[place..], 4) as u32)
+    }
+
     pub fn contains(&self, addr: u64, width: u64) -> bool {
         self.place(addr, width).is_some()
     }
 
-    #[inline]
-    fn fetch(&self, pc: u64) -> Result<Instr, Trap> {
-        let Some(place) = self.place(pc, 4) else {
+    #[inline(always)]
+    fn fetch<W: Watch>(&self, pc: u64, watch: &mut W) -> Result<Instr, W::Stop> {
+        let Some(word) = self.word(pc) else {
             return trap(1, pc);
         };
-        let word = read(&self.bytes[place..], 4) as u32;
+        watch.fetched(word)?;
         match decode(word) {
             Some(instr) => Ok(instr),
             None => trap(2, word as u64),
         }
     }
 
-    #[inline]
+    #[inline(always)]
     fn load(&self, addr: u64, width: u8) -> Result<u64, Trap> {
-        if addr % width as u64 != 0 {
+        if !aligned(addr, width as u64) {
             return trap(4, addr);
         }
         match self.place(addr, width as u64) {
@@ -86,16 +127,16 @@ impl Memory<'_> {
         }
     }
 
-    #[inline]
-    fn store(&mut self, addr: u64, width: u8, value: u64) -> Result<(), Trap> {
-        if addr % width as u64 != 0 {
+    /// The bytes that a store writes to.
+    #[inline(always)]
+    fn target(&mut self, addr: u64, width: u8) -> Result<&mut [u8], Trap> {
+        if !aligned(addr, width as u64) {
             return trap(6, addr);
         }
         match self.place(addr, width as u64) {
-            Some(place) => write(&mut self.bytes[place..], width, value),
-            None => return trap(7, addr),
+            Some(place) => Ok(&mut self.bytes[place..]),
+            None => trap(7, addr),
         }
-        Ok(())
     }
 
     fn check(&self) -> Result<(), u8> {
@@ -107,7 +148,7 @@ impl Memory<'_> {
     }
 }
 
-#[inline]
+#[inline(always)]
 fn read(bytes: &[u8], width: u8) -> u64 {
     match width {
         1 => bytes[0] as u64,
@@ -200,11 +241,19 @@ impl Hart {
         }
     }
 
+    /// Retires a word that changes nothing but rd and pc.
+    #[inline(always)]
+    fn retire<W: Watch>(&mut self, watch: &mut W, rd: u8, value: u64) -> Result<(), W::Stop> {
+        watch.retires(rd, value)?;
+        self.set(rd, value);
+        Ok(())
+    }
+
     /// A jump that leaves the address after it in rd.
-    #[inline]
-    fn link(&mut self, rd: u8, target: u64) -> Result<u64, Trap> {
+    #[inline(always)]
+    fn link<W: Watch>(&mut self, watch: &mut W, rd: u8, target: u64) -> Result<u64, W::Stop> {
         let target = jump(target)?;
-        self.set(rd, self.pc.wrapping_add(4));
+        self.retire(watch, rd, self.pc.wrapping_add(4))?;
         Ok(target)
     }
 }
@@ -212,7 +261,7 @@ impl Hart {
 /// The target of a jump or of a taken branch, if it is allowed.
 #[inline]
 fn jump(target: u64) -> Result<u64, Trap> {
-    if target % 4 == 0 {
+    if target.is_multiple_of(4) {
         Ok(target)
     } else {
         trap(0, target)
@@ -220,8 +269,8 @@ fn jump(target: u64) -> Result<u64, Trap> {
 }
 
 #[inline]
-fn trap<T>(cause: u8, value: u64) -> Result<T, Trap> {
-    Err(Trap { cause, value })
+fn trap<T, E: From<Trap>>(cause: u8, value: u64) -> Result<T, E> {
+    Err(Trap { cause, value }.into())
 }
 
 impl Default for State {
@@ -238,10 +287,10 @@ impl State {
         }
         let sound = |hart: &Hart| {
             hart.x[0] == 0
-                && hart.pc % 4 == 0
+                && hart.pc.is_multiple_of(4)
                 && hart
                     .reservation
-                    .is_none_or(|r| (r.width == 4 || r.width == 8) && r.addr % r.width == 0 && memory.contains(r.addr, r.width))
+                    .is_none_or(|r| (r.width == 4 || r.width == 8) && aligned(r.addr, r.width) && memory.contains(r.addr, r.width))
         };
         if self.harts[..self.count].iter().all(sound) {
             Ok(())
@@ -322,83 +371,83 @@ impl State {
 
     #[inline]
     pub(crate) fn perform_step(&mut self, memory: &mut Memory, number: usize) -> Outcome {
-        match self.execute(memory, number) {
+        match self.execute(memory, number, &mut Unwatched) {
             Ok(outcome) => outcome,
             Err(trap) => Outcome::Trap(trap),
         }
     }
 
-    fn execute(&mut self, memory: &mut Memory, number: usize) -> Result<Outcome, Trap> {
+    /// A step of a hart below the count while `watch` looks on. Err leaves state and memory as they were.
+    #[inline]
+    pub(crate) fn watched_step<W: Watch>(&mut self, memory: &mut Memory, number: usize, watch: &mut W) -> Result<Outcome, W::Stop> {
+        self.execute(memory, number, watch)
+    }
+
+    fn execute<W: Watch>(&mut self, memory: &mut Memory, number: usize, watch: &mut W) -> Result<Outcome, W::Stop> {
         let hart = &mut self.harts[number];
         let pc = hart.pc;
-        let instr = memory.fetch(pc)?;
+        let instr = memory.fetch(pc, watch)?;
         let mut next = pc.wrapping_add(4);
         let mut outcome = Outcome::Retired;
         match instr {
-            Instr::Lui { rd, imm } => hart.set(rd, imm),
-            Instr::Auipc { rd, imm } => hart.set(rd, pc.wrapping_add(imm)),
-            Instr::Jal { rd, offset } => next = hart.link(rd, pc.wrapping_add(offset))?,
-            Instr::Jalr { rd, rs1, imm } => next = hart.link(rd, hart.get(rs1).wrapping_add(imm) & !1)?,
+            Instr::Lui { rd, imm } => hart.retire(watch, rd, imm)?,
+            Instr::Auipc { rd, imm } => hart.retire(watch, rd, pc.wrapping_add(imm))?,
+            Instr::Jal { rd, offset } => next = hart.link(watch, rd, pc.wrapping_add(offset))?,
+            Instr::Jalr { rd, rs1, imm } => next = hart.link(watch, rd, hart.get(rs1).wrapping_add(imm) & !1)?,
             Instr::Branch { cond, rs1, rs2, offset } => {
                 if taken(cond, hart.get(rs1), hart.get(rs2)) {
                     next = jump(pc.wrapping_add(offset))?;
                 }
+                watch.retires(0, 0)?;
             }
             Instr::Load { width, signed, rd, rs1, imm } => {
                 let value = memory.load(hart.get(rs1).wrapping_add(imm), width)?;
-                hart.set(rd, if signed { sign_extend(value, width) } else { value });
+                hart.retire(watch, rd, if signed { sign_extend(value, width) } else { value })?;
             }
             Instr::Store { width, rs1, rs2, imm } => {
                 let addr = hart.get(rs1).wrapping_add(imm);
-                memory.store(addr, width, hart.get(rs2))?;
+                let target = memory.target(addr, width)?;
+                watch.retires(0, 0)?;
+                write(target, width, hart.get(rs2));
                 self.break_others(number, addr);
             }
-            Instr::OpImm { op, rd, rs1, imm } => hart.set(rd, alu(op, hart.get(rs1), imm)),
-            Instr::Op { op, rd, rs1, rs2 } => hart.set(rd, alu(op, hart.get(rs1), hart.get(rs2))),
-            Instr::OpImm32 { op, rd, rs1, imm } => hart.set(rd, alu32(op, hart.get(rs1), imm)),
-            Instr::Op32 { op, rd, rs1, rs2 } => hart.set(rd, alu32(op, hart.get(rs1), hart.get(rs2))),
-            Instr::Fence => {}
+            Instr::OpImm { op, rd, rs1, imm } => hart.retire(watch, rd, alu(op, hart.get(rs1), imm))?,
+            Instr::Op { op, rd, rs1, rs2 } => hart.retire(watch, rd, alu(op, hart.get(rs1), hart.get(rs2)))?,
+            Instr::OpImm32 { op, rd, rs1, imm } => hart.retire(watch, rd, alu32(op, hart.get(rs1), imm))?,
+            Instr::Op32 { op, rd, rs1, rs2 } => hart.retire(watch, rd, alu32(op, hart.get(rs1), hart.get(rs2)))?,
+            Instr::Fence => watch.retires(0, 0)?,
             Instr::Ecall => return trap(8, 0),
             Instr::Ebreak => return trap(3, 0),
-            Instr::Atomic(a) => outcome = self.atomic(memory, number, a)?,
+            Instr::Atomic(a) => outcome = self.atomic(memory, number, a, watch)?,
         }
         self.harts[number].pc = next;
         Ok(outcome)
     }
 
-    fn atomic(&mut self, memory: &mut Memory, number: usize, a: Atomic) -> Result<Outcome, Trap> {
+    fn atomic<W: Watch>(&mut self, memory: &mut Memory, number: usize, a: Atomic, watch: &mut W) -> Result<Outcome, W::Stop> {
         let hart = &mut self.harts[number];
         let width = a.width as u64;
         let addr = hart.get(a.rs1);
         let load = a.op == AtomicOp::Lr;
-        if addr % width != 0 {
+        if !aligned(addr, width) {
             return trap(if load { 4 } else { 6 }, addr);
         }
         if a.op == AtomicOp::Sc {
-            return Ok(Outcome::Sc { success: self.store_conditional(memory, number, a, addr) });
+            return Ok(Outcome::Sc { success: self.store_conditional(memory, number, a, watch)? });
         }
         let Some(place) = memory.place(addr, width) else {
             return trap(if load { 5 } else { 7 }, addr);
         };
         let bytes = &mut memory.bytes[place..place + width as usize];
         let wrote = if a.width == 16 {
+            watch.retires(a.rd, read(bytes, 8))?;
             cas_quad(hart, bytes, a)
         } else {
             let old = sign_extend(read(bytes, a.width), a.width);
-            let arg = sign_extend(hart.get(a.rs2), a.width);
-            let new = match a.op {
-                AtomicOp::Lr => {
-                    hart.reservation = Some(Reservation { addr, width });
-                    None
-                }
-                AtomicOp::Cas => (old == sign_extend(hart.get(a.rd), a.width)).then_some(arg),
-                op => Some(amo(op, old, arg)),
-            };
-            if let Some(new) = new {
-                write(bytes, a.width, new);
-            }
+            watch.retires(a.rd, old)?;
+            let wrote = read_modify_write(hart, bytes, a, addr, old);
             hart.set(a.rd, old);
-            new.is_some()
+            wrote
         };
         if wrote {
             self.break_others(number, addr);
@@ -407,9 +456,12 @@ impl State {
     }
 
     /// An SC whose address is aligned; whether it stored.
-    fn store_conditional(&mut self, memory: &mut Memory, number: usize, a: Atomic, addr: u64) -> bool {
+    fn store_conditional<W: Watch>(&mut self, memory: &mut Memory, number: usize, a: Atomic, watch: &mut W) -> Result<bool, W::Stop> {
         let hart = &mut self.harts[number];
-        let success = hart.reservation.take().is_some_and(|r| r.addr / SET == addr / SET);
+        let addr = hart.get(a.rs1);
+        let success = hart.reservation.is_some_and(|r| r.addr / SET == addr / SET);
+        watch.retires(a.rd, !success as u64)?;
+        hart.reservation = None;
         let value = hart.get(a.rs2);
         hart.set(a.rd, !success as u64);
         if success {
@@ -417,11 +469,30 @@ impl State {
             write(&mut memory.bytes[place..], a.width, value);
             self.break_others(number, addr);
         }
-        success
+        Ok(success)
     }
 }
 
+/// LR, AMO, AMOCAS.W and AMOCAS.D on their bytes, which hold `old`, before rd is written; whether they wrote them.
+#[inline(always)]
+fn read_modify_write(hart: &mut Hart, bytes: &mut [u8], a: Atomic, addr: u64, old: u64) -> bool {
+    let arg = sign_extend(hart.get(a.rs2), a.width);
+    let new = match a.op {
+        AtomicOp::Lr => {
+            hart.reservation = Some(Reservation { addr, width: a.width as u64 });
+            None
+        }
+        AtomicOp::Cas => (old == sign_extend(hart.get(a.rd), a.width)).then_some(arg),
+        op => Some(amo(op, old, arg)),
+    };
+    if let Some(new) = new {
+        write(bytes, a.width, new);
+    }
+    new.is_some()
+}
+
 /// AMOCAS.Q on its 16 bytes; whether it wrote them.
+#[inline(always)]
 fn cas_quad(hart: &mut Hart, bytes: &mut [u8], a: Atomic) -> bool {
     let pair = |r: u8| match r {
         0 => (0, 0),

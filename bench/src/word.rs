@@ -186,6 +186,8 @@ fn op_32(funct3: u32, funct7: u32) -> Option<Alu> {
     })
 }
 
+/// Inlined as `decode` is.
+#[inline(always)]
 fn atomic(w: u32, funct3: u32, rd: u8, rs1: u8, rs2: u8) -> Option<Atomic> {
     let op = match w >> 27 {
         0 => AtomicOp::Add,

@@ -89,6 +89,8 @@ numbered! {
     HartsBody = 9, "the harts body is wrong";
     MemoryBody = 10, "the memory body's length is wrong";
     Events = 11, "an event or the length of the events is wrong";
+    LogLength = 12, "the log's length is not a multiple of 48";
+    LogEmpty = 13, "the log has no rows";
 }
 
 numbered! {
@@ -163,6 +165,55 @@ impl fmt::Display for Outcome {
             Outcome::Trap(trap) => trap.fmt(f),
         }
     }
+}
+
+/// Why a replay ended: every row agreed, or the first reason, in this order, that the next row gives. Of a difference, the
+/// board's value and the model's.
+#[derive(Clone, Copy, Debug, PartialEq, Eq)]
+pub enum Stop {
+    Agreed,
+    /// The row is badly formed, or its hart isn't below the count.
+    Form,
+    Pc {
+        board: u64,
+        model: u64,
+    },
+    Word {
+        board: u32,
+        model: u32,
+    },
+    Trap(Trap),
+    Rd {
+        board: u8,
+        model: u8,
+    },
+    Value {
+        board: u64,
+        model: u64,
+    },
+}
+
+impl fmt::Display for Stop {
+    fn fmt(&self, f: &mut fmt::Formatter) -> fmt::Result {
+        match self {
+            Stop::Agreed => f.write_str("agreed"),
+            Stop::Form => f.write_str("form"),
+            Stop::Pc { board, model } => write!(f, "pc {board:016x} {model:016x}"),
+            Stop::Word { board, model } => write!(f, "word {board:08x} {model:08x}"),
+            Stop::Trap(trap) => trap.fmt(f),
+            Stop::Rd { board, model } => write!(f, "rd {board:02} {model:02}"),
+            Stop::Value { board, model } => write!(f, "value {board:016x} {model:016x}"),
+        }
+    }
+}
+
+/// What a replay that isn't refused came to: how many rows there are before the stop, and the stop. State and memory are the
+/// ones after exactly those rows.
+#[must_use]
+#[derive(Clone, Copy, Debug, PartialEq, Eq)]
+pub struct Replayed {
+    pub rows: usize,
+    pub stop: Stop,
 }
 
 /// What the checker says of a block of words.

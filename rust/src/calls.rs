@@ -1,17 +1,20 @@
 //! The library's functions over a state and a memory that the caller keeps, over a case file and over a block of words.
 
 use crate::raw::*;
-use crate::{Cause, Event, Outcome, Reason, Refusal, RefusedAt, State, Trap, Verdict, STATE_SIZE};
+use crate::{Cause, Event, Outcome, Reason, Refusal, RefusedAt, Replayed, State, Stop, Trap, Verdict, STATE_SIZE};
 
 /// The room that a report needs, in bytes.
 pub const REPORT_ROOM: usize = 262_144;
+
+/// The bytes of a row of a log.
+pub const ROW_SIZE: usize = 48;
 
 const BAD_SIZE: u64 = u64::MAX;
 const TRAP: u64 = 256;
 const REFUSED: u64 = 512;
 
 fn refusal(number: u64) -> Refusal {
-    Refusal::of(number).expect("refusals are 1 to 11")
+    Refusal::of(number).expect("refusals are 1 to 13")
 }
 
 /// All that the program `floecavern` writes for the bytes of a case file, whatever they are: of a file that is no case,
@@ -146,4 +149,31 @@ pub fn run_bytes(
         BAD_SIZE => unreachable!("the sizes are right by type"),
         r => Err(RefusedAt { refusal: refusal(r - REFUSED), place: number(8) }),
     }
+}
+
+/// A board's step log, 48 bytes for each row, replayed: the hart of each row steps, up to the first row that doesn't agree
+/// with the model. Refusals 1, 2, 12 and 13.
+pub fn replay(state: &mut State, base: u64, mem: &mut [u8], log: &[u8]) -> Result<Replayed, Refusal> {
+    let mut told = [0; 24];
+    let (mem, mem_len) = (mem.as_mut_ptr(), mem.len());
+    let (rows, len, out, out_len) = (log.as_ptr(), log.len(), told.as_mut_ptr(), told.len());
+    // SAFETY: as in `step`.
+    let r = unsafe { floecavern_replay(state.pointer(), STATE_SIZE, base, mem, mem_len, rows, len, out, out_len) };
+    let number = |at: usize| u64::from_le_bytes(std::array::from_fn(|i| told[at + i]));
+    let (board, model) = (number(8), number(16));
+    let stop = match r {
+        0 => Stop::Agreed,
+        1 => Stop::Form,
+        2 => Stop::Pc { board, model },
+        3 => Stop::Word { board: board as u32, model: model as u32 },
+        4 => Stop::Rd { board: board as u8, model: model as u8 },
+        5 => Stop::Value { board, model },
+        BAD_SIZE => unreachable!("the sizes are right by type"),
+        r if r < REFUSED => {
+            let cause = Cause::of(r - TRAP).expect("causes are 0 to 8");
+            Stop::Trap(Trap { cause, value: model })
+        }
+        r => return Err(refusal(r - REFUSED)),
+    };
+    Ok(Replayed { rows: number(0) as usize, stop })
 }

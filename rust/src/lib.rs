@@ -50,8 +50,10 @@ mod machine;
 pub mod raw;
 mod state;
 
-pub use answers::{Cause, Outcome, Reason, Refusal, RefusedAt, Trap, Verdict};
-pub use calls::{check_loop, device_write, report, report_text, run, run_bytes, step, yield_hart, REPORT_ROOM};
+pub use answers::{Cause, Outcome, Reason, Refusal, RefusedAt, Replayed, Stop, Trap, Verdict};
+pub use calls::{
+    check_loop, device_write, replay, report, report_text, run, run_bytes, step, yield_hart, REPORT_ROOM, ROW_SIZE,
+};
 pub use event::Event;
 pub use machine::{Machine, MAX_MEMORY};
 pub use state::{Reservation, State, MAX_HARTS, STATE_SIZE};

@@ -1,6 +1,6 @@
 //! A machine that owns its state and its memory.
 
-use crate::{calls, Event, Outcome, Refusal, RefusedAt, State, MAX_HARTS};
+use crate::{calls, Event, Outcome, Refusal, RefusedAt, Replayed, State, MAX_HARTS};
 
 /// The longest memory that a machine can have, in bytes.
 pub const MAX_MEMORY: usize = 1_048_576;
@@ -104,5 +104,26 @@ impl Machine {
     /// The same of events that are bytes already, 24 for each, such as a case file's.
     pub fn run_bytes(&mut self, events: &[u8], budget: usize) -> Result<usize, RefusedAt> {
         calls::run_bytes(&mut self.state, self.base, &mut self.mem, events, budget)
+    }
+
+    /// A board's step log, 48 bytes for each row, replayed: the hart of each row steps, up to the first row that doesn't
+    /// agree with the model. The machine is then the one after exactly the rows before that. Refusals 1, 2, 12 and 13.
+    ///
+    /// ```
+    /// use floecavern::{Machine, Refusal, Replayed, Stop};
+    /// let mut machine = Machine::new(1, 0, 64)?;
+    /// machine.put_words(0, &[0x0070_0293, 0x0012_8313])?; // addi x5,x0,7; addi x6,x5,1
+    /// let log = b"0 0000000000000000 00700293 05 0000000000000007\n\
+    ///             0 0000000000000004 00128313 06 0000000000000009\n";
+    /// let stop = Stop::Value { board: 9, model: 8 };
+    /// assert_eq!(machine.replay(log)?, Replayed { rows: 1, stop });
+    /// assert_eq!(stop.to_string(), "value 0000000000000009 0000000000000008");
+    /// // The second row is not performed.
+    /// assert_eq!((machine.state.pc[0], machine.state.x[0][6]), (4, 0));
+    /// assert_eq!(machine.replay(&[]), Err(Refusal::LogEmpty));
+    /// # Ok::<(), Refusal>(())
+    /// ```
+    pub fn replay(&mut self, log: &[u8]) -> Result<Replayed, Refusal> {
+        calls::replay(&mut self.state, self.base, &mut self.mem, log)
     }
 }

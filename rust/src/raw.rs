@@ -48,4 +48,15 @@ extern "C" {
         ran: *mut u8,
         ran_len: usize,
     ) -> u64;
+    pub fn floecavern_replay(
+        state: *mut u8,
+        state_len: usize,
+        base: u64,
+        mem: *mut u8,
+        mem_len: usize,
+        log: *const u8,
+        log_len: usize,
+        told: *mut u8,
+        told_len: usize,
+    ) -> u64;
 }

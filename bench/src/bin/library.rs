@@ -1,13 +1,16 @@
 //! library KEEP FIRST COUNT: gives generated input to the calls of libcapi.a and to this crate, and compares what they answer, tell and
-//! leave: COUNT machines with their events, one call after another and as runs; COUNT case files; COUNT blocks for the loop checker.
+//! leave: COUNT machines with their events, one call after another and as runs, and with logs; COUNT case files; COUNT blocks for the
+//! loop checker.
 //! FIRST is the first seed. Stops at the first difference; what was given is then left in the folder KEEP. The file KEEP/current has the
 //! seed at work, should a call not come back.
 
 use bench::calls::{self, Call, Machine, BAD_SIZE, REFUSED, TRAP};
 use bench::case::EVENT;
 use bench::generate::builder::low_bytes;
-use bench::generate::{case, loop_block, refused_call, run_call, scenario, Rng};
-use bench::machine::MAX_HARTS;
+use bench::generate::{case, log, loop_block, refused_call, run_call, scenario, Rng};
+use bench::log::ROW;
+use bench::machine::{State, MAX_HARTS};
+use bench::reached::Reached;
 use bench::{floecavern, layout};
 use std::collections::BTreeMap;
 use std::fs;
@@ -17,7 +20,6 @@ use std::ops::Range;
 const UNTOUCHED: u8 = 0xA5;
 
 /// What was met.
-#[derive(Default)]
 struct Tally {
     calls: u64,
     /// By call and answer.
@@ -26,6 +28,9 @@ struct Tally {
     runs: BTreeMap<&'static str, u64>,
     /// Machines by reservations held at the start.
     held: BTreeMap<usize, u64>,
+    replays: Reached,
+    /// Logs cut in two parts, both replayed as the whole.
+    cut: u64,
 }
 
 /// Two sides that differ: files for the folder KEEP, by what their names end in.
@@ -40,16 +45,21 @@ struct Pair<'a> {
     ours: Machine,
     theirs: Machine,
     calls: Vec<Call>,
+    /// What the last call told.
+    told: [u8; 32],
 }
 
 impl<'a> Pair<'a> {
     fn new(start: &'a Machine) -> Self {
-        Pair { start, ours: start.clone(), theirs: start.clone(), calls: Vec::new() }
+        Pair { start, ours: start.clone(), theirs: start.clone(), calls: Vec::new(), told: [UNTOUCHED; 32] }
     }
 
     /// Makes a call on both sides and gives its answer; `told` is the size of the buffer for what it tells.
     fn call(&mut self, call: Call, told: usize, tally: &mut Tally) -> Result<u64, Difference> {
         let (mut a, mut b) = ([UNTOUCHED; 32], [UNTOUCHED; 32]);
+        if let (Call::Replay { log }, Some(state), 24) = (&call, layout::read(&self.ours.state), told) {
+            tally.replays.count(&state, self.ours.base, &self.ours.memory, log);
+        }
         let ours = calls::perform(&mut self.ours, &call, &mut a[..told]);
         let theirs = floecavern::perform(&mut self.theirs, &call, &mut b[..told]);
         if theirs != ours || a != b || self.theirs != self.ours {
@@ -57,6 +67,7 @@ impl<'a> Pair<'a> {
         }
         tally.count(&call, ours, &a);
         self.calls.push(call);
+        self.told = a;
         Ok(ours)
     }
 
@@ -78,19 +89,34 @@ impl<'a> Pair<'a> {
         if let Call::Run { events, .. } = call {
             files.push(("events", events.clone()));
         }
+        if let Call::Replay { log } = call {
+            files.push(("log", log.clone()));
+        }
         Difference { what, files }
     }
 }
 
-/// A call and its arguments, without a run's events.
+/// A call and its arguments, without a run's events and a replay's rows.
 fn shown(call: &Call) -> String {
     match call {
         Call::Run { events, budget } => format!("run of {} bytes of events, budget {budget}", events.len()),
+        Call::Replay { log } => format!("replay of {} bytes of log", log.len()),
         call => format!("{call:x?}"),
     }
 }
 
 impl Tally {
+    fn new() -> Self {
+        Tally {
+            calls: 0,
+            answers: BTreeMap::new(),
+            runs: BTreeMap::new(),
+            held: BTreeMap::new(),
+            replays: Reached::new(&[1, 2, 12, 13]),
+            cut: 0,
+        }
+    }
+
     fn count(&mut self, call: &Call, answer: u64, told: &[u8]) {
         self.calls += 1;
         *self.answers.entry((call.name(), answer)).or_default() += 1;
@@ -120,12 +146,17 @@ impl Tally {
         }
         println!("  answers:");
         for ((call, answer), number) in &self.answers {
-            println!("    {call} {}: {number}", answer_name(*answer));
+            // Those of replays come below.
+            if *call != "replay" || *answer == BAD_SIZE {
+                println!("    {call} {}: {number}", answer_name(*answer));
+            }
         }
         println!("  runs not refused, by events performed:");
         for (kind, number) in &self.runs {
             println!("    {kind}: {number}");
         }
+        self.replays.print();
+        println!("    logs cut in two, both parts replayed as the whole: {}", self.cut);
     }
 }
 
@@ -168,6 +199,31 @@ fn compare_machine(seed: u64, tally: &mut Tally) -> Result<(), Difference> {
         let call = run_call(rng, machine, count, &given.events);
         let told = if rng.percent(2) { rng.pick(&[0, 8, 15, 17, 32]) } else { call.told() };
         Pair::new(machine).call(call, told, tally)?;
+    }
+    compare_logs(rng, given.machine, tally)
+}
+
+/// Logs of a machine, each whole and in two parts, which the calls take up one after the other.
+fn compare_logs(rng: &mut Rng, mut machine: Machine, tally: &mut Tally) -> Result<(), Difference> {
+    for _ in 0..3 {
+        let state = layout::read(&machine.state).unwrap_or(State { count: 0, ..State::default() });
+        let log = log(rng, &state, machine.base, &mut machine.memory);
+        let told = if rng.percent(2) { rng.pick(&[0, 16, 23, 25, 32]) } else { 24 };
+        let mut whole = Pair::new(&machine);
+        let answer = whole.call(Call::Replay { log: log.clone() }, told, tally)?;
+        let cut = rng.below((log.len() / ROW) as u64 + 1) as usize * ROW;
+        let mut parts = Pair::new(&machine);
+        let first = parts.call(Call::Replay { log: log[..cut].to_vec() }, 24, tally)?;
+        let rest = parts.call(Call::Replay { log: log[cut..].to_vec() }, 24, tally)?;
+        if told == 24 && first == 0 && rest < REFUSED {
+            // What is told of a stop stands behind the number of rows.
+            let rows = (cut / ROW) as u64 + layout::get(&parts.told, 0);
+            if (rest, rows, &parts.told[8..], &parts.ours) != (answer, layout::get(&whole.told, 0), &whole.told[8..], &whole.ours) {
+                let what = format!("a log of {} bytes and its parts, cut at {cut}, end differently, base {:#x}\n", log.len(), machine.base);
+                return Err(Difference { what, files: vec![("state", machine.state), ("memory", machine.memory), ("log", log)] });
+            }
+            tally.cut += 1;
+        }
     }
     Ok(())
 }
@@ -257,7 +313,7 @@ fn main() -> std::io::Result<()> {
     let (first, count): (u64, u64) = (first.parse().expect("FIRST"), count.parse().expect("COUNT"));
     let seeds = first..first + count;
     println!("calls of the library, seeds {first} to {}", seeds.end - 1);
-    let mut tally = Tally::default();
+    let mut tally = Tally::new();
     each_seed(keep, "machine", seeds.clone(), |seed| compare_machine(seed, &mut tally));
     println!("{count} machines, {} calls, all the same", tally.calls);
     tally.print();

@@ -1,11 +1,12 @@
-//! speed BATCHES FILE..: measures the calls of libcapi.a against this crate in one process and prints tables: long runs, `report` of the
-//! files, growth with harts, memory and events, single calls. A ratio is the library's time by this crate's.
+//! speed BATCHES FILE..: measures the calls of libcapi.a against this crate in one process and prints tables: long runs, long replays,
+//! `report` of the files, growth with harts, memory and events, single calls. A ratio is the library's time by this crate's.
 //!
 //! Times are processor time, the least of BATCHES batches, both sides in turns so that other work on the machine meets both alike.
 
 use bench::calls::{Call, Machine};
 use bench::case::EVENT;
 use bench::clock::now;
+use bench::log::{replay, step_row, write_row, Replayed};
 use bench::machine::{Memory, State};
 use bench::work::{self, Work, BASE};
 use bench::{floecavern, layout};
@@ -14,6 +15,11 @@ use std::hint::black_box;
 const LONG: usize = 1_000_000;
 /// A batch has about as many events, however few a call has.
 const BATCH: usize = 200_000;
+/// Two rows of hart 1 of `work::idle`, after which it is where it was.
+const TWO_ROWS: &[u8] = b"\
+1 0000000080000000 00000013 00 0000000000000000
+1 0000000080000004 ffdff06f 00 0000000000000000
+";
 
 /// Nanoseconds, of the library and of this crate.
 #[derive(Clone, Copy)]
@@ -39,14 +45,20 @@ fn timed(work: impl FnOnce()) -> f64 {
     (now() - from) as f64
 }
 
-/// The least time of both, taken in turns.
-fn in_turns(batches: usize, mut theirs: impl FnMut(), mut ours: impl FnMut()) -> Times {
-    let mut least = Times { theirs: f64::INFINITY, ours: f64::INFINITY };
+/// The least time of each, taken in turns.
+fn least<const N: usize>(batches: usize, mut works: [&mut dyn FnMut(); N]) -> [f64; N] {
+    let mut least = [f64::INFINITY; N];
     for _ in 0..batches {
-        least.theirs = least.theirs.min(timed(&mut theirs));
-        least.ours = least.ours.min(timed(&mut ours));
+        for (time, work) in least.iter_mut().zip(&mut works) {
+            *time = time.min(timed(work));
+        }
     }
     least
+}
+
+fn in_turns(batches: usize, mut theirs: impl FnMut(), mut ours: impl FnMut()) -> Times {
+    let [theirs, ours] = least(batches, [&mut theirs, &mut ours]);
+    Times { theirs, ours }
 }
 
 /// The time of one run of the work's events. Every run takes up where the last one ended, on both sides, and both end alike.
@@ -74,6 +86,33 @@ fn run(batches: usize, work: Work) -> Times {
     times
 }
 
+/// The log of the work's events, which are steps that don't trap.
+fn log_of(work: &Work) -> Vec<u8> {
+    let (mut state, mut bytes) = (work.state.clone(), work.memory.clone());
+    let mut memory = Memory { base: BASE, bytes: &mut bytes };
+    let mut row = |event: &[u8]| step_row(&mut state, &mut memory, event[1] as usize).expect("no step traps");
+    work.events.chunks_exact(EVENT).flat_map(|event| write_row(&row(event))).collect()
+}
+
+/// The time of one replay of the log of the work's events, and that of the library's run of these events, every time from the start.
+fn replayed(batches: usize, work: &Work) -> (Times, f64) {
+    let (rows, log) = (work.events.len() / EVENT, log_of(work));
+    let theirs = |call: &Call| {
+        let mut machine = Machine { state: layout::bytes(&work.state), base: BASE, memory: work.memory.clone() };
+        let mut told = vec![0; call.told()];
+        assert_eq!(floecavern::perform(&mut machine, call, &mut told), 0);
+        assert_eq!(layout::get(&told, 0), rows as u64);
+    };
+    let ours = || {
+        let (mut state, mut bytes) = (work.state.clone(), work.memory.clone());
+        let mut memory = Memory { base: BASE, bytes: &mut bytes };
+        assert_eq!(replay(&mut state, &mut memory, black_box(&log)), Ok(Replayed { rows, stop: None }));
+    };
+    let (replay, run) = (Call::Replay { log: log.clone() }, Call::Run { events: work.events.clone(), budget: rows });
+    let [theirs, ours, run] = least(batches, [&mut || theirs(&replay), &mut || ours(), &mut || theirs(&run)]);
+    (Times { theirs, ours }, run)
+}
+
 fn heading(title: &str) {
     println!("\n{title}");
 }
@@ -96,6 +135,25 @@ fn long_runs(batches: usize) {
         worst = worst.max(times.ratio());
     }
     println!("highest ratio {worst:.2}, target 2.0");
+}
+
+fn long_replays(batches: usize) {
+    heading(&format!("Long replays: one call of {BATCH} rows; million rows a second, and a row by an event of a run of the same steps"));
+    println!("{:<28} {:>9} {:>9} {:>7} {:>11}", "", "library", "bench", "ratio", "row / event");
+    let works: [(&str, Work); 4] = [
+        ("compute, 4 harts", work::compute(4, BATCH)),
+        ("memory, 4 harts, 64 KiB", work::memory(4, 65_536, BATCH)),
+        ("LR/SC on one line, 8 harts", work::contention(8, BATCH)),
+        ("AMO and AMOCAS, 4 harts", work::amos(4, BATCH)),
+    ];
+    let (mut worst, mut most): (f64, f64) = (0.0, 0.0);
+    for (name, work) in works {
+        let (times, run) = replayed(batches, &work);
+        let (rows, by_event) = (times.each(BATCH), times.theirs / run);
+        println!("{name:<28} {:>9.1} {:>9.1} {:>7.2} {by_event:>11.2}", 1e3 / rows.theirs, 1e3 / rows.ours, rows.ratio());
+        (worst, most) = (worst.max(rows.ratio()), most.max(by_event));
+    }
+    println!("highest ratio {worst:.2}, target 1.5; a row is at most {most:.2} events, target 4.0");
 }
 
 fn reports(batches: usize, files: &[String]) -> std::io::Result<()> {
@@ -156,17 +214,18 @@ fn single_calls(batches: usize) {
     heading("One call, 8 harts, 4096 bytes; the library on a state kept as bytes, bench on its own: nanoseconds");
     println!("{:<28} {:>9} {:>9} {:>7}", "", "library", "bench", "ratio");
     type Ours = fn(&mut State, &mut Memory);
-    let rows: [(&str, Call, Ours); 4] = [
+    let rows: [(&str, Call, Ours); 5] = [
         ("step", Call::Step { hart: 1 }, |s, m| _ = black_box(s.step(m, 1))),
         ("device_write", Call::DeviceWrite { addr: BASE + 512, size: 8, data: 1 }, |s, m| _ = black_box(s.device(m, BASE + 512, 8, 1))),
         ("yield", Call::Yield { hart: 1 }, |s, m| _ = black_box(s.yield_hart(m, 1))),
         ("run of no events", Call::Run { events: Vec::new(), budget: 0 }, |s, m| _ = black_box(bench::run(s, m, &[], 0))),
+        ("replay of two rows", Call::Replay { log: TWO_ROWS.to_vec() }, |s, m| _ = black_box(replay(s, m, TWO_ROWS))),
     ];
     for (name, call, perform) in rows {
         let Work { mut state, mut memory, .. } = work::idle();
         let mut machine = Machine { state: layout::bytes(&state), base: BASE, memory: memory.clone() };
         let runs = 5_000;
-        let theirs = || (0..runs).for_each(|_| assert_eq!(floecavern::perform(&mut machine, &call, &mut [0; 16][..call.told()]), 0));
+        let theirs = || (0..runs).for_each(|_| assert_eq!(floecavern::perform(&mut machine, &call, &mut [0; 24][..call.told()]), 0));
         let ours = || (0..runs).for_each(|_| perform(&mut state, &mut Memory { base: BASE, bytes: &mut memory }));
         let times = in_turns(batches, theirs, ours).each(runs);
         assert!(machine.memory == memory && machine.state == layout::bytes(&state), "{name}: the states differ");
@@ -181,6 +240,7 @@ fn main() -> std::io::Result<()> {
         std::process::exit(2);
     };
     long_runs(batches);
+    long_replays(batches);
     reports(batches, &arguments[2..])?;
     growths(batches);
     single_calls(batches);

@@ -218,7 +218,7 @@ impl Builder {
         for _ in 0..40 {
             last = rng.reg();
             let addr = x[last as usize];
-            if addr % align == 0 && self.inside(addr, 16) {
+            if addr.is_multiple_of(align) && self.inside(addr, 16) {
                 break;
             }
         }
@@ -229,7 +229,7 @@ impl Builder {
     fn reserved_pointer(&self, hart: usize, align: u64) -> Option<u32> {
         let hart = &self.state.harts[hart];
         let set = hart.reservation?.addr / 64;
-        (1..32).find(|&r| hart.x[r as usize] % align == 0 && hart.x[r as usize] / 64 == set)
+        (1..32).find(|&r| hart.x[r as usize].is_multiple_of(align) && hart.x[r as usize] / 64 == set)
     }
 
     /// AMOCAS, half of the time over equal bytes.

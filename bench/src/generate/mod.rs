@@ -3,6 +3,7 @@
 mod blocks;
 pub mod builder;
 mod damage;
+mod logs;
 mod machines;
 mod makers;
 mod rng;
@@ -11,7 +12,11 @@ pub mod words;
 use builder::Builder;
 use makers::{contention, guided, program};
 
+use crate::case::read_case;
+use crate::machine::State;
+
 pub use blocks::loop_block;
+pub use logs::log;
 pub use machines::{refused_call, run_call, scenario, Scenario};
 pub use rng::Rng;
 
@@ -28,4 +33,20 @@ pub fn case(seed: u64) -> Vec<u8> {
     };
     let b = Builder::for_case(rng);
     maker(rng, b).file()
+}
+
+/// A case file with a log of it. The file is mostly one that isn't refused.
+pub fn case_with_log(seed: u64) -> (Vec<u8>, Vec<u8>) {
+    let rng = &mut Rng::new(seed);
+    let mut file = case(rng.next());
+    while read_case(&file).is_err() && rng.percent(90) {
+        file = case(rng.next());
+    }
+    let Ok(case) = read_case(&file) else {
+        return (file, log(rng, &State { count: 0, ..State::default() }, 0, &mut []));
+    };
+    let (mut memory, place) = (case.memory.to_vec(), case.memory.as_ptr() as usize - file.as_ptr() as usize);
+    let log = log(rng, &case.state, case.base, &mut memory);
+    file[place..place + memory.len()].copy_from_slice(&memory);
+    (file, log)
 }

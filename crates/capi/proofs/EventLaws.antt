@@ -39,7 +39,7 @@ module _ (base : ℕ) (mem : List ℕ) (s : State) where
   pub small-answer : (e : Event) → Small (answerOf base mem s e .outcome)
   small-answer e = small-answered (answerOf base mem s e .outcome) (answered base mem s e)
 
-  small-refusal : refusalOf base (length mem) s ≤ 2
+  pub small-refusal : refusalOf base (length mem) s ≤ 2
   unfolding refusalOf
   small-refusal = go (memoryOk base (length mem)) (stateOk base (length mem) s)
     where

@@ -1,5 +1,4 @@
--- What the proofs of several functions use, and what their contracts come to for a caller.
+-- What the proofs of several functions use.
 mod LoopLaws
 mod EventLaws
-mod Ranges
-pub mod Means
+pub mod ReplayLaws

@@ -1,3 +1,4 @@
 -- What the exported functions answer.
 pub mod Answers
 pub mod Events
+pub mod Replay

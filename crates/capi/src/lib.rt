@@ -1,4 +1,5 @@
 // The functions that C and Rust call: include/floecavern.h says how. None has a precondition.
+mod replay;
 mod steps;
 
 use retry::LoopAnswer;

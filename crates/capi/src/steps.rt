@@ -56,7 +56,7 @@ fn is_retired(o: Outcome) -> bool
 }
 
 // Puts a state over the bytes if t holds.
-fn write_if(t: bool, state: &mut [u8], s: State)
+pub fn write_if(t: bool, state: &mut [u8], s: State)
     requires { ⌜ length (now state) ≡ 2312 ⌝ }
     ensures { λ _. ⌜ now (state .exit) ≡ stateIf t (now (state .entry)) s ⌝ }
 {

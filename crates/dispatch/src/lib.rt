@@ -25,7 +25,7 @@ ghost use Rattle.effect.specs.Atomic.{CoveredInside};
 ghost use Rattle.effect.specs.Execute.{regAt, pairAt, execAtomic, execute, executeWord};
 
 // Register r of hart h; x has those of all harts.
-fn reg(x: &[u64; 256], h: usize, r: usize) -> u64
+pub fn reg(x: &[u64; 256], h: usize, r: usize) -> u64
     requires { ⌜ h < 8 ⌝ }
     ensures { λ v. ⌜ v ≡ regAt (now (x .entry)) h r ⌝ }
 {
@@ -48,7 +48,7 @@ fn reg_pair(x: &[u64; 256], h: usize, r: usize) -> Pair
 }
 
 // The place at an offset.
-fn plus(a: u64, imm: u64) -> u64
+pub fn plus(a: u64, imm: u64) -> u64
     ensures { λ r. ⌜ r ≡ offset 64 a imm ⌝ }
 {
     std::num::wrapping_add_u64(a, imm)

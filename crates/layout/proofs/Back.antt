@@ -21,7 +21,7 @@ use Rattle.reserve.specs.declared.Slot.{Slot}
 use Rattle.machine.specs.Rules.{Shaped}
 use Rattle.machine.specs.declared.State.{State}
 use Rattle.layout.specs.Layout.{wordAt, reservationAt, table, stateIn, wordBytes, reservationWords, slotWords, stateOver}
-use Rattle.layout.specs.Ranged.{Fits64, Ranged}
+use Rattle.machine.specs.Ranged.{Fits64, Ranged}
 use Rattle.layout.proofs.LayoutLaws.{states, length-table, table-at, table-all, length-wordBytes, length-reservation, length-slotWords}
 
 -- ---- numbers

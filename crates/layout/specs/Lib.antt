@@ -1,3 +1,2 @@
 -- A state as bytes at fixed offsets.
 pub mod Layout
-pub mod Ranged

@@ -37,7 +37,7 @@ fn put_who(out: &mut [u8], at: usize, e: Event) -> usize
 }
 
 // A trap's cause and value.
-fn put_trap(out: &mut [u8], at: usize, cause: u64, value: u64) -> usize
+pub fn put_trap(out: &mut [u8], at: usize, cause: u64, value: u64) -> usize
     requires { ⌜ at + 43 ≤ length (now out) ⌝ }
     ensures { λ r. ⌜ Put (now (out .entry)) at (saidOf (Outcome.Trap cause value)) (now (out .exit)) r ⌝ }
     ensures { λ r. ⌜ r ≤ at + 43 ⌝ }

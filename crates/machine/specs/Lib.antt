@@ -1,3 +1,4 @@
 -- The state of the machine.
 pub mod State
 pub mod Rules
+pub mod Ranged

@@ -120,7 +120,7 @@ module _ (base len : ℕ) where
         ),
   )
 
-  refusal-agree : (s t : State) → Agree s t → refusalOf base len s ≡ refusalOf base len t
+  pub refusal-agree : (s t : State) → Agree s t → refusalOf base len s ≡ refusalOf base len t
   unfolding refusalOf
   refusal-agree s t a =
       let ok : stateOk base len s ≡ stateOk base len t =
@@ -165,7 +165,7 @@ module _ (base : ℕ) (mem : List ℕ) (s t : State) (a : Agree s t) where
 -- ---- events one after another
 
 module _ (base : ℕ) where
-  alike-next : (m n : Machine) → Shaped (m .state) → Shaped (n .state) → Alike m n → (e : Event)
+  pub alike-next : (m n : Machine) → Shaped (m .state) → Shaped (n .state) → Alike m n → (e : Event)
       → (outcomeAt base m e ≡ outcomeAt base n e) × Alike (nextOf base m e) (nextOf base n e)
   unfolding nextOf
   alike-next m n p q a e =

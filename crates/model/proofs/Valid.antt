@@ -144,7 +144,7 @@ module _ (base : ℕ) (mem : List ℕ) (s : State) (mr : MemoryRules base (lengt
   of-exec h (trap cause value) o = tt
   of-exec h (effect ws to t) o = o
 
-  fetch-sound : (h : ℕ) → h < s .count → Sound base (length mem) (stepOf base mem s h)
+  pub fetch-sound : (h : ℕ) → h < s .count → Sound base (length mem) (stepOf base mem s h)
   unfolding fetchOf
   fetch-sound h l =
       cond-all (Sound base (length mem)) (insideOf base (length mem) (getD (s .pc) h 0) 4) _ (trap 1 (getD (s .pc) h 0))

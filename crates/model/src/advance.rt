@@ -36,7 +36,7 @@ fn fetch(x: &[u64; 256], h: usize, pc: u64, base: u64, res: Reservation, mem: &m
 }
 
 // Sets register r of hart h; x0 never changes.
-fn set_reg(x: &mut [u64; 256], h: usize, r: usize, v: u64)
+pub fn set_reg(x: &mut [u64; 256], h: usize, r: usize, v: u64)
     requires { ⌜ h < 8 ⌝ }
     ensures { λ _. ⌜ now (x .exit) ≡ setReg h r v (now (x .entry)) ⌝ }
 {

@@ -14,7 +14,7 @@ ghost use Rattle.text.specs.Put.{Put};
 ghost use Rattle.report.specs.Report.{refusedLine, caseLine, endLine, linesOfCase, reportOf};
 
 // The line of a refused file.
-fn put_refused(out: &mut [u8], at: usize, number: u64, place: u64) -> usize
+pub fn put_refused(out: &mut [u8], at: usize, number: u64, place: u64) -> usize
     requires { ⌜ at + 50 ≤ length (now out) ⌝ }
     ensures { λ r. ⌜ Put (now (out .entry)) at (refusedLine number place) (now (out .exit)) r ⌝ }
     ensures { λ r. ⌜ r ≤ at + 50 ⌝ }
@@ -42,7 +42,7 @@ fn put_case(out: &mut [u8], at: usize, harts: u64, bytes: u64, events: u64) -> u
 }
 
 // The last line of a case.
-fn put_end(out: &mut [u8], at: usize, events: u64) -> usize
+pub fn put_end(out: &mut [u8], at: usize, events: u64) -> usize
     requires { ⌜ at + 25 ≤ length (now out) ⌝ }
     ensures { λ r. ⌜ Put (now (out .entry)) at (endLine events) (now (out .exit)) r ⌝ }
     ensures { λ r. ⌜ r ≤ at + 25 ⌝ }

@@ -103,7 +103,7 @@ hexFrom-more k n = refl
 -- reading back
 
 -- a digit's character is read as the digit
-digit-glyph : (d : ℕ) → d < 16 → digitOf (glyph d) ≡ d
+pub digit-glyph : (d : ℕ) → d < 16 → digitOf (glyph d) ≡ d
 digit-glyph d h =
     bool-cases (ltb d 10)
     (λ t. let e : 48 + d - 48 ≡ d = omega arith in rw (t, lt-ltb (48 + d) 58 (omega (arith, ltb-true d 10 t)), e))
@@ -122,7 +122,7 @@ module _ (base : ℕ) (some : 0 < base) (most : base ≤ 16) where
   numeral-one : (d : ℕ) → d < base → Numeral base d (glyph d ∷ [])
   numeral-one d h = record { digits = ((d, h, refl), tt); value = rw (digit-glyph d (omega arith), zero-mul) (omega arith) }
 
-  numeral-more : (n : ℕ) (text : List ℕ) → Numeral base (n / base) text → Numeral base n (text ++ (glyph (n % base) ∷ []))
+  pub numeral-more : (n : ℕ) (text : List ℕ) → Numeral base (n / base) text → Numeral base n (text ++ (glyph (n % base) ∷ []))
   numeral-more n text x =
       let small : n % base < base = mod-lt n some in
       record {

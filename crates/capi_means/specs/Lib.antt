@@ -1,0 +1,2 @@
+-- What a caller reads from the answers of `capi`.
+pub mod Stops

@@ -1,0 +1,1 @@
+// Theorems only: what the contracts of `capi` come to for a caller.

@@ -1,0 +1,2 @@
+-- The rows that the model makes.
+pub mod Made

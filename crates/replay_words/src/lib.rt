@@ -1,0 +1,1 @@
+// Theorems only: where a replay of a log stops, and why (02 [1]).

@@ -1,0 +1,3 @@
+-- What the contracts of `steplog` cite.
+pub mod Digits
+pub mod Row
