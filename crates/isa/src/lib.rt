@@ -7,7 +7,7 @@ ghost use Rattle.isa.specs.Decode.{decodeOf};
 mod amo;
 mod base;
 pub mod class;
-mod fields;
+pub mod fields;
 
 pub enum LoadOp {
     Lb,

@@ -1,7 +1,7 @@
 // The rows that the model makes: a step performed, and the row that a board logs of it.
+use isa::Instr;
 use machine::State;
 use model::Outcome;
-use reach::reach_of;
 use steplog::Row;
 use word::bytes::load_at;
 ghost use mathlib.Core.Path.{_≡_};
@@ -44,6 +44,25 @@ fn word_of(pc: &[u64; 8], h: usize, base: u64, mem: &[u8]) -> u32
     load_at(mem, (at - base) as usize, 4) as u32
 }
 
+// The register that a row of an instruction shows.
+fn shown_rd(i: Instr) -> usize
+    ensures { λ r. ⌜ r ≡ shownRd i ⌝ }
+{
+    match i {
+        Instr::Lui { rd, .. } => rd,
+        Instr::Auipc { rd, .. } => rd,
+        Instr::Jal { rd, .. } => rd,
+        Instr::Jalr { rd, .. } => rd,
+        Instr::Load { rd, .. } => rd,
+        Instr::OpImm { rd, .. } => rd,
+        Instr::OpImm32 { rd, .. } => rd,
+        Instr::Op { rd, .. } => rd,
+        Instr::Op32 { rd, .. } => rd,
+        Instr::Amo(m) => m.rd,
+        _ => 0,
+    }
+}
+
 // The row of a step: pc and word are those before it, the registers those after it.
 fn row_of(pc: &[u64; 8], x: &[u64; 256], h: usize, word: u32) -> Row
     ensures { λ r. ⌜ r ≡ record {
@@ -54,8 +73,7 @@ fn row_of(pc: &[u64; 8], x: &[u64; 256], h: usize, word: u32) -> Row
       value = regAt (now (x .entry)) (h % 8) (shownRd (decodeOf word));
     } ⌝ }
 {
-    let c = reach_of(isa::decode(word), x, h % 8);
-    let rd = c.rd;
+    let rd = shown_rd(isa::decode(word));
     let value = dispatch::reg(x, h % 8, rd);
     Row {
         hart: h,

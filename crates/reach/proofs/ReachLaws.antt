@@ -1,6 +1,6 @@
 -- What an instruction may change, over all of them: the register that it sets first is its rd (where it sets none, that is 0), and what it writes is
 -- at most 16 bytes, from `writesAt` on. Assumes nothing.
-use mathlib.Core.Path.{_≡_, refl}
+use mathlib.Core.Path.{_≡_, refl, sym, subst}
 use mathlib.Core.Bool.{Bool, true, false}
 use mathlib.Core.List.{List}
 use Prim.Native.Nat.{ℕ, _+_, _/_, _%_, _^_, _<_, _≤_}
@@ -13,6 +13,8 @@ use Rattle.word.specs.Bytes.{toLe}
 use Rattle.word.proofs.BytesLaws.{length-toLe}
 use Rattle.word.proofs.ChooseLaws.{cond-all, cond-cases}
 use Rattle.isa.specs.Wf.{Regs}
+use Rattle.isa.specs.Decode.{decodeOf}
+use Rattle.isa.proofs.DecodeLaws.{regs-below}
 use Rattle.isa.specs.Width.{bitsOf, bytesOf}
 use Rattle.isa.specs.declared.Width.{Width}
 use Rattle.isa.specs.declared.Width.the-variants.{Word, Double}
@@ -29,7 +31,9 @@ use Rattle.effect.specs.Memory.{faultOf, checked, valueAt, storeBytes, execLoad
 use Rattle.effect.specs.Atomic.{pairWrites, swapped, execLr, execSc, execAmo, execCas, execCasPair}
 use Rattle.effect.specs.Execute.{pairAt, atomicBy, execAtomic, execute}
 use Rattle.reach.specs.Rd.{shownRd, SetsRd}
-use Rattle.reach.specs.Reach.{writesAt}
+use Rattle.reach.specs.Reach.{writesAt, reachIn}
+use Rattle.reach.specs.declared.Reach.{Reach}
+use Rattle.reach.proofs.ClassLaws.{Shows, shows}
 
 -- what is written, is from a on, and 1 to 16 bytes
 abbrev pub WritesFrom : ℕ → Access → Type 0
@@ -131,6 +135,37 @@ module _ (pc base : ℕ) (mem : List ℕ) (covered : ℕ → ℕ → Bool) where
   reaches (Op op rd rs1 rs2) l word x = (refl, tt)
   reaches (Op32 op rd rs1 rs2) l word x = (refl, tt)
   reaches (Amo m) l word x = reach-atomic (m .op) m (l .0) x
+
+-- ---- the same by the word's class
+
+module _ (pc base : ℕ) (mem : List ℕ) (covered : ℕ → ℕ → Bool) (word : ℕ) (x : ℕ → ℕ) (c : Reach) where
+  same-reach : (i : Instr) → Regs i → c ≡ record { rd = shownRd i; at = writesAt i x }
+      → Reaches (c .rd) (c .at) (execute 64 i word x pc base mem covered)
+  same-reach i l s =
+      subst (λ (q : Reach). Reaches (q .rd) (q .at) (execute 64 i word x pc base mem covered)) (sym s) (reaches pc base mem covered i l word x)
+
+  by-class : (i : Instr) → Regs i → Shows c x i → Reaches (c .rd) (c .at) (execute 64 i word x pc base mem covered)
+  unfolding execute
+  by-class Illegal l s = tt
+  by-class Ecall l s = tt
+  by-class Ebreak l s = tt
+  by-class (Fence rd rs1 imm) l s = same-reach (Fence rd rs1 imm) l s
+  by-class (Lui rd imm) l s = same-reach (Lui rd imm) l s
+  by-class (Auipc rd imm) l s = same-reach (Auipc rd imm) l s
+  by-class (Jal rd imm) l s = same-reach (Jal rd imm) l s
+  by-class (Jalr rd rs1 imm) l s = same-reach (Jalr rd rs1 imm) l s
+  by-class (Branch op rs1 rs2 imm) l s = same-reach (Branch op rs1 rs2 imm) l s
+  by-class (Load op rd rs1 imm) l s = same-reach (Load op rd rs1 imm) l s
+  by-class (Store op rs1 rs2 imm) l s = same-reach (Store op rs1 rs2 imm) l s
+  by-class (OpImm op rd rs1 imm) l s = same-reach (OpImm op rd rs1 imm) l s
+  by-class (OpImm32 op rd rs1 imm) l s = same-reach (OpImm32 op rd rs1 imm) l s
+  by-class (Op op rd rs1 rs2) l s = same-reach (Op op rd rs1 rs2) l s
+  by-class (Op32 op rd rs1 rs2) l s = same-reach (Op32 op rd rs1 rs2) l s
+  by-class (Amo m) l s = same-reach (Amo m) l s
+
+pub reaches-in : (pc base : ℕ) (mem : List ℕ) (covered : ℕ → ℕ → Bool) (word : ℕ) (x : ℕ → ℕ)
+    → (let c = reachIn word x in Reaches (c .rd) (c .at) (execute 64 (decodeOf word) word x pc base mem covered))
+reaches-in pc base mem covered word x = by-class pc base mem covered word x (reachIn word x) (decodeOf word) (regs-below word) (shows word x)
 
 -- ---- rd is a register
 

@@ -2,7 +2,8 @@
 // bytes, from one address on.
 use dispatch::plus;
 use dispatch::reg;
-use isa::Instr;
+use isa::class;
+use isa::fields;
 use model::advance::set_reg;
 use word::bytes::load_at;
 use word::bytes::store_at;
@@ -13,10 +14,9 @@ ghost use Rattle.word.specs.Bytes.{le, toLe};
 ghost use Rattle.word.specs.Memory.{part, splice};
 ghost use Rattle.effect.specs.Execute.{regAt};
 ghost use Rattle.model.specs.Act.{setReg};
-ghost use Rattle.reach.specs.Rd.{shownRd};
-ghost use Rattle.reach.specs.Reach.{writesAt, windowOf};
+ghost use Rattle.reach.specs.Reach.{windowOf, reachIn};
 
-// The register that a row of an instruction shows, and the address from which on the instruction may write.
+// The register that a row shows, and the address from which on the step may write.
 pub struct Reach {
     pub rd: usize,
     pub at: u64,
@@ -29,30 +29,26 @@ pub struct Saved {
     pub high: u64,
 }
 
-// What hart h's instruction may change.
-pub fn reach_of(i: Instr, x: &[u64; 256], h: usize) -> Reach
+// What hart h's word may change, by its class. Decoding it here too would cost as much as all else of a row.
+pub fn reach_in(word: u32, x: &[u64; 256], h: usize) -> Reach
     requires { ⌜ h < 8 ⌝ }
-    ensures { λ r. ⌜ r ≡ record { rd = shownRd i; at = writesAt i (regAt (now (x .entry)) h) } ⌝ }
+    ensures { λ r. ⌜ r ≡ reachIn word (regAt (now (x .entry)) h) ⌝ }
 {
-    match i {
-        Instr::Lui { rd, .. } => Reach { rd, at: 0 },
-        Instr::Auipc { rd, .. } => Reach { rd, at: 0 },
-        Instr::Jal { rd, .. } => Reach { rd, at: 0 },
-        Instr::Jalr { rd, .. } => Reach { rd, at: 0 },
-        Instr::Load { rd, .. } => Reach { rd, at: 0 },
-        Instr::Store { rs1, imm, .. } => Reach {
+    match class::class_of(word) {
+        class::MISC_MEM => Reach { rd: 0, at: 0 },
+        class::STORE => Reach {
             rd: 0,
-            at: plus(reg(x, h, rs1), imm),
+            at: plus(reg(x, h, fields::rs1(word)), fields::imm_s(word)),
         },
-        Instr::OpImm { rd, .. } => Reach { rd, at: 0 },
-        Instr::OpImm32 { rd, .. } => Reach { rd, at: 0 },
-        Instr::Op { rd, .. } => Reach { rd, at: 0 },
-        Instr::Op32 { rd, .. } => Reach { rd, at: 0 },
-        Instr::Amo(m) => Reach {
-            rd: m.rd,
-            at: reg(x, h, m.rs1),
+        class::AMO => Reach {
+            rd: fields::rd(word),
+            at: reg(x, h, fields::rs1(word)),
         },
-        _ => Reach { rd: 0, at: 0 },
+        class::BRANCH => Reach { rd: 0, at: 0 },
+        _ => Reach {
+            rd: fields::rd(word),
+            at: 0,
+        },
     }
 }
 

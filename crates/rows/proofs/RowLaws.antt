@@ -1,6 +1,7 @@
 -- A row's step, judged, and undone where it stops. Assumes nothing.
 use mathlib.Core.Path.{_≡_, refl, sym, ap, subst, _∙_}
-use mathlib.Core.Bool.{false}
+use mathlib.Core.Bool.{Bool, false}
+use mathlib.Core.List.{List}
 use Prim.Native.Nat.{ℕ, _+_, _%_, _<_, _≤_}
 use native.Mathlib.Omega.{arith}
 use lib.ListN.{length, set}
@@ -12,6 +13,7 @@ use Rattle.reserve.specs.Reserve.{coversOf}
 use Rattle.reserve.proofs.RangeLaws.{of-inside}
 use Rattle.isa.specs.Decode.{decodeOf}
 use Rattle.isa.specs.declared.Instr.{Instr}
+use Rattle.isa.specs.declared.Instr.the-variants.{Illegal, Lui, Auipc, Jal, Jalr, Branch, Load, Store, OpImm, OpImm32, Op, Op32, Fence, Ecall, Ebreak, Amo}
 use Rattle.isa.proofs.DecodeLaws.{regs-below}
 use Rattle.effect.specs.Effect.{Exec, trap, doneOf, memoryBy}
 use Rattle.effect.specs.Execute.{regAt, execute, executeWord}
@@ -27,9 +29,10 @@ use Rattle.model.proofs.Valid.{act-valid, fetch-sound}
 use Rattle.model.proofs.AdvanceLaws.{registers-done, pcs-done, outcome-done, leaves-done}
 use Rattle.steplog.specs.declared.Row.{Row}
 use Rattle.reach.specs.Rd.{shownRd}
-use Rattle.reach.specs.Reach.{writesAt, windowOf}
+use Rattle.reach.specs.Reach.{writesAt, windowOf, reachIn}
 use Rattle.reach.specs.declared.Reach.{Reach}
-use Rattle.reach.proofs.ReachLaws.{Reaches, reaches}
+use Rattle.reach.proofs.ClassLaws.{Shows, shows}
+use Rattle.reach.proofs.ReachLaws.{Reaches, reaches, reaches-in}
 use Rattle.reach.proofs.BackLaws.{registers-back, pcs-back, undone}
 use Rattle.rows.specs.Row.{pcAt, wordAt, fetchable, rdAt, valueAfter, toldBy, toldByStep, toldByPc}
 use Rattle.rows.specs.Ready.{Ready}
@@ -76,6 +79,11 @@ module _ (base : ℕ) (m : Machine) (v : Valid base m) (h : ℕ) (l : h < m .sta
     unfolding fetchOf executeWord
     fetched = rw (of-inside base (length (m .mem)) (pcAt base m h) 4 inside)
 
+    -- of every word, what the code takes from its class
+    exec-reaches-in : (let c = reachIn word (regAt (m .state .x) h) in Reaches (c .rd) (c .at) exec)
+    exec-reaches-in =
+        rw fetched (reaches-in (pcAt base m h) base (m .mem) (coversOf 64 (reservationOf (m .state) h)) word (regAt (m .state .x) h))
+
     pub exec-reaches : Reaches (rdAt base m h) (writesAt (decodeOf word) (regAt (m .state .x) h)) exec
     exec-reaches =
         rw fetched
@@ -91,9 +99,32 @@ told-unfetched base m r same v l out =
     let o = step-outcome base m v h l ∙ ap (λ (e : Exec). outcomeBy (doneOf h e)) traps in
     sym (past-pc base m r same ∙ past-fetch base m r out ∙ ap (λ (q : Outcome). toldBy q r (rdAt base m h) (valueAfter base m h)) o)
 
--- a row whose pc and word are the model's: the code has i for its instruction and c for what that may change, and m′ is the machine after its step
-module _ (base : ℕ) (m : Machine) (r : Row) (ready : Ready base m r) {i : Instr} (decoded : i ≡ decodeOf (r .word))
-    {c : Reach} (reached : c ≡ record { rd = shownRd i; at = writesAt i (regAt (m .state .x) (r .hart)) })
+-- what is told by the code's rd is what is told by the instruction's: a word whose rd the code doesn't know traps
+module _ (r : Row) (h word pc base : ℕ) (mem : List ℕ) (covered : ℕ → ℕ → Bool) (x : ℕ → ℕ) (c : Reach) (o : Outcome) (after : List ℕ) where
+  abbrev told : ℕ → Told
+  told d = toldBy o r d (regAt after h d)
+
+  told-same : (i : Instr) → Shows c x i → o ≡ outcomeBy (doneOf h (execute 64 i word x pc base mem covered)) → told (c .rd) ≡ told (shownRd i)
+  unfolding execute outcomeBy toldBy
+  told-same Illegal s e = rw e refl
+  told-same Ecall s e = rw e refl
+  told-same Ebreak s e = rw e refl
+  told-same (Fence rd rs1 imm) s e = ap (λ (q : Reach). told (q .rd)) s
+  told-same (Lui rd imm) s e = ap (λ (q : Reach). told (q .rd)) s
+  told-same (Auipc rd imm) s e = ap (λ (q : Reach). told (q .rd)) s
+  told-same (Jal rd imm) s e = ap (λ (q : Reach). told (q .rd)) s
+  told-same (Jalr rd rs1 imm) s e = ap (λ (q : Reach). told (q .rd)) s
+  told-same (Branch op rs1 rs2 imm) s e = ap (λ (q : Reach). told (q .rd)) s
+  told-same (Load op rd rs1 imm) s e = ap (λ (q : Reach). told (q .rd)) s
+  told-same (Store op rs1 rs2 imm) s e = ap (λ (q : Reach). told (q .rd)) s
+  told-same (OpImm op rd rs1 imm) s e = ap (λ (q : Reach). told (q .rd)) s
+  told-same (OpImm32 op rd rs1 imm) s e = ap (λ (q : Reach). told (q .rd)) s
+  told-same (Op op rd rs1 rs2) s e = ap (λ (q : Reach). told (q .rd)) s
+  told-same (Op32 op rd rs1 rs2) s e = ap (λ (q : Reach). told (q .rd)) s
+  told-same (Amo m) s e = ap (λ (q : Reach). told (q .rd)) s
+
+-- a row whose pc and word are the model's: the code has c for what its step may change, and m′ is the machine after it
+module _ (base : ℕ) (m : Machine) (r : Row) (ready : Ready base m r) {c : Reach} (reached : c ≡ reachIn (r .word) (regAt (m .state .x) (r .hart)))
     {m′ : Machine} (stepped′ : m′ ≡ nextOf base m (Step (r .hart))) where
   abbrev h : ℕ
   h = r .hart
@@ -107,26 +138,30 @@ module _ (base : ℕ) (m : Machine) (r : Row) (ready : Ready base m r) {i : Inst
   abbrev d : ℕ
   d = c .rd
 
+  abbrev x : ℕ → ℕ
+  x = regAt (m .state .x) h
+
   within : Inside base (length (m .mem)) (pcAt base m h) 4
   within = subst (λ (p : ℕ). Inside base (length (m .mem)) p 4) (ready .pc) (ready .inside)
 
-  model-instr : i ≡ decodeOf (wordAt base m h)
-  model-instr = decoded ∙ ap decodeOf (ready .word)
-
-  model-rd : d ≡ rdAt base m h
-  model-rd = ap (λ (q : Reach). q .rd) reached ∙ ap shownRd model-instr
-
-  model-at : c .at ≡ writesAt (decodeOf (wordAt base m h)) (regAt (m .state .x) h)
-  model-at = ap (λ (q : Reach). q .at) reached ∙ ap (λ (j : Instr). writesAt j (regAt (m .state .x) h)) model-instr
+  model-reach : reachIn (wordAt base m h) x ≡ c
+  model-reach = sym (reached ∙ ap (λ (w : ℕ). reachIn w x) (ready .word))
 
   step-reaches : Reaches d (c .at) (exec base m v h l)
-  step-reaches = rw (model-rd, model-at) (exec-reaches base m v h l within)
+  step-reaches = subst (λ (q : Reach). Reaches (q .rd) (q .at) (exec base m v h l)) model-reach (exec-reaches-in base m v h l within)
 
   pub row-told : {o : Outcome} {t : Told} {value : ℕ} → o ≡ outcomeAt base m (Step h) → value ≡ regAt (m′ .state .x) h d → t ≡ toldBy o r d value
       → t ≡ toldByStep base m r
   row-told {o} eo ev et =
-      let value = ev ∙ ap (λ (n : Machine). regAt (n .state .x) h d) stepped′ ∙ ap (regAt (nextOf base m (Step h) .state .x) h) model-rd in
-      et ∙ rw (eo, model-rd, value) refl
+      let word = wordAt base m h in
+      let after = nextOf base m (Step h) .state .x in
+      let covered = coversOf 64 (reservationOf (m .state) h) in
+      let value = ev ∙ ap (λ (n : Machine). regAt (n .state .x) h d) stepped′ in
+      let shown = subst (λ (q : Reach). Shows q x (decodeOf word)) model-reach (shows word x) in
+      let answer = eo ∙ step-outcome base m v h l ∙ ap (λ (e : Exec). outcomeBy (doneOf h e)) (fetched base m v h l within) in
+      et ∙ ap (toldBy o r d) value
+      ∙ told-same r h word (pcAt base m h) base (m .mem) covered x c o after (decodeOf word) shown answer
+      ∙ ap (λ (q : Outcome). toldBy q r (rdAt base m h) (valueAfter base m h)) eo
 
   -- what a step may change, put back
   pub registers-undone : {a b : ℕ} → a ≡ regAt (m .state .x) h d → b ≡ regAt (m .state .x) h (d % 32 + 1)

@@ -3,6 +3,7 @@ pub mod row;
 
 use machine::State;
 use reserve::packed;
+use steplog::digits::digit_table;
 ghost use mathlib.Core.Path.{_≡_};
 ghost use Prim.Native.Nat.{_*_, _≤_};
 ghost use lib.ListN.{length};
@@ -70,10 +71,11 @@ fn replay_rows(
         ≡ endOf base (inParts count (now (x .entry)) (now (pc .entry)) (now (t .entry)) (now (mem .entry))) (readings count n (now (log .entry)))
         ⌝ }
 {
+    let digits = digit_table();
     let mut i: usize = 0;
     while i < n {
         let at = i * 48;
-        match row::compare(x, pc, t, count, base, mem, &log[at..at + 48]) {
+        match row::compare(x, pc, t, count, base, mem, &log[at..at + 48], &digits) {
             Told::Agrees => i += 1,
             Told::Stops(stop) => return Stopped { stop, rows: i },
         }

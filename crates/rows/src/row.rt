@@ -10,6 +10,7 @@ use steplog::Reading;
 use steplog::Row;
 ghost use mathlib.Core.Path.{_≡_};
 ghost use Prim.Native.Nat.{_<_};
+ghost use Rattle.steplog.specs.Digits.{DigitTable};
 ghost use Rattle.steplog.specs.Row.{readingOf};
 ghost use Rattle.steplog.specs.declared.Reading.the-variants.{Read};
 ghost use Rattle.model.specs.Valid.{Valid};
@@ -66,8 +67,7 @@ fn perform(
         ⌝ }
 {
     let h = r.hart;
-    let i = isa::decode(r.word);
-    let c = reach::reach_of(i, x, h);
+    let c = reach::reach_in(r.word, x, h);
     let rd = c.rd;
     let place = reach::window(base, mem.len(), c.at);
     let saved = reach::save(mem, place);
@@ -128,7 +128,7 @@ fn against(
     perform(x, pc, t, count, base, mem, r)
 }
 
-// The 48 bytes of a row. Where it stops, nothing changes.
+// The 48 bytes of a row; the table of the digits is lent. Where it stops, nothing changes.
 pub fn compare(
     x: &mut [u64; 256],
     pc: &mut [u64; 8],
@@ -137,7 +137,9 @@ pub fn compare(
     base: u64,
     mem: &mut [u8],
     part: &[u8],
+    digits: &[u8; 256],
 ) -> Told
+    requires { ⌜ DigitTable (now digits) ⌝ }
     requires { ⌜ Valid base (inParts count (now x) (now pc) (now t) (now mem)) ⌝ }
     ensures { λ told. ⌜ told
         ≡ toldOf base (inParts count (now (x .entry)) (now (pc .entry)) (now (t .entry)) (now (mem .entry))) (readingOf count (now (part .entry)))
@@ -146,7 +148,7 @@ pub fn compare(
         ≡ afterRow told base (inParts count (now (x .entry)) (now (pc .entry)) (now (t .entry)) (now (mem .entry))) (readingOf count (now (part .entry)))
         ⌝ }
 {
-    match steplog::read_row(part, count) {
+    match steplog::read_row_by(digits, part, count) {
         Reading::Form => Told::Stops(Stop::Form),
         Reading::Read(r) => against(x, pc, t, count, base, mem, r),
     }

@@ -12,8 +12,14 @@ pub struct Number {
     pub value: u64,
 }
 
-// The number that characters are in a base. The caller has the table of the digits: made once for all fields of a row, it is faster than tests,
-// whose outcome differs from digit to digit.
+// The table of the digits. A constant array is built anew wherever it is used, so whoever reads many rows makes it once and lends it.
+pub fn digit_table() -> [u8; 256]
+    ensures { λ r. ⌜ DigitTable r ⌝ }
+{
+    DIGITS
+}
+
+// The number that characters are in a base. By a table it is faster than by tests, whose outcome differs from digit to digit.
 pub fn read_number(digits: &[u8; 256], s: &[u8], base: u64) -> Number
     requires { ⌜ DigitTable (now digits) ⌝ }
     requires { ⌜ (1 < base) × (base ≤ 16) × (length (now s) ≤ 16) ⌝ }
@@ -54,7 +60,7 @@ pub fn put_digits(out: &mut [u8], at: usize, n: u64, k: usize, base: u64) -> usi
 }
 
 // The digit below 16 that each byte is the character of, and 16 for the others.
-pub const DIGITS: [u8; 256] = [
+const DIGITS: [u8; 256] = [
     16,
     16,
     16,

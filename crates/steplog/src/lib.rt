@@ -1,7 +1,7 @@
 // Rows of the boards' logs: read, and written.
 pub mod digits;
 
-use digits::DIGITS;
+use digits::digit_table;
 use digits::put_digits;
 use digits::read_number;
 use text::put_byte;
@@ -10,7 +10,7 @@ ghost use mathlib.Core.List.{[], _∷_, _++_};
 ghost use Prim.Native.Nat.{_+_, _≤_, _<_};
 ghost use lib.ListN.{length};
 ghost use Rattle.text.specs.Put.{Put};
-ghost use Rattle.steplog.specs.Digits.{digitsFrom};
+ghost use Rattle.steplog.specs.Digits.{digitsFrom, DigitTable};
 ghost use Rattle.steplog.specs.Row.{rowOf, betweenOk, readingOf};
 
 // A row: hart, pc, word, rd, and the value in rd afterwards.
@@ -37,20 +37,28 @@ fn between(row: &[u8]) -> bool
         & ((row[18] == b' ') & ((row[27] == b' ') & ((row[30] == b' ') & (row[47] == b'\n'))))
 }
 
-// The row that a part of a log is, or that it is badly formed. All fields are read before the one test, and of a good row no branch
-// depends on what its digits are.
+// The row that a part of a log is, or that it is badly formed.
 pub fn read_row(part: &[u8], count: usize) -> Reading
+    ensures { λ r. ⌜ r ≡ readingOf count (now (part .entry)) ⌝ }
+{
+    let table = digit_table();
+    read_row_by(&table, part, count)
+}
+
+// The same, with the table of the digits lent. All fields are read before the one test, and of a good row no branch depends on what its digits
+// are.
+pub fn read_row_by(table: &[u8; 256], part: &[u8], count: usize) -> Reading
+    requires { ⌜ DigitTable (now table) ⌝ }
     ensures { λ r. ⌜ r ≡ readingOf count (now (part .entry)) ⌝ }
 {
     if part.len() != 48 {
         return Reading::Form;
     }
-    let table = DIGITS;
-    let hart = read_number(&table, &part[0..1], 10);
-    let pc = read_number(&table, &part[2..18], 16);
-    let word = read_number(&table, &part[19..27], 16);
-    let rd = read_number(&table, &part[28..30], 10);
-    let value = read_number(&table, &part[31..47], 16);
+    let hart = read_number(table, &part[0..1], 10);
+    let pc = read_number(table, &part[2..18], 16);
+    let word = read_number(table, &part[19..27], 16);
+    let rd = read_number(table, &part[28..30], 10);
+    let value = read_number(table, &part[31..47], 16);
     let digits = hart.good & (pc.good & (word.good & (rd.good & value.good)));
     if between(part) & (digits & (hart.value < count as u64)) {
         return Reading::Read(Row {

@@ -13,13 +13,11 @@ use Rattle.rows.specs.Replay.{readings, endOf}
 use Rattle.rows.specs.declared.Stop.the-variants.{Agreed}
 use Rattle.rows.proofs.ReplayLaws.{further, further-none, row-cut, readings-more, end-more, end-stop, valid-stepped}
 use borrow.Author.Needs.{needs}
-use borrow.Author.Needs.{needs}
-use borrow.Author.Needs.{needs}
 use Rattle.rows.proofs.replay_rows.Statement.{statement}
 use Rattle.rows.proofs.replay_rows.Tie as tie
 
 abbrev Inv-loop : tie.InvT-loop
-Inv-loop x₀ pc₀ t₀ count base mem₀ log n i₀ x pc t mem i =
+Inv-loop x₀ pc₀ t₀ count base mem₀ log n digits i₀ x pc t mem i =
     (i ≤ n)
     × (length mem ≡ length mem₀)
     × Valid base (inParts count x pc t mem)
@@ -27,10 +25,13 @@ Inv-loop x₀ pc₀ t₀ count base mem₀ log n i₀ x pc t mem i =
     ≡ endOf base (inParts count x₀ pc₀ t₀ mem₀) (readings count n log))
 
 abbrev μ-loop : tie.MeasureT-loop
-μ-loop x₀ pc₀ t₀ count base mem₀ log n i₀ x pc t mem i = n - i
+μ-loop x₀ pc₀ t₀ count base mem₀ log n digits i₀ x pc t mem i = n - i
+
+digit-table-requires : tie.Need-digit-table-requires Inv-loop μ-loop
+digit-table-requires c κs = search needs
 
 loop-holds : tie.Need-loop-holds Inv-loop μ-loop
-loop-holds c = (search needs, refl, c .before .before .pre .0, rw sub-zero (further-none _))
+loop-holds c = (search needs, refl, c .before .before .before .pre .0, rw sub-zero (further-none _))
 
 mul-at : tie.Need-mul-at Inv-loop μ-loop
 mul-at c = omega arith
@@ -48,7 +49,7 @@ part-compare-end : tie.Need-part-compare-end Inv-loop μ-loop
 part-compare-end c = omega arith
 
 compare-requires : tie.Need-compare-requires Inv-loop μ-loop
-compare-requires c κs = c .before .before .before .before .before .before .loop .inv .2
+compare-requires c κs = (c .before .before .before .before .before .before .before .before .digit-table .ensures, c .before .before .before .before .before .before .before .loop .inv .2)
 
 enum-told : tie.Need-enum-told Inv-loop μ-loop
 enum-told c = search needs
@@ -63,9 +64,10 @@ loop-again : tie.Need-loop-again Inv-loop μ-loop
 unfolding afterRow
 loop-again c =
     let done = c .before .before .before .before .compare in
-    let l = c .before .before .before .before .before .before .before .before .before .before .before .loop in
-    let start = c .before .before .before .before .before .before .before .before .before .before .before .before .before .before in
+    let l = c .before .before .before .before .before .before .before .before .before .before .before .before .loop in
+    let start = c .before .before .before .before .before .before .before .before .before .before .before .before .before .before .before .before in
     let a = start .args in
+    let below = c .before .before .before .before .before .before .before .before .before .before .before .loop-test .taken in
     let here = inParts (a .count) (l .x) (l .pc) (l .t) (l .mem) in
     let log = a .log .now in
     let cut = ap (readingOf (a .count)) (row-cut (l .i) log) in
@@ -73,10 +75,10 @@ loop-again c =
     let agrees = ap (toldOf (a .base) here) (sym cut) ∙ sym (done .ensures .0) ∙ told in
     let after = rw (told, cut) at (done .ensures .1) in
     let more = end-more (a .base) here _ (readings (a .count) (a .n - (l .i + 1)) (drop ((l .i + 1) * 48) log)) (l .i) agrees after in (
-      omega arith,
+      omega (arith, below),
       done .kept .1 .1 .1 .1 .1 .0 ∙ l .inv .1,
       subst (Valid (a .base)) (sym after) (valid-stepped (a .base) here (l .inv .2) _),
-      more ∙ ap (λ (rs : List Reading). further (l .i) (endOf (a .base) here rs)) (sym (readings-more (a .count) (a .n) (l .i) log (omega arith))) ∙ l .inv .3,
+      more ∙ ap (λ (rs : List Reading). further (l .i) (endOf (a .base) here rs)) (sym (readings-more (a .count) (a .n) (l .i) log (omega (arith, below)))) ∙ l .inv .3,
     )
 
 enum-known-stop : tie.Need-enum-known-stop Inv-loop μ-loop
@@ -89,9 +91,10 @@ returns : tie.Need-returns Inv-loop μ-loop
 unfolding afterRow
 returns c =
     let done = c .before .before .before .before .before .compare in
-    let l = c .before .before .before .before .before .before .before .before .before .before .before .before .loop in
-    let start = c .before .before .before .before .before .before .before .before .before .before .before .before .before .before .before in
+    let l = c .before .before .before .before .before .before .before .before .before .before .before .before .before .loop in
+    let start = c .before .before .before .before .before .before .before .before .before .before .before .before .before .before .before .before .before in
     let a = start .args in
+    let below = c .before .before .before .before .before .before .before .before .before .before .before .before .loop-test .taken in
     let here = inParts (a .count) (l .x) (l .pc) (l .t) (l .mem) in
     let log = a .log .now in
     let cut = ap (readingOf (a .count)) (row-cut (l .i) log) in
@@ -100,7 +103,7 @@ returns c =
     let same = rw told at (done .ensures .1) in
     rw same
     (end-stop (a .base) here _ (readings (a .count) (a .n - (l .i + 1)) (drop ((l .i + 1) * 48) log)) (l .i) stops
-    ∙ ap (λ (rs : List Reading). further (l .i) (endOf (a .base) here rs)) (sym (readings-more (a .count) (a .n) (l .i) log (omega arith))) ∙ l .inv .3)
+    ∙ ap (λ (rs : List Reading). further (l .i) (endOf (a .base) here rs)) (sym (readings-more (a .count) (a .n) (l .i) log (omega (arith, below)))) ∙ l .inv .3)
 
 same-length-2 : tie.Need-same-length-2 Inv-loop μ-loop
 same-length-2 c = search needs
@@ -108,7 +111,7 @@ same-length-2 c = search needs
 returns-2 : tie.Need-returns-2 Inv-loop μ-loop
 unfolding readings endOf
 returns-2 c =
-    let a = c .before .before .before .before .args in
+    let a = c .before .before .before .before .before .args in
     let l = c .before .loop in
     let z : a .n - l .i ≡ 0 = omega arith in
     let all : a .n ≡ l .i + 0 = omega arith in
@@ -121,6 +124,7 @@ replay-rows-spec =
     (tie.spec
     Inv-loop
     μ-loop
+    digit-table-requires
     loop-holds
     mul-at
     add-compare

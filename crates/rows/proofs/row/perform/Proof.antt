@@ -8,11 +8,8 @@ use borrow.Author.Needs.{needs}
 use Rattle.rows.proofs.row.perform.Statement.{statement}
 use Rattle.rows.proofs.row.perform.Tie as tie
 
-decode-requires : tie.Need-decode-requires
-decode-requires c κs = search needs
-
-reach-of-requires : tie.Need-reach-of-requires
-reach-of-requires c κs = search needs
+reach-in-requires : tie.Need-reach-in-requires
+reach-in-requires c κs = search needs
 
 window-requires : tie.Need-window-requires
 window-requires c κs = search needs
@@ -35,7 +32,7 @@ advance-requires c κs = search needs
 reg-requires-3 : tie.Need-reg-requires-3
 reg-requires-3 c κs =
     let done = c .before .before .before in
-    let start = done .before .before .before .before .before .before .before .before .before .before .before .before .before .before .before .before .before in
+    let start = done .before .before .before .before .before .before .before .before .before .before .before .before .before .before .before .before in
     omega (arith, start .pre .valid .1 .1, start .pre .counted)
 
 judge-requires : tie.Need-judge-requires
@@ -50,7 +47,7 @@ enum-told-2 c = search needs
 put-hart-back-requires : tie.Need-put-hart-back-requires
 put-hart-back-requires c κs =
     let done = c .before .before .before .before .before .before .before .before .before in
-    let start = done .before .before .before .before .before .before .before .before .before .before .before .before .before .before .before .before .before in
+    let start = done .before .before .before .before .before .before .before .before .before .before .before .before .before .before .before .before in
     omega (arith, start .pre .valid .1 .1, start .pre .counted)
 
 put-back-requires : tie.Need-put-back-requires
@@ -68,14 +65,12 @@ returns c =
     let judged = c .before .before in
     let done = judged .before .before .before .before .before in
     let reached = done .before .before .before .before .before .before .before .before .before .before .before .before .before in
-    let decoded = reached .before .before in
-    let start = decoded .before .before in
+    let start = reached .before .before .before in
     let a = start .args in
     let m = inParts (a .count) (a .x .now) (a .pc .now) (a .t .now) (a .mem .now) in
-    let i = decoded .decode .ensures in
-    let d = reached .reach-of .ensures in
+    let d = reached .reach-in .ensures in
     let after = done .advance .ensures in
-    let told = row-told (a .base) m (a .r) (start .pre) i d (after .machine) (after .outcome) (judged .before .reg3 .ensures) (judged .judge .ensures) in
+    let told = row-told (a .base) m (a .r) (start .pre) d (after .machine) (after .outcome) (judged .before .reg3 .ensures) (judged .judge .ensures) in
     (told, rw (c .enum-told .given .1) (after .machine))
 
 same-length-2 : tie.Need-same-length-2
@@ -91,29 +86,26 @@ returns-2 c =
     let saved = first .before .before .before in
     let placed = saved .before .before in
     let reached = placed .before in
-    let decoded = reached .before .before in
-    let start = decoded .before .before in
+    let start = reached .before .before .before in
     let a = start .args in
     let m = inParts (a .count) (a .x .now) (a .pc .now) (a .t .now) (a .mem .now) in
-    let i = decoded .decode .ensures in
-    let d = reached .reach-of .ensures in
+    let d = reached .reach-in .ensures in
     let after = done .advance .ensures in
-    let told = row-told (a .base) m (a .r) (start .pre) i d (after .machine) (after .outcome) (judged .before .reg3 .ensures) (judged .judge .ensures) in
+    let told = row-told (a .base) m (a .r) (start .pre) d (after .machine) (after .outcome) (judged .before .reg3 .ensures) (judged .judge .ensures) in
     let back = c .before .before .before .before .put-hart-back .ensures in
-    let registers = back .0 ∙ registers-undone (a .base) m (a .r) (start .pre) i d (after .machine) (first .reg .ensures) (second .reg2 .ensures) in
-    let pcs = back .1 ∙ pcs-undone (a .base) m (a .r) (start .pre) i d (after .machine) in
+    let registers = back .0 ∙ registers-undone (a .base) m (a .r) (start .pre) d (after .machine) (first .reg .ensures) (second .reg2 .ensures) in
+    let pcs = back .1 ∙ pcs-undone (a .base) m (a .r) (start .pre) d (after .machine) in
     let at = placed .window .ensures .0 in
     let put = rw (saved .save .ensures) at (c .before .before .put-back .ensures) in
     let memory =
-    put ∙ memory-undone (a .base) m (a .r) (start .pre) i d (after .machine) (λ k. decoded .before .slice-known .given k .fits) at in
+    put ∙ memory-undone (a .base) m (a .r) (start .pre) d (after .machine) (λ k. reached .before .before .slice-known .given k .fits) at in
     (told, rw (c .before .before .before .before .before .before .before .enum-told2 .given .1, registers, pcs, memory) refl)
 
 pub perform-spec : {M : Type 1} → statement M
 perform-spec =
     tie.close
     (tie.spec
-    decode-requires
-    reach-of-requires
+    reach-in-requires
     window-requires
     save-requires
     reg-requires

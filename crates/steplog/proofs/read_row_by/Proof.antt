@@ -1,51 +1,32 @@
 use mathlib.Core.Path.{_≡_, sym}
-use mathlib.Core.Bool.{Bool, cond}
-use mathlib.Core.List.{List, _∷_, _++_}
+use mathlib.Core.List.{List}
 use Prim.Native.Nat.{ℕ}
 use native.Mathlib.Omega.{arith}
-use lib.Dec.{eqb, eqb→eq}
-use lib.ListN.{length, getD, replicate}
+use lib.ListN.{length}
 use Rattle.word.specs.Memory.{part}
-use Rattle.word.proofs.TableLaws.{rule-at}
-use Rattle.text.specs.Number.{digitOf}
-use Rattle.steplog.specs.Digits.{isDigit, DigitTable}
 use Rattle.steplog.proofs.ReadLaws.{reading-form, form-length, Seen, word-below, row-read, row-refused}
 use borrow.Author.Needs.{needs}
-use Rattle.steplog.proofs.read_row.Statement.{statement}
-use Rattle.steplog.proofs.read_row.Tie as tie
-
--- the entries of DIGITS
-abbrev table : List ℕ
-table =
-    replicate 48 16
-    ++ (0 ∷ 1 ∷ 2 ∷ 3 ∷ 4 ∷ 5 ∷ 6 ∷ 7 ∷ 8 ∷ 9 ∷ (replicate 39 16 ++ (10 ∷ 11 ∷ 12 ∷ 13 ∷ 14 ∷ 15 ∷ replicate 153 16)))
-
--- the rule of an entry and its place
-right : ℕ → ℕ → Bool
-right c x = eqb x (cond (isDigit 16 c) (digitOf c) 16)
-
-digit-table : DigitTable table
-unfolding right isDigit
-digit-table c h = eqb→eq (getD table c 0) (cond (isDigit 16 c) (digitOf c) 16) (rule-at right table tt c h)
+use Rattle.steplog.proofs.read_row_by.Statement.{statement}
+use Rattle.steplog.proofs.read_row_by.Tie as tie
 
 -- the calls that read the fields, from the last back to the first
 abbrev fourth : tie.After-read-number5 → tie.After-read-number4
-fourth c = c .before .before .before
+fourth c = c .before .before
 
 abbrev third : tie.After-read-number5 → tie.After-read-number3
-third c = fourth c .before .before .before
+third c = fourth c .before .before
 
 abbrev second : tie.After-read-number5 → tie.After-read-number2
-second c = third c .before .before .before
+second c = third c .before .before
 
 abbrev first : tie.After-read-number5 → tie.After-read-number
-first c = second c .before .before .before
+first c = second c .before .before
 
 abbrev bytes : tie.After-read-number5 → List ℕ
-bytes c = first c .before .before .before .before .before .args .part .now
+bytes c = first c .before .before .before .before .args .part .now
 
 long : (c : tie.After-read-number5) → length (bytes c) ≡ 48
-long c = omega (arith, first c .before .before .before .if1 .left)
+long c = omega (arith, first c .before .before .if1 .left)
 
 -- what they gave, before the test
 abbrev fifth : tie.After-between → tie.After-read-number5
@@ -83,7 +64,7 @@ part-read-number-end : tie.Need-part-read-number-end
 part-read-number-end c = search needs
 
 read-number-requires : tie.Need-read-number-requires
-read-number-requires c κs = (digit-table, search needs)
+read-number-requires c κs = (c .before .before .before .pre, search needs)
 
 sub-read-number-2 : tie.Need-sub-read-number-2
 sub-read-number-2 c = search needs
@@ -95,7 +76,7 @@ part-read-number-end-2 : tie.Need-part-read-number-end-2
 part-read-number-end-2 c = search needs
 
 read-number-requires-2 : tie.Need-read-number-requires-2
-read-number-requires-2 c κs = (digit-table, search needs)
+read-number-requires-2 c κs = (c .before .before .before .before .before .pre, search needs)
 
 sub-read-number-3 : tie.Need-sub-read-number-3
 sub-read-number-3 c = search needs
@@ -107,7 +88,7 @@ part-read-number-end-3 : tie.Need-part-read-number-end-3
 part-read-number-end-3 c = search needs
 
 read-number-requires-3 : tie.Need-read-number-requires-3
-read-number-requires-3 c κs = (digit-table, search needs)
+read-number-requires-3 c κs = (c .before .before .before .before .before .before .before .pre, search needs)
 
 sub-read-number-4 : tie.Need-sub-read-number-4
 sub-read-number-4 c = search needs
@@ -119,7 +100,7 @@ part-read-number-end-4 : tie.Need-part-read-number-end-4
 part-read-number-end-4 c = search needs
 
 read-number-requires-4 : tie.Need-read-number-requires-4
-read-number-requires-4 c κs = (digit-table, search needs)
+read-number-requires-4 c κs = (c .before .before .before .before .before .before .before .before .before .pre, search needs)
 
 sub-read-number-5 : tie.Need-sub-read-number-5
 sub-read-number-5 c = search needs
@@ -131,13 +112,13 @@ part-read-number-end-5 : tie.Need-part-read-number-end-5
 part-read-number-end-5 c = search needs
 
 read-number-requires-5 : tie.Need-read-number-requires-5
-read-number-requires-5 c κs = (digit-table, search needs)
+read-number-requires-5 c κs = (c .before .before .before .before .before .before .before .before .before .before .before .pre, search needs)
 
 between-requires : tie.Need-between-requires
 between-requires c κs = long (c .before .before .before .before .before)
 
-cast-t38 : tie.Need-cast-t38
-cast-t38 c = record { fits = word-below (seen (c .before .before .before)) }
+cast-t32 : tie.Need-cast-t32
+cast-t32 c = record { fits = word-below (seen (c .before .before .before)) }
 
 returns-2 : tie.Need-returns-2
 returns-2 c = row-read (seen (c .before .before .before)) _ (c .before .if2 .taken)
@@ -145,8 +126,8 @@ returns-2 c = row-read (seen (c .before .before .before)) _ (c .before .if2 .tak
 returns-3 : tie.Need-returns-3
 returns-3 c = row-refused (seen (c .before .before)) _ (c .if2 .left)
 
-pub read-row-spec : {M : Type 1} → statement M
-read-row-spec =
+pub read-row-by-spec : {M : Type 1} → statement M
+read-row-by-spec =
     tie.close
     (tie.spec
     returns
@@ -171,6 +152,6 @@ read-row-spec =
     part-read-number-end-5
     read-number-requires-5
     between-requires
-    cast-t38
+    cast-t32
     returns-2
     returns-3)
