@@ -1,5 +1,5 @@
 -- A case file whose memory body is lent. Assumes nothing.
-use mathlib.Core.Path.{_≡_, sym, ap, _∙_, subst}
+use mathlib.Core.Path.{_≡_, sym, ap, _∙_}
 use mathlib.Core.List.{List}
 use Prim.Native.Nat.{ℕ, _+_, _-_, _≤_}
 use native.Mathlib.Omega.{arith}
@@ -7,17 +7,6 @@ use lib.ListN.{length, take, drop}
 use borrow.Rule.Slice.PartMut.{putMid, post-is}
 use Rattle.word.specs.Memory.{part, splice}
 use Rattle.word.proofs.MemoryLaws.{length-part}
-use Rattle.machine.specs.State.{refusalOf}
-use Rattle.casefile.specs.Case.{SoundCase, SoundCaseAs}
-use Rattle.casefile.specs.declared.Case.{Case}
-use Rattle.casefile.specs.declared.Found.the-variants.{Bodies}
-
--- the bodies of a case that is read lie in the file, and 1 and 2 don't refuse it
-pub found-bodies : (file : List ℕ) (c : Case) (m e : ℕ) → SoundCase file c → c .found ≡ Bodies m e
-    → (m ≤ e) × (e ≤ length file) × (refusalOf (c .base) (e - m) (c .state) ≡ 0)
-found-bodies file c m e sound h =
-    let t = subst (SoundCaseAs file (c .base) (c .state)) h sound in
-    (t .1, t .2, t .4)
 
 -- a part `&mut file[m..e]` that was lent and holds new, as many bytes as before
 pub lent-body : (file : List ℕ) (m e : ℕ) (last new : List ℕ) → m ≤ e → e ≤ length file → length last ≡ length (take (e - m) (drop m file)) → last ≡ new

@@ -23,7 +23,7 @@ use Rattle.steplog.specs.declared.Reading.{Reading}
 use Rattle.steplog.specs.declared.Reading.the-variants.{Form, Read}
 use Rattle.casefile.specs.Case.{caseOf}
 use Rattle.casefile.specs.declared.Found.the-variants.{Refused, Bodies}
-use Rattle.casefile.proofs.CaseLaws.{case-sound}
+use Rattle.casefile.proofs.CaseLaws.{case-sound, found-bodies}
 use Rattle.rows.specs.Row.{toldOf, stepped}
 use Rattle.rows.specs.Replay.{readings, End, endBy, endOf, Result, refusedReplay, replayOf}
 use Rattle.rows.specs.declared.Told.{Told}
@@ -31,7 +31,7 @@ use Rattle.rows.specs.declared.Told.the-variants.{Agrees, Stops}
 use Rattle.rows.specs.declared.Stop.the-variants as S
 use Rattle.rows.proofs.ReplayLaws.{valid-stepped}
 use Rattle.case_replay.specs.CaseReplay.{FileResult, leftAt, foundReplay, fileReplay}
-use Rattle.case_replay.proofs.FileLaws.{found-bodies, lent-body}
+use Rattle.case_replay.proofs.FileLaws.{lent-body}
 
 -- ---- the memory keeps its length
 

@@ -12,13 +12,14 @@ use Rattle.word.proofs.TestLaws.{bool-cases}
 use Rattle.word.proofs.ChooseLaws.{cond-all}
 use Rattle.word.proofs.MemoryLaws.{length-part}
 use Rattle.machine.specs.Rules.{Shaped}
+use Rattle.machine.specs.State.{refusalOf}
 use Rattle.machine.proofs.StateLaws.{refusal-0}
 use Rattle.events.specs.Events.{goodEvent, firstBad, checkedOf, Within}
 use Rattle.events.specs.declared.Checked.{Checked}
 use Rattle.events.specs.declared.Checked.the-variants.{Good, Bad}
 use Rattle.casefile.specs.Table.{tableOf, InsideFile}
 use Rattle.casefile.specs.Harts.{baseOf, countOf, hartsOk, stateOf}
-use Rattle.casefile.specs.Case.{refusedCase, lengthOk, checkedCase, bodiesOf, partsOf, caseOf, SoundCase}
+use Rattle.casefile.specs.Case.{refusedCase, lengthOk, checkedCase, bodiesOf, partsOf, caseOf, SoundCase, SoundCaseAs}
 use Rattle.casefile.specs.declared.Found.{Found}
 use Rattle.casefile.specs.declared.Found.the-variants.{Refused, Bodies}
 use Rattle.casefile.specs.declared.Case.{Case}
@@ -115,3 +116,10 @@ case-shaped file = go (tableOf file)
 
 pub read-sound : (file : List ℕ) (r : Case) → r ≡ caseOf file → (r ≡ caseOf file) × SoundCase file r
 read-sound file r h = (h, subst (λ (c : Case). SoundCase file c) (sym h) (case-sound file))
+
+-- the bodies of a case that is read lie in the file, and 1 and 2 don't refuse it
+pub found-bodies : (file : List ℕ) (c : Case) (m e : ℕ) → SoundCase file c → c .found ≡ Bodies m e
+    → (m ≤ e) × (e ≤ length file) × (refusalOf (c .base) (e - m) (c .state) ≡ 0)
+found-bodies file c m e sound h =
+    let t = subst (SoundCaseAs file (c .base) (c .state)) h sound in
+    (t .1, t .2, t .4)

@@ -2,7 +2,8 @@ use mathlib.Core.Path.{refl}
 use native.Mathlib.Omega.{arith}
 use Rattle.word.specs.Memory.{part}
 use Rattle.case_replay.specs.CaseReplay.{fileReplay}
-use Rattle.case_replay.proofs.FileLaws.{found-bodies, lent-body}
+use Rattle.casefile.proofs.CaseLaws.{found-bodies}
+use Rattle.case_replay.proofs.FileLaws.{lent-body}
 use borrow.Author.Needs.{needs}
 use Rattle.case_replay.proofs.replay_case.Statement.{statement}
 use Rattle.case_replay.proofs.replay_case.Tie as tie

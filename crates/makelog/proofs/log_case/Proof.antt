@@ -1,5 +1,5 @@
 use native.Mathlib.Omega.{arith}
-use Rattle.case_replay.proofs.FileLaws.{found-bodies}
+use Rattle.casefile.proofs.CaseLaws.{found-bodies}
 use borrow.Author.Needs.{needs}
 use Rattle.makelog.proofs.log_case.Statement.{statement}
 use Rattle.makelog.proofs.log_case.Tie as tie

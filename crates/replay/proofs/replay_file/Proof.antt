@@ -1,5 +1,5 @@
 use native.Mathlib.Omega.{arith}
-use Rattle.case_replay.proofs.FileLaws.{found-bodies}
+use Rattle.casefile.proofs.CaseLaws.{found-bodies}
 use borrow.Author.Needs.{needs}
 use Rattle.replay.proofs.replay_file.Statement.{statement}
 use Rattle.replay.proofs.replay_file.Tie as tie

@@ -1,5 +1,5 @@
 use native.Mathlib.Omega.{arith}
-use Rattle.case_replay.proofs.FileLaws.{found-bodies}
+use Rattle.casefile.proofs.CaseLaws.{found-bodies}
 use borrow.Author.Needs.{needs}
 use Rattle.vectors_logs.proofs.print_memory_of.Statement.{statement}
 use Rattle.vectors_logs.proofs.print_memory_of.Tie as tie
