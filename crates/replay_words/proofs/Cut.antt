@@ -136,6 +136,24 @@ module _ (base : ℕ) (mem : List ℕ) (s : State) (a b : List ℕ) where
   abbrev second : Result
   second = replayOf base (first .mem) (first .replayed .state) b
 
+  abbrev start : Machine
+  start = record { state = s; mem = mem }
+
+  -- the rows of the whole are those of both parts
+  both-parts : Replayable base mem s a → length b % 48 ≡ 0
+      → replayOf base mem s (a ++ b)
+      ≡ ended (endOf base start (readings (s .count) (length a / 48) a ++ readings (s .count) (length b / 48) b))
+  both-parts ok whole =
+      let long = length-append a b in
+      let n = length a / 48 in
+      let size : length (a ++ b) % 48 ≡ 0 = omega (arith, long, ok .whole, whole) in
+      let more : 0 < length (a ++ b) = omega (arith, long, ok .some) in
+      let rows : length (a ++ b) / 48 ≡ n + length b / 48 = omega (arith, long, ok .whole, whole) in
+      let fits : length a ≡ n * 48 = omega (arith, ok .whole) in
+      replays base mem s (a ++ b) (record { memory = ok .memory; state = ok .state; whole = size; some = more })
+      ∙ ap (λ (k : ℕ). ended (endOf base start (readings (s .count) k (a ++ b)))) rows
+      ∙ ap (λ (l : List Reading). ended (endOf base start l)) (readings-append (s .count) n (length b / 48) a b fits)
+
   -- Where the first part stops at a row, the whole is told as that part is, whatever rows are behind it.
   module _ (o : OfRow (first .replayed .stop)) (whole : length b % 48 ≡ 0) where
     stopped-ok : Replayable base mem s a
@@ -158,30 +176,13 @@ module _ (base : ℕ) (mem : List ℕ) (s : State) (a b : List ℕ) where
 
     pub cut-after-stop : replayOf base mem s (a ++ b) ≡ first
     cut-after-stop =
-        let ok = stopped-ok in
-        let start : Machine = record { state = s; mem = mem } in
-        let long = length-append a b in
-        let n = length a / 48 in
-        let front = readings (s .count) n a in
-        let rest = readings (s .count) (length b / 48) b in
-        let size : length (a ++ b) % 48 ≡ 0 = omega (arith, long, ok .whole, whole) in
-        let more : 0 < length (a ++ b) = omega (arith, long, ok .some) in
-        let rows : length (a ++ b) / 48 ≡ n + length b / 48 = omega (arith, long, ok .whole, whole) in
-        let fits : length a ≡ n * 48 = omega (arith, ok .whole) in
-        let is = replays base mem s a ok in
-        let stops : endOf base start front .stop ≡ S.Agreed → ⊥ =
+        let is = replays base mem s a stopped-ok in
+        let stops : endOf base start (readings (s .count) (length a / 48) a) .stop ≡ S.Agreed → ⊥ =
         λ z. subst OfRow (ap (λ (x : Result). x .replayed .stop) is ∙ z) o in
-        replays base mem s (a ++ b) (record { memory = ok .memory; state = ok .state; whole = size; some = more })
-        ∙ ap (λ (k : ℕ). ended (endOf base start (readings (s .count) k (a ++ b)))) rows
-        ∙ ap (λ (l : List Reading). ended (endOf base start l)) (readings-append (s .count) n (length b / 48) a b fits)
-        ∙ ap ended (end-stop-append base start front rest stops)
-        ∙ sym is
+        both-parts stopped-ok whole ∙ ap ended (end-stop-append base start _ _ stops) ∙ sym is
 
   -- 02 [1]: "The count is the number of rows before the stop". The first part agreed, and the second one is of whole rows and not empty
   module _ (agreed : first .replayed .stop ≡ S.Agreed) (whole : length b % 48 ≡ 0) (some : 0 < length b) where
-    abbrev start : Machine
-    start = record { state = s; mem = mem }
-
     ok : Replayable base mem s a
     ok = agreed-as base mem s a .0 agreed .0
 
@@ -217,18 +218,9 @@ module _ (base : ℕ) (mem : List ℕ) (s : State) (a b : List ℕ) where
 
     is-whole : replayOf base mem s (a ++ b) ≡ ended (further (e .rows) (endOf base (e .machine) (readings (s .count) (length b / 48) b)))
     is-whole =
-        let long = length-append a b in
-        let n = length a / 48 in
-        let rest = readings (s .count) (length b / 48) b in
-        let size : length (a ++ b) % 48 ≡ 0 = omega (arith, long, ok .whole, whole) in
-        let more : 0 < length (a ++ b) = omega (arith, long, some) in
-        let rows : length (a ++ b) / 48 ≡ n + length b / 48 = omega (arith, long, ok .whole, whole) in
-        let fits : length a ≡ n * 48 = omega (arith, ok .whole) in
         let stop : e .stop ≡ S.Agreed = sym (ap (λ (x : Result). x .replayed .stop) is-first) ∙ agreed in
-        replays base mem s (a ++ b) (record { memory = ok .memory; state = ok .state; whole = size; some = more })
-        ∙ ap (λ (k : ℕ). ended (endOf base start (readings (s .count) k (a ++ b)))) rows
-        ∙ ap (λ (l : List Reading). ended (endOf base start l)) (readings-append (s .count) n (length b / 48) a b fits)
-        ∙ ap ended (end-append base start (readings (s .count) n a) rest stop)
+        both-parts ok whole
+        ∙ ap ended (end-append base start (readings (s .count) (length a / 48) a) (readings (s .count) (length b / 48) b) stop)
 
     -- Replaying the parts one after the other is replaying the whole; the counts add.
     pub cut-at-row : replayOf base mem s (a ++ b) ≡ joined (first .replayed .rows) second
