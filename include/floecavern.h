@@ -27,9 +27,9 @@
 #include <string.h>
 
 /* The version of this interface: of this header, of rust/ and of python/ alike. */
-#define FLOECAVERN_VERSION "0.3.0"
+#define FLOECAVERN_VERSION "0.4.0"
 #define FLOECAVERN_VERSION_MAJOR 0
-#define FLOECAVERN_VERSION_MINOR 3
+#define FLOECAVERN_VERSION_MINOR 4
 #define FLOECAVERN_VERSION_PATCH 0
 
 /* A condition that must hold where this is compiled: name is an identifier that no other assertion has. */
@@ -153,7 +153,8 @@ FLOECAVERN_ASSERT(reservations_stand_at_2120, offsetof(floecavern_state, reserva
  * Causes, and the value with each: 0 a jump or taken branch to a target that is not a multiple of 4 (the target); 1 the
  * word at pc is not wholly in memory (pc); 2 the word is no instruction of the model (the word); 3 EBREAK (0); 4 a
  * misaligned load or LR, 5 an aligned one not wholly in memory (the address); 6 a misaligned store, SC, AMO or AMOCAS,
- * 7 an aligned store, AMO or AMOCAS not wholly in memory, AMOCAS also where it would not write (the address); 8 ECALL (0).
+ * 7 an aligned store, SC, AMO or AMOCAS not wholly in memory, SC also without a reservation, AMOCAS also where it would
+ * not write (the address); 8 ECALL (0). A trap changes nothing: an SC that traps leaves its hart's reservation.
  *
  * Refusals, in the order they are tried: 1 the length of memory or the base breaks the rules above; 2 so does the state:
  * its count; or, of a hart below the count, x0 is not 0, pc is not a multiple of 4, or the reservation's width is not 4

@@ -526,5 +526,5 @@ class Nightly(NightlyCase):
     def test_the_program_over_all_outside_cases(self):
         status, out, _ = command(NIGHTLY, vectors(), '--expect')
         self.assertEqual(status, 0, out.decode())
-        for row in ('814  files', '53,369  .. performed, each with its line', '814  outputs equal to the expected ones'):
+        for row in ('884  files', '56,609  .. performed, each with its line', '884  outputs equal to the expected ones'):
             self.assertRegex(out.decode(), '(?m)^ +%s$' % row)

@@ -10,7 +10,7 @@ Case = namedtuple('Case', 'base harts memory events')
 
 CAUSES = {
     0: 'jump or taken branch to a misaligned target', 1: 'the word at pc is not in memory', 2: 'no instruction of the model', 3: 'ebreak',
-    4: 'misaligned load or LR', 5: 'load or LR outside memory', 6: 'misaligned store, SC or AMO', 7: 'store or AMO outside memory', 8: 'ecall',
+    4: 'misaligned load or LR', 5: 'load or LR outside memory', 6: 'misaligned store, SC or AMO', 7: 'store, SC or AMO outside memory', 8: 'ecall',
 }
 REFUSALS = {7: 'length of the file', 8: 'table of contents', 9: 'harts', 10: 'length of the memory', 11: 'events'}
 

@@ -432,13 +432,13 @@ impl State {
         if !aligned(addr, width) {
             return trap(if load { 4 } else { 6 }, addr);
         }
-        if a.op == AtomicOp::Sc {
-            return Ok(Outcome::Sc { success: self.store_conditional(memory, number, a, watch)? });
-        }
         let Some(place) = memory.place(addr, width) else {
             return trap(if load { 5 } else { 7 }, addr);
         };
         let bytes = &mut memory.bytes[place..place + width as usize];
+        if a.op == AtomicOp::Sc {
+            return Ok(Outcome::Sc { success: self.store_conditional(bytes, number, a, watch)? });
+        }
         let wrote = if a.width == 16 {
             watch.retires(a.rd, read(bytes, 8))?;
             cas_quad(hart, bytes, a)
@@ -455,8 +455,8 @@ impl State {
         Ok(Outcome::Retired)
     }
 
-    /// An SC whose address is aligned; whether it stored.
-    fn store_conditional<W: Watch>(&mut self, memory: &mut Memory, number: usize, a: Atomic, watch: &mut W) -> Result<bool, W::Stop> {
+    /// An SC whose `bytes` are aligned and in memory; whether it stored.
+    fn store_conditional<W: Watch>(&mut self, bytes: &mut [u8], number: usize, a: Atomic, watch: &mut W) -> Result<bool, W::Stop> {
         let hart = &mut self.harts[number];
         let addr = hart.get(a.rs1);
         let success = hart.reservation.is_some_and(|r| r.addr / SET == addr / SET);
@@ -465,8 +465,7 @@ impl State {
         let value = hart.get(a.rs2);
         hart.set(a.rd, !success as u64);
         if success {
-            let place = memory.place(addr, a.width as u64).expect("a set is inside memory");
-            write(&mut memory.bytes[place..], a.width, value);
+            write(bytes, a.width, value);
             self.break_others(number, addr);
         }
         Ok(success)

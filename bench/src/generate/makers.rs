@@ -139,14 +139,14 @@ fn steps_in_bursts(rng: &mut Rng, b: &mut Builder, steps: u64, burst: u64, mende
     }
 }
 
-/// Atomics and stores alone, by all harts on few addresses about the boundary of two sets.
+/// Atomics and stores alone, by all harts on few addresses about the boundary of two sets or about the end of memory.
 pub fn crowded(rng: &mut Rng, mut b: Builder) -> Builder {
     b.memory.resize(b.memory.len().max(256), 0);
     b.fill_registers(rng);
     let mut code: Vec<u32> = (0..31).map(|_| crowded_word(rng)).collect();
     code.push(j_type(0, -124));
     b.put_words(&code);
-    let boundary = b.base + b.memory.len() as u64 - 64;
+    let boundary = b.base + b.memory.len() as u64 - rng.pick(&[64, 64, 0]);
     let few: [u64; 4] = std::array::from_fn(|_| {
         let place = boundary - 32 + 4 * rng.below(16);
         place & if rng.percent(60) { !15 } else { !0 }

@@ -1,13 +1,13 @@
 -- What a hart fetches traps exactly by the table of traps. Assumes nothing.
 use Prim.Native.Nat.{ℕ, _%_, _≤_, _<_}
 use mathlib.Core.Path.{_≡_, refl, sym, _∙_, ap, subst}
-use mathlib.Core.Logic.{inl, inr, ⊎-elim}
 use mathlib.Core.Bool.{Bool, true, false, cond}
 use mathlib.Core.List.{List}
 use native.Mathlib.Omega.{arith}
 use lib.ListN.{length}
 use lib.Dec.{eqb}
 use borrow.Author.Tests.{eqb-true, eqb-false}
+use Rattle.word.proofs.ChooseLaws.{cond-all}
 use Rattle.word.proofs.TestLaws.{bool-cases, contrary, never}
 use Rattle.reserve.specs.Range.{Inside, insideOf}
 use Rattle.reserve.proofs.RangeLaws.{inside-of, of-inside}
@@ -26,9 +26,9 @@ use Rattle.effect.specs.Memory.{checked, valueAt, execLoad, execStore}
 use Rattle.effect.specs.Atomic.{execLr, execSc, execAmo, execCas, execCasPair}
 use Rattle.effect.specs.Execute.{atomicBy, execAtomic, execute, executeWord}
 use Rattle.effect.proofs.TrapLaws.{misaligned-traps, outside-traps, access-retires, jump-traps, jump-retires}
-use Rattle.effect.proofs.TrapLaws.{branch-traps, branch-taken, branch-passed, exec-sc-traps, exec-sc-stored, exec-sc-failed}
+use Rattle.effect.proofs.TrapLaws.{branch-traps, branch-taken, branch-passed}
 use Rattle.model.specs.Perform.{fetchOf}
-use Rattle.answers.specs.Causes.{Reach, nowhere, jumps, reads, writes, writesIf, reachOf, TrapRow, FirstTrap, Untrapped}
+use Rattle.answers.specs.Causes.{Reach, nowhere, jumps, reads, writes, reachOf, TrapRow, FirstTrap, Untrapped}
 use Rattle.answers.specs.Causes.{unfetched, unknown, called, halted, misalignedTarget, misalignedRead, misalignedWrite, outsideRead, outsideWrite}
 use Rattle.answers.proofs.Refused.{first-same}
 
@@ -72,21 +72,18 @@ placeOf nowhere = 0
 placeOf (jumps t) = t
 placeOf (reads a n) = a
 placeOf (writes a n) = a
-placeOf (writesIf a n) = a
 
 misalignedCause : Reach → ℕ
 misalignedCause nowhere = 0
 misalignedCause (jumps t) = 0
 misalignedCause (reads a n) = 4
 misalignedCause (writes a n) = 6
-misalignedCause (writesIf a n) = 6
 
 outside : Reach → ℕ
 outside nowhere = 0
 outside (jumps t) = 0
 outside (reads a n) = 5
 outside (writes a n) = 7
-outside (writesIf a n) = 0
 
 -- what rows 4, 5 and 6 ask not to trap
 Straight : Reach → Type 0
@@ -94,21 +91,18 @@ Straight nowhere = Unit {0}
 Straight (jumps t) = t % 4 ≡ 0
 Straight (reads a n) = Unit {0}
 Straight (writes a n) = Unit {0}
-Straight (writesIf a n) = Unit {0}
 
 Aligned : Reach → Type 0
 Aligned nowhere = Unit {0}
 Aligned (jumps t) = Unit {0}
 Aligned (reads a n) = a % n ≡ 0
 Aligned (writes a n) = a % n ≡ 0
-Aligned (writesIf a n) = a % n ≡ 0
 
 Within : ℕ → ℕ → Reach → Type 0
 Within base len nowhere = Unit {0}
 Within base len (jumps t) = Unit {0}
 Within base len (reads a n) = Inside base len a n
 Within base len (writes a n) = Inside base len a n
-Within base len (writesIf a n) = Unit {0}
 
 module _ (word : ℕ) (x : ℕ → ℕ) (pc base : ℕ) (mem : List ℕ) where
   none-below : (i : Instr) (p : ℕ) → (1 < p → Inside base (length mem) pc 4) → (2 < p → i ≡ Illegal → ⊥)
@@ -121,9 +115,7 @@ module _ (word : ℕ) (x : ℕ → ℕ) (pc base : ℕ) (mem : List ℕ) where
   none-below i p a b d e f g k c v l (halted q r w z) = d (omega arith) .1 z
   none-below i p a b d e f g k c v l (misalignedTarget q r w z) = z (subst Straight w (e (omega arith)))
   none-below i p a b d e f g k c v l (misalignedRead q r n w z) = z (subst Aligned w (f (omega arith)))
-  none-below i p a b d e f g k c v l (misalignedWrite q r n w z) =
-      ⊎-elim (λ (w : reachOf i x pc ≡ writes v n). z (subst Aligned w (f (omega arith))))
-      (λ (w : reachOf i x pc ≡ writesIf v n). z (subst Aligned w (f (omega arith)))) w
+  none-below i p a b d e f g k c v l (misalignedWrite q r n w z) = z (subst Aligned w (f (omega arith)))
   none-below i p a b d e f g k c v l (outsideRead q r n w z) = z (subst (Within base (length mem)) w (g (omega arith)))
   none-below i p a b d e f g k c v l (outsideWrite q r n w z) = z (subst (Within base (length mem)) w (g (omega arith)))
 
@@ -144,10 +136,7 @@ module _ (word : ℕ) (x : ℕ → ℕ) (pc base : ℕ) (mem : List ℕ) where
   placed i k c v (halted q r w z) = (omega arith, omega arith, omega arith, rw (q, z) r, rw q w)
   placed i k c v (misalignedTarget q r w z) = (omega arith, omega arith, omega arith, rw q r, rw (q, w) refl)
   placed i k c v (misalignedRead q r n w z) = (omega arith, omega arith, omega arith, rw (q, w) r, rw (q, w) refl)
-  placed i k c v (misalignedWrite q r n w z) =
-      ⊎-elim
-      (λ (w : reachOf i x pc ≡ writes v n). (omega arith, omega arith, omega arith, rw (q, w) r, rw (q, w) refl))
-      (λ (w : reachOf i x pc ≡ writesIf v n). (omega arith, omega arith, omega arith, rw (q, w) r, rw (q, w) refl)) w
+  placed i k c v (misalignedWrite q r n w z) = (omega arith, omega arith, omega arith, rw (q, w) r, rw (q, w) refl)
   placed i k c v (outsideRead q r n w z) = (omega arith, omega arith, omega arith, rw (q, w) r, rw (q, w) refl)
   placed i k c v (outsideWrite q r n w z) = (omega arith, omega arith, omega arith, rw (q, w) r, rw (q, w) refl)
 
@@ -236,29 +225,21 @@ module _ (word : ℕ) (x : ℕ → ℕ) (pc base : ℕ) (mem : List ℕ) where
           access-decided 4 5 a n ws to t (omega arith) (omega arith) (rw q tt) (λ al. rw q al) (λ is. rw q is)
           (λ z. misalignedRead refl refl n q z) (λ z. outsideRead refl refl n q z)
 
-      -- a store or AMO
+      -- a store, SC, AMO or AMOCAS
       write-decided : (a n : ℕ) (ws : Writes) (to : ℕ) (t : Access) → reachOf i x pc ≡ writes a n
           → Decided i (checked 6 7 a n base (length mem) (effect ws to t))
       unfolding Straight Aligned Within
       write-decided a n ws to t q =
           access-decided 6 7 a n ws to t (omega arith) (omega arith) (rw q tt) (λ al. rw q al) (λ is. rw q is)
-          (λ z. misalignedWrite refl refl n (inl q) z) (λ z. outsideWrite refl refl n q z)
+          (λ z. misalignedWrite refl refl n q z) (λ z. outsideWrite refl refl n q z)
 
-      -- an SC, by 6 only
-      sc-decided : (w : Width) (rd a v : ℕ) (covered : ℕ → ℕ → Bool) → reachOf i x pc ≡ writesIf a (bytesOf w)
-          → Decided i (execSc 64 w rd a v pc covered)
-      unfolding Straight Aligned Within
+      -- an SC, as a store, whatever the reservation decides then
+      sc-decided : (w : Width) (rd a v : ℕ) (covered : ℕ → ℕ → Bool) → reachOf i x pc ≡ writes a (bytesOf w)
+          → Decided i (execSc 64 w rd a v pc base mem covered)
+      unfolding execSc
       sc-decided w rd a v covered q =
-          bool-cases (eqb (a % bytesOf w) 0)
-          (λ u.
-          let al = eqb-true (a % bytesOf w) 0 u in
-          bool-cases (covered a (bytesOf w))
-          (λ z. fine (rw q tt) (rw q al) (rw q tt) _ _ _ _ (exec-sc-stored 64 pc w rd a v covered al z))
-          (λ z. fine (rw q tt) (rw q al) (rw q tt) _ _ _ _ (exec-sc-failed 64 pc w rd a v covered al z)))
-          (λ u.
-          let skew = eqb-false (a % bytesOf w) 0 u in
-          traps 6 a (exec-sc-traps 64 pc w rd a v covered skew)
-          (record { place = 5; applies = misalignedWrite refl refl (bytesOf w) (inr q) skew; first = clear 5 (λ l. rw q tt) (never refl) (never refl) }))
+          cond-all (λ (e : Exec). Decided i (checked 6 7 a (bytesOf w) base (length mem) e)) (covered a (bytesOf w)) _ _
+          (write-decided a (bytesOf w) _ _ _ q) (write-decided a (bytesOf w) _ _ _ q)
 
     branch-decided : (op : BranchOp) (rs1 rs2 imm : ℕ) (b : Bool) → holdsOf 64 op (x rs1) (x rs2) ≡ b
         → Decided (Branch op rs1 rs2 imm) (execBranch 64 b (offset 64 pc imm) pc)

@@ -2,7 +2,6 @@
 -- RULES 3.1, 3.2.
 use Prim.Native.Nat.{ℕ, _%_, _<_}
 use mathlib.Core.Path.{_≡_}
-use mathlib.Core.Logic.{_⊎_}
 use mathlib.Core.Bool.{cond}
 use mathlib.Core.List.{List}
 use lib.ListN.{length, getD}
@@ -27,12 +26,11 @@ pub data Reach : Type 0 where
   nowhere : Reach
   jumps : ℕ → Reach  -- "JAL, JALR or a taken branch": its target
   reads : ℕ → ℕ → Reach  -- "load or LR": its address and width in bytes
-  writes : ℕ → ℕ → Reach  -- "store, AMO"; AMOCAS too, "the address is checked as for a write"
-  writesIf : ℕ → ℕ → Reach  -- SC
+  writes : ℕ → ℕ → Reach  -- "store, SC, AMO"; AMOCAS too, "the address is checked as for a write"
 
 abbrev pub atomicReach : AtomicOp → Width → ℕ → Reach
 atomicReach Lr w a = reads a (bytesOf w)
-atomicReach Sc w a = writesIf a (bytesOf w)
+atomicReach Sc w a = writes a (bytesOf w)
 atomicReach Cas w a = writes a (bytesOf w)
 atomicReach CasPair w a = writes a 16
 atomicReach (Rmw op) w a = writes a (bytesOf w)
@@ -70,9 +68,8 @@ module _ (i : Instr) (word : ℕ) (x : ℕ → ℕ) (pc base : ℕ) (mem : List 
     misalignedTarget : place ≡ 4 → cause ≡ 0 → reachOf i x pc ≡ jumps value → (value % 4 ≡ 0 → ⊥) → TrapRow place cause value
     -- "4, 6 | address not aligned to its width: load or LR 4; store, SC, AMO 6 | address"
     misalignedRead : place ≡ 5 → cause ≡ 4 → (n : ℕ) → reachOf i x pc ≡ reads value n → (value % n ≡ 0 → ⊥) → TrapRow place cause value
-    misalignedWrite : place ≡ 5 → cause ≡ 6 → (n : ℕ) → (reachOf i x pc ≡ writes value n) ⊎ (reachOf i x pc ≡ writesIf value n)
-        → (value % n ≡ 0 → ⊥) → TrapRow place cause value
-    -- "5, 7 | bytes not wholly in memory: load or LR 5; store, AMO 7 | address"; "SC has no cause 7"
+    misalignedWrite : place ≡ 5 → cause ≡ 6 → (n : ℕ) → reachOf i x pc ≡ writes value n → (value % n ≡ 0 → ⊥) → TrapRow place cause value
+    -- "5, 7 | bytes not wholly in memory: load or LR 5; store, AMO 7 | address"; 02 [2]: "an SC whose bytes aren't wholly in memory is now cause 7"
     outsideRead : place ≡ 6 → cause ≡ 5 → (n : ℕ) → reachOf i x pc ≡ reads value n → (Inside base (length mem) value n → ⊥)
         → TrapRow place cause value
     outsideWrite : place ≡ 6 → cause ≡ 7 → (n : ℕ) → reachOf i x pc ≡ writes value n → (Inside base (length mem) value n → ⊥)

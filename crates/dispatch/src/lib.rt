@@ -15,13 +15,11 @@ use reserve::Notice;
 use reserve::Reservation;
 ghost use mathlib.Core.Path.{_≡_};
 ghost use Prim.Native.Nat.{_<_};
-ghost use lib.ListN.{length};
 ghost use Rattle.reserve.specs.Reserve.{coversOf};
 ghost use Rattle.alu.specs.Pair.{joined};
 ghost use Rattle.effect.specs.Effect.{doneOf, Meets, offset};
 ghost use Rattle.effect.specs.Integer.{holdsOf, execBranch};
 ghost use Rattle.effect.specs.Memory.{execStore};
-ghost use Rattle.effect.specs.Atomic.{CoveredInside};
 ghost use Rattle.effect.specs.Execute.{regAt, pairAt, execAtomic, execute, executeWord};
 
 // Register r of hart h; x has those of all harts.
@@ -65,7 +63,6 @@ fn atomic(
     mem: &mut [u8],
 ) -> Done
     requires { ⌜ h < 8 ⌝ }
-    requires { ⌜ CoveredInside base (length (now mem)) (coversOf 64 res) ⌝ }
     ensures { λ r. ⌜
         Meets h (execAtomic 64 m (regAt (now (x .entry)) h) pc base (now (mem .entry)) (coversOf 64 res))
         base (now (mem .entry)) r (now (mem .exit))
@@ -137,7 +134,6 @@ fn execute(
     mem: &mut [u8],
 ) -> Done
     requires { ⌜ h < 8 ⌝ }
-    requires { ⌜ CoveredInside base (length (now mem)) (coversOf 64 res) ⌝ }
     ensures { λ r. ⌜
         Meets h (execute 64 i word (regAt (now (x .entry)) h) pc base (now (mem .entry)) (coversOf 64 res))
         base (now (mem .entry)) r (now (mem .exit))
@@ -175,7 +171,6 @@ pub fn execute_word(
     mem: &mut [u8],
 ) -> Done
     requires { ⌜ h < 8 ⌝ }
-    requires { ⌜ CoveredInside base (length (now mem)) (coversOf 64 res) ⌝ }
     ensures { λ r. ⌜
         Meets h (executeWord 64 word (regAt (now (x .entry)) h) pc base (now (mem .entry)) (coversOf 64 res))
         base (now (mem .entry)) r (now (mem .exit))

@@ -93,12 +93,6 @@ module _ (pc : ℕ) where
   fits-branch true to h = cond-all (Fits 64) (eqb (to % 4) 0) _ _ (tt, (h, tt)) tt
   fits-branch false to h = (tt, (next-lt, tt))
 
-  fits-sc : (covered : ℕ → ℕ → Bool) (w : Width) (rd a v : ℕ) → Fits 64 (execSc 64 w rd a v pc covered)
-  unfolding execSc
-  fits-sc covered w rd a v =
-      cond-all (Fits 64) (eqb (a % bytesOf w) 0) _ _
-      (cond-all (Fits 64) (covered a (bytesOf w)) _ _ (lit< tt, (next-lt, bytes-toLe (bytesOf w) v)) (lit< tt, (next-lt, tt))) tt
-
   module _ (base : ℕ) (mem : List ℕ) (bytes : IsBytes mem) where
     fits-load : (op : LoadOp) (rd a : ℕ) → Fits 64 (execLoad 64 op rd a pc base mem)
     unfolding execLoad
@@ -107,9 +101,12 @@ module _ (pc : ℕ) where
         (extended-lt op (valueAt base mem a (loadBytes op)) (value-lt base mem bytes a (loadBytes op)), (next-lt, tt))
 
     fits-atomic : (covered : ℕ → ℕ → Bool) (op : AtomicOp) (m : Atomic) (x : ℕ → ℕ) → Fits 64 (atomicBy 64 op m x pc base mem covered)
-    unfolding execLr execAmo execCas execCasPair
+    unfolding execLr execSc execAmo execCas execCasPair
     fits-atomic covered Lr m x = fits-checked 4 5 _ _ base (length mem) _ (extends (m .width) _, (next-lt, tt))
-    fits-atomic covered Sc m x = fits-sc covered (m .width) (m .rd) (x (m .rs1)) (x (m .rs2))
+    fits-atomic covered Sc m x =
+        fits-checked 6 7 _ _ base (length mem) _
+        (cond-all (Fits 64) (covered (x (m .rs1)) (bytesOf (m .width))) _ _ (lit< tt, (next-lt, bytes-toLe (bytesOf (m .width)) (x (m .rs2))))
+        (lit< tt, (next-lt, tt)))
     fits-atomic covered Cas m x =
         let a = x (m .rs1) in
         let n = bytesOf (m .width) in

@@ -12,7 +12,7 @@ use Rattle.word.specs.Word.{low}
 use Rattle.word.specs.Bytes.{toLe}
 use Rattle.word.proofs.BytesLaws.{length-toLe}
 use Rattle.word.proofs.WordLaws.{low-low}
-use Rattle.word.proofs.ChooseLaws.{cond-cases}
+use Rattle.word.proofs.ChooseLaws.{cond-all, cond-cases}
 use Rattle.reserve.specs.Range.{Inside, insideOf}
 use Rattle.reserve.proofs.RangeLaws.{inside-of}
 use Rattle.isa.specs.Width.{bitsOf, bytesOf}
@@ -30,7 +30,7 @@ use Rattle.isa.specs.declared.Instr.the-variants.{Illegal, Lui, Auipc, Jal, Jal
 use Rattle.effect.specs.Effect.{nothing, store, Exec, trap, offset, nextPc}
 use Rattle.effect.specs.Integer.{execJump, clearBit0, holdsOf, execBranch}
 use Rattle.effect.specs.Memory.{faultOf, checked, valueAt, loadBytes, storeBytes, execLoad, execStore}
-use Rattle.effect.specs.Atomic.{CoveredInside, swapped, execLr, execSc, execAmo, execCas, execCasPair}
+use Rattle.effect.specs.Atomic.{swapped, execLr, execSc, execAmo, execCas, execCasPair}
 use Rattle.effect.specs.Execute.{pairAt, atomicBy, execAtomic, execute, executeWord}
 use Rattle.effect.specs.Sound.{AccessOk, Sound}
 
@@ -119,14 +119,13 @@ module _ (xlen : ℕ) (enough : 2 ≤ xlen) (pc : ℕ) (aligned : pc % 4 ≡ 0) 
       sound-checked base (length mem) 6 7 a 16 _ (omega arith) (omega arith)
       (λ i. (next-aligned, sound-swap base (length mem) a 16 (valueAt base mem a 16) want new (i .1)))
 
-  module _ (covered : ℕ → ℕ → Bool) (held : CoveredInside base (length mem) covered) where
-    sound-sc : (w : Width) (rd a v : ℕ) → Sound base (length mem) (execSc xlen w rd a v pc covered)
+  module _ (covered : ℕ → ℕ → Bool) where
+    sound-sc : (w : Width) (rd a v : ℕ) → Sound base (length mem) (execSc xlen w rd a v pc base mem covered)
     unfolding execSc
     sound-sc w rd a v =
-        cond-cases (Sound base (length mem)) (eqb (a % bytesOf w) 0) _ _
-        (λ t. cond-cases (Sound base (length mem)) (covered a (bytesOf w)) _ _
-        (λ s. (next-aligned, bytes-inside base (length mem) a (bytesOf w) v (held a (bytesOf w) s))) (λ s. (next-aligned, tt)))
-        (λ f. tt)
+        sound-checked base (length mem) 6 7 a (bytesOf w) _ (omega arith) (omega arith)
+        (λ i. cond-all (Sound base (length mem)) (covered a (bytesOf w)) _ _
+        (next-aligned, bytes-inside base (length mem) a (bytesOf w) v (i .1)) (next-aligned, tt))
 
     sound-atomic : (op : AtomicOp) (m : Atomic) (x : ℕ → ℕ) → Sound base (length mem) (atomicBy xlen op m x pc base mem covered)
     sound-atomic Lr m x = sound-lr (m .width) (m .rd) (x (m .rs1))
@@ -154,9 +153,8 @@ module _ (xlen : ℕ) (enough : 2 ≤ xlen) (pc : ℕ) (aligned : pc % 4 ≡ 0) 
     sound-execute (Op32 op rd rs1 rs2) word x = (next-aligned, tt)
     sound-execute (Amo m) word x = sound-atomic (m .op) m x
 
--- Whatever the word and the registers, a step from an aligned pc goes to an aligned pc, and reserves and stores inside memory only, if what is
--- covered lies in memory.
-pub sound : (word : ℕ) (x : ℕ → ℕ) (pc base : ℕ) (mem : List ℕ) (covered : ℕ → ℕ → Bool) → pc % 4 ≡ 0 → CoveredInside base (length mem) covered
+-- Whatever the word, the registers and the reservation, a step from an aligned pc goes to an aligned pc, and reserves and stores inside memory only.
+pub sound : (word : ℕ) (x : ℕ → ℕ) (pc base : ℕ) (mem : List ℕ) (covered : ℕ → ℕ → Bool) → pc % 4 ≡ 0
     → Sound base (length mem) (executeWord 64 word x pc base mem covered)
 unfolding executeWord
-sound word x pc base mem covered aligned held = sound-execute 64 (omega arith) pc aligned base mem covered held (decodeOf word) word x
+sound word x pc base mem covered aligned = sound-execute 64 (omega arith) pc aligned base mem covered (decodeOf word) word x

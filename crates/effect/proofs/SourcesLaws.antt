@@ -24,8 +24,8 @@ module _ (xlen : ℕ) (m : Atomic) (x : ℕ → ℕ) (pc base : ℕ) (mem : List
       → execAtomic xlen m x pc base mem covered ≡ execAmo xlen op (m .width) (m .rd) (x (m .rs1)) v pc base mem
   amo-first op e = by-op (Rmw op) e ∙ ap (λ (u : ℕ). execAmo xlen op (m .width) (m .rd) (x (m .rs1)) u pc base mem) source
 
-  pub sc-first : m .op ≡ Sc → execAtomic xlen m x pc base mem covered ≡ execSc xlen (m .width) (m .rd) (x (m .rs1)) v pc covered
-  sc-first e = by-op Sc e ∙ ap (λ (u : ℕ). execSc xlen (m .width) (m .rd) (x (m .rs1)) u pc covered) source
+  pub sc-first : m .op ≡ Sc → execAtomic xlen m x pc base mem covered ≡ execSc xlen (m .width) (m .rd) (x (m .rs1)) v pc base mem covered
+  sc-first e = by-op Sc e ∙ ap (λ (u : ℕ). execSc xlen (m .width) (m .rd) (x (m .rs1)) u pc base mem covered) source
 
   -- where an AMOCAS finds them equal, it writes what it compared with
   pub cas-first : m .op ≡ Cas → execAtomic xlen m x pc base mem covered ≡ execCas xlen (m .width) (m .rd) (x (m .rs1)) v v pc base mem

@@ -1,8 +1,10 @@
 -- The table of traps (01, "Traps"), read without tests: which cause and value, and when none. Cause 1 is of the fetch. Assumes nothing.
 use Prim.Native.Nat.{ℕ, _%_, _<_}
-use mathlib.Core.Path.{_≡_, refl}
+use mathlib.Core.Path.{_≡_, refl, _∙_}
 use mathlib.Core.Bool.{Bool, true, false}
+use mathlib.Core.List.{List}
 use native.Mathlib.Omega.{arith}
+use lib.ListN.{length}
 use borrow.Author.Tests.{eq-eqb, ne-eqb}
 use Rattle.word.proofs.TestLaws.{bool-cases}
 use Rattle.reserve.specs.Range.{Inside, insideOf}
@@ -15,7 +17,7 @@ use Rattle.effect.specs.Memory.{faultOf, checked}
 use Rattle.effect.specs.Atomic.{execSc}
 use Rattle.word.specs.Bytes.{toLe}
 
--- causes 4 to 7: an access of n bytes at a, in a memory of len bytes at base. A load or LR has causes 4 and 5, a store or AMO 6 and 7
+-- causes 4 to 7: an access of n bytes at a, in a memory of len bytes at base. A load or LR has causes 4 and 5, a store, SC or AMO 6 and 7
 module _ (misaligned outside a n base len : ℕ) (some : 0 < misaligned) (more : 0 < outside) (e : Exec) where
   caused : (cause : ℕ) → faultOf misaligned outside a n base len ≡ cause → 0 < cause
       → checked misaligned outside a n base len e ≡ trap cause a
@@ -59,18 +61,23 @@ module _ (xlen pc : ℕ) where
   unfolding execBranch
   branch-passed to = refl
 
-  -- cause 6 of an SC, which has no cause 7
-  module _ (w : Width) (rd a v : ℕ) (covered : ℕ → ℕ → Bool) where
-    pub exec-sc-traps : (a % bytesOf w ≡ 0 → ⊥) → execSc xlen w rd a v pc covered ≡ trap 6 a
+  -- an SC: causes 6 and 7 whatever the reservation, which decides where neither is given
+  module _ (w : Width) (rd a v base : ℕ) (mem : List ℕ) (covered : ℕ → ℕ → Bool) where
+    pub exec-sc-misaligned : (a % bytesOf w ≡ 0 → ⊥) → execSc xlen w rd a v pc base mem covered ≡ trap 6 a
     unfolding execSc
-    exec-sc-traps d = rw (ne-eqb (a % bytesOf w) 0 d)
+    exec-sc-misaligned d = misaligned-traps 6 7 a (bytesOf w) base (length mem) (omega arith) (omega arith) _ d
 
-    pub exec-sc-stored : a % bytesOf w ≡ 0 → covered a (bytesOf w) ≡ true
-        → execSc xlen w rd a v pc covered ≡ effect (one rd 0) (nextPc xlen pc) (scStored a (toLe (bytesOf w) v))
+    pub exec-sc-outside : a % bytesOf w ≡ 0 → (Inside base (length mem) a (bytesOf w) → ⊥) → execSc xlen w rd a v pc base mem covered ≡ trap 7 a
     unfolding execSc
-    exec-sc-stored al c = rw (eq-eqb (a % bytesOf w) 0 al, c)
+    exec-sc-outside al d = outside-traps 6 7 a (bytesOf w) base (length mem) (omega arith) (omega arith) _ al d
 
-    pub exec-sc-failed : a % bytesOf w ≡ 0 → covered a (bytesOf w) ≡ false
-        → execSc xlen w rd a v pc covered ≡ effect (one rd 1) (nextPc xlen pc) scFailed
-    unfolding execSc
-    exec-sc-failed al c = rw (eq-eqb (a % bytesOf w) 0 al, c)
+    module _ (al : a % bytesOf w ≡ 0) (i : Inside base (length mem) a (bytesOf w)) where
+      pub exec-sc-stored : covered a (bytesOf w) ≡ true
+          → execSc xlen w rd a v pc base mem covered ≡ effect (one rd 0) (nextPc xlen pc) (scStored a (toLe (bytesOf w) v))
+      unfolding execSc
+      exec-sc-stored c = access-retires 6 7 a (bytesOf w) base (length mem) (omega arith) (omega arith) _ al i ∙ rw c
+
+      pub exec-sc-failed : covered a (bytesOf w) ≡ false
+          → execSc xlen w rd a v pc base mem covered ≡ effect (one rd 1) (nextPc xlen pc) scFailed
+      unfolding execSc
+      exec-sc-failed c = access-retires 6 7 a (bytesOf w) base (length mem) (omega arith) (omega arith) _ al i ∙ rw c

@@ -1,24 +1,18 @@
 -- LR, SC, AMO and AMOCAS, at a register width of xlen bits.
 -- RULES: `execLr` 4.5, `execSc` 4.6 and 3.2, `execAmo` 4.7, `swapped`, `pairWrites`, `execCas`, `execCasPair` 4.8.
 use Prim.Native.Nat.{ℕ, _+_, _/_, _%_, _^_}
-use mathlib.Core.Path.{_≡_}
-use mathlib.Core.Bool.{Bool, true, cond}
+use mathlib.Core.Bool.{Bool, cond}
 use mathlib.Core.List.{List}
 use lib.ListN.{length}
 use lib.Dec.{eqb}
 use Rattle.word.specs.Word.{low, signExtend}
 use Rattle.word.specs.Bytes.{toLe}
-use Rattle.reserve.specs.Range.{Inside}
 use Rattle.isa.specs.Width.{bitsOf, bytesOf}
 use Rattle.isa.specs.declared.Width.{Width}
 use Rattle.isa.specs.declared.AmoOp.{AmoOp}
 use Rattle.alu.specs.Amo.{amoOf}
-use Rattle.effect.specs.Effect.{Exec, trap, effect, Writes, none, one, pair, Access, nothing, reserve, store, scStored, scFailed, nextPc}
+use Rattle.effect.specs.Effect.{Exec, effect, Writes, none, one, pair, Access, nothing, reserve, store, scStored, scFailed, nextPc}
 use Rattle.effect.specs.Memory.{checked, valueAt}
-
--- all that is covered lies in the len bytes at base
-abbrev pub CoveredInside : ℕ → ℕ → (ℕ → ℕ → Bool) → Type 0
-CoveredInside base len covered = (a n : ℕ) → covered a n ≡ true → Inside base len a n
 
 -- 01: "compares .., writes rs2 if equal"; "Unequal: no write": n bytes at a
 abbrev pub swapped : ℕ → ℕ → ℕ → ℕ → ℕ → Access
@@ -35,15 +29,15 @@ module _ (xlen : ℕ) where
       checked 4 5 a (bytesOf w) base (length mem)
       (effect (one rd (signExtend xlen (bitsOf w) (valueAt base mem a (bytesOf w)))) (nextPc xlen pc) (reserve a (bytesOf w)))
 
-  -- 01: "SC: aligned, then succeeds if this hart holds a reservation whose set contains all its bytes .. Success writes memory and puts 0 in rd;
-  -- failure puts 1 in rd and writes nothing." covered says whether the set of the hart's reservation contains the n bytes at an address
-  unfoldable pub execSc : Width → ℕ → ℕ → ℕ → ℕ → (ℕ → ℕ → Bool) → Exec
-  execSc w rd a v pc covered =
-      cond (eqb (a % bytesOf w) 0)
+  -- 02 [2]: "After alignment, an SC whose bytes aren't wholly in memory is now cause 7, value the address": checked as a store is. Then 01: it
+  -- "succeeds if this hart holds a reservation whose set contains all its bytes .. Success writes memory and puts 0 in rd; failure puts 1 in rd and
+  -- writes nothing." covered says whether the set of the hart's reservation contains the n bytes at an address
+  unfoldable pub execSc : Width → ℕ → ℕ → ℕ → ℕ → ℕ → List ℕ → (ℕ → ℕ → Bool) → Exec
+  execSc w rd a v pc base mem covered =
+      checked 6 7 a (bytesOf w) base (length mem)
       (cond (covered a (bytesOf w))
       (effect (one rd 0) (nextPc xlen pc) (scStored a (toLe (bytesOf w) v)))
       (effect (one rd 1) (nextPc xlen pc) scFailed))
-      (trap 6 a)
 
   -- 01: "AMO: rd gets the old value (W sign-extended); memory gets the operation on old value and rs2. W ignores the upper half of rs2."
   unfoldable pub execAmo : AmoOp → Width → ℕ → ℕ → ℕ → ℕ → ℕ → List ℕ → Exec

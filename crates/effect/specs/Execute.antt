@@ -27,7 +27,7 @@ pairAt x r = cond (eqb (r % 32) 0) 0 (x r + 2 ^ 64 * x (r % 32 + 1))
 module _ (xlen : ℕ) where
   abbrev pub atomicBy : AtomicOp → Atomic → (ℕ → ℕ) → ℕ → ℕ → List ℕ → (ℕ → ℕ → Bool) → Exec
   atomicBy Lr m x pc base mem covered = execLr xlen (m .width) (m .rd) (x (m .rs1)) pc base mem
-  atomicBy Sc m x pc base mem covered = execSc xlen (m .width) (m .rd) (x (m .rs1)) (x (m .rs2)) pc covered
+  atomicBy Sc m x pc base mem covered = execSc xlen (m .width) (m .rd) (x (m .rs1)) (x (m .rs2)) pc base mem covered
   atomicBy Cas m x pc base mem covered = execCas xlen (m .width) (m .rd) (x (m .rs1)) (x (m .rd)) (x (m .rs2)) pc base mem
   atomicBy CasPair m x pc base mem covered =
       execCasPair xlen (m .rd) (x (m .rs1)) (pairAt x (m .rd)) (pairAt x (m .rs2)) pc base mem

@@ -16,12 +16,10 @@ use word::num::sign_extend;
 use word::num::wrap;
 ghost use mathlib.Core.Path.{_≡_};
 ghost use mathlib.Core.Bool.{cond};
-ghost use Prim.Native.Nat.{_≤_, _<_};
-ghost use lib.ListN.{length};
 ghost use Rattle.reserve.specs.Reserve.{coversOf};
 ghost use Rattle.alu.specs.Pair.{joined};
 ghost use Rattle.effect.specs.Effect.{retired, doneOf, Meets, nextPc};
-ghost use Rattle.effect.specs.Atomic.{CoveredInside, pairWrites, execLr, execSc, execAmo, execCas, execCasPair};
+ghost use Rattle.effect.specs.Atomic.{pairWrites, execLr, execSc, execAmo, execCas, execCasPair};
 
 pub fn lr(w: Width, rd: usize, a: u64, pc: u64, base: u64, h: usize, mem: &[u8]) -> Done
     ensures { λ r. ⌜ r ≡ doneOf h (execLr 64 w rd a pc base (now (mem .entry))) ⌝ }
@@ -45,7 +43,7 @@ pub fn lr(w: Width, rd: usize, a: u64, pc: u64, base: u64, h: usize, mem: &[u8])
     )
 }
 
-// res is the hart's reservation. All that it covers lies in memory, so that SC needs no check of its own for bytes outside (it has no cause 7).
+// Checked as a store is, whatever the hart's reservation res; then the reservation decides.
 pub fn sc(
     w: Width,
     rd: usize,
@@ -57,12 +55,12 @@ pub fn sc(
     res: Reservation,
     mem: &mut [u8],
 ) -> Done
-    requires { ⌜ CoveredInside base (length (now mem)) (coversOf 64 res) ⌝ }
-    ensures { λ r. ⌜ Meets h (execSc 64 w rd a v pc (coversOf 64 res)) base (now (mem .entry)) r (now (mem .exit)) ⌝ }
+    ensures { λ r. ⌜ Meets h (execSc 64 w rd a v pc base (now (mem .entry)) (coversOf 64 res)) base (now (mem .entry)) r (now (mem .exit)) ⌝ }
 {
     let n = bytes_of(w);
-    if a % (n as u64) != 0 {
-        return Done::Trap { cause: 6, value: a };
+    let cause = fault(6, 7, a, n, base, mem.len());
+    if cause != 0 {
+        return Done::Trap { cause, value: a };
     }
     if reserve::covers(64, res, a, n as u64) {
         store_at(mem, (a - base) as usize, n, v);

@@ -274,7 +274,7 @@ module _ (base : ℕ) (m : Machine) (e : Event) where
         res-apply 64 (m .state) h (actOf base (m .mem) (m .state) e) u l
 
     act-fine : ActOk base (length (m .mem)) (actOf base (m .mem) (m .state) e)
-    act-fine = rw (act-valid base m v e) (act-ok base (m .mem) (m .state) (v .0) (v .1) e)
+    act-fine = rw (act-valid base m v e) (act-ok base (m .mem) (m .state) (v .1) e)
 
     -- 01: "no other byte changes": the byte at base + k, if the event doesn't write it
     pub byte-next : (k : ℕ) → (WritesInto (noticeAt base m e) (base + k) 1 → ⊥) → getD (nextOf base m e .mem) k 0 ≡ getD (m .mem) k 0

@@ -23,12 +23,11 @@ use Rattle.reserve.specs.declared.Reservation.{Reservation}
 use Rattle.reserve.specs.declared.Reservation.the-variants.{None, Held}
 use Rattle.reserve.specs.declared.Notice.{Notice}
 use Rattle.reserve.specs.declared.Notice.the-variants.{Quiet, LoadReserved, ScStored, ScFailed, Write, DeviceWrite, Yield}
-use Rattle.reserve.proofs.RangeLaws.{inside-of, cover-inside, none-covers}
-use Rattle.machine.specs.Rules.{MemoryRules, ReservationRules, StateRules}
+use Rattle.reserve.proofs.RangeLaws.{inside-of}
+use Rattle.machine.specs.Rules.{ReservationRules, StateRules}
 use Rattle.machine.specs.declared.State.{State}
 use Rattle.machine.proofs.StateLaws.{refusal-0}
 use Rattle.effect.specs.Effect.{Writes, none, one, pair, Access, nothing, reserve, store, scStored, scFailed, Exec, trap, effect, noticeOf}
-use Rattle.effect.specs.Atomic.{CoveredInside}
 use Rattle.effect.specs.Execute.{regAt}
 use Rattle.effect.specs.Memory.{valueAt}
 use Rattle.effect.specs.Sound.{AccessOk, Sound}
@@ -132,14 +131,7 @@ length-leaves base mem (change h ws to t) o = length-stored base mem t (o .1)
 length-leaves base mem (put a bs) o = length-splice mem (a - base) bs (omega arith)
 length-leaves base mem (release h) o = refl
 
--- what a reservation covers lies in memory
-pub covered-inside : (base len : ℕ) (r : Reservation) → MemoryRules base len → ReservationRules base len r → CoveredInside base len (coversOf 64 r)
-covered-inside base len None m o a n e = absurd (let z : _≡_ {A = ℕ} 0 1 = cc (none-covers 64 a n) in omega arith)
-covered-inside base len (Held b w) m o a n e =
-    cover-inside 64 base len b w (omega arith) (m .3) (m .2)
-    (⊎-elim (λ (q : w ≡ 4). omega arith) (λ (q : w ≡ 8). omega arith) (o .0)) (o .2) a n e
-
-module _ (base : ℕ) (mem : List ℕ) (s : State) (mr : MemoryRules base (length mem)) (sr : StateRules base (length mem) s) where
+module _ (base : ℕ) (mem : List ℕ) (s : State) (sr : StateRules base (length mem) s) where
   of-exec : (h : ℕ) (e : Exec) → Sound base (length mem) e → ActOk base (length mem) (ofExec h e)
   of-exec h (trap cause value) o = tt
   of-exec h (effect ws to t) o = o
@@ -148,8 +140,7 @@ module _ (base : ℕ) (mem : List ℕ) (s : State) (mr : MemoryRules base (lengt
   unfolding fetchOf
   fetch-sound h l =
       cond-all (Sound base (length mem)) (insideOf base (length mem) (getD (s .pc) h 0) 4) _ (trap 1 (getD (s .pc) h 0))
-      (sound (valueAt base mem (getD (s .pc) h 0) 4) (regAt (s .x) h) (getD (s .pc) h 0) base mem (coversOf 64 (reservationOf s h)) (sr .2 h l .1)
-      (covered-inside base (length mem) (reservationOf s h) mr (sr .2 h l .2))) tt
+      (sound (valueAt base mem (getD (s .pc) h 0) 4) (regAt (s .x) h) (getD (s .pc) h 0) base mem (coversOf 64 (reservationOf s h)) (sr .2 h l .1)) tt
 
   pub act-ok : (e : Event) → ActOk base (length mem) (actOn base mem s e)
   unfolding actOn deviceOf
@@ -169,7 +160,7 @@ module _ (base : ℕ) (m : Machine) (v : Valid base m) (e : Event) where
   act-valid = rw (eq-eqb _ _ (refusal-0 base (length (m .mem)) (m .state) .1 v))
 
   ok : ActOk base (length (m .mem)) (actOf base (m .mem) (m .state) e)
-  ok = rw act-valid (act-ok base (m .mem) (m .state) (v .0) (v .1) e)
+  ok = rw act-valid (act-ok base (m .mem) (m .state) (v .1) e)
 
   pub length-next : length (nextOf base m e .mem) ≡ length (m .mem)
   unfolding nextOf memoryOf

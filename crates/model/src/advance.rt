@@ -7,11 +7,9 @@ use reserve::Reservation;
 use reserve::packed;
 ghost use mathlib.Core.Path.{_≡_};
 ghost use Prim.Native.Nat.{_<_, _≤_};
-ghost use lib.ListN.{length};
 ghost use Rattle.reserve.specs.Reserve.{coversOf};
 ghost use Rattle.reserve.specs.Packed.{slotsIn};
 ghost use Rattle.effect.specs.Effect.{Meets};
-ghost use Rattle.effect.specs.Atomic.{CoveredInside};
 ghost use Rattle.effect.specs.Execute.{regAt};
 ghost use Rattle.events.specs.declared.Event.the-variants.{Step};
 ghost use Rattle.model.specs.Act.{retiredAs, setReg, outcomeOf, release, slotsAfter, leaves};
@@ -22,7 +20,6 @@ ghost use Rattle.model.specs.Advance.{inParts, Advances, registersBy, pc
 // Fetches the word at pc and does what it says, for hart h, whose registers are among x and whose reservation is res.
 fn fetch(x: &[u64; 256], h: usize, pc: u64, base: u64, res: Reservation, mem: &mut [u8]) -> Done
     requires { ⌜ h < 8 ⌝ }
-    requires { ⌜ CoveredInside base (length (now mem)) (coversOf 64 res) ⌝ }
     ensures { λ r. ⌜ Meets h (fetchOf (regAt (now (x .entry)) h) pc base (now (mem .entry)) (coversOf 64 res)) base (now (mem .entry)) r (now (mem .exit)) ⌝ }
 {
     if !reserve::inside(base, mem.len() as u64, pc, 4) {

@@ -2,13 +2,14 @@
 use mathlib.Core.Path.{_≡_, refl, sym, _∙_, ap, subst}
 use mathlib.Core.Logic.{_↔_, _⊎_, inl, inr}
 use mathlib.Core.Bool.{Bool, true, false, cond}
-use Prim.Native.Nat.{ℕ, _%_, _<_}
+use mathlib.Core.List.{List}
+use Prim.Native.Nat.{ℕ, _<_}
 use lib.Dec.{eqb, ltb}
 use lib.ListN.{length, getD}
 use borrow.Author.Tests.{eqb-true, eqb-false, eq-eqb, ne-eqb, ltb-true}
 use Rattle.word.specs.Word.{low}
 use Rattle.word.proofs.BytesLaws.{length-toLe}
-use Rattle.word.proofs.ChooseLaws.{cond-cases}
+use Rattle.word.proofs.ChooseLaws.{cond-all, cond-cases}
 use Rattle.reserve.specs.Range.{Touch, Inside, insideOf}
 use Rattle.reserve.specs.Reserve.{coversOf}
 use Rattle.reserve.specs.declared.Notice.{Notice}
@@ -22,7 +23,7 @@ use Rattle.isa.specs.declared.Atomic.{Atomic}
 use Rattle.isa.specs.declared.Instr.{Instr}
 use Rattle.isa.specs.declared.Instr.the-variants.{Illegal, Lui, Auipc, Jal, Jalr, Branch, Load, Store, OpImm, OpImm32, Op, Op32, Fence, Ecall, Ebreak, Amo}
 use Rattle.effect.specs.Effect.{Exec, trap}
-use Rattle.effect.specs.Memory.{valueAt}
+use Rattle.effect.specs.Memory.{faultOf, checked, valueAt}
 use Rattle.effect.specs.Atomic.{execSc}
 use Rattle.effect.specs.Execute.{regAt, pairAt, atomicBy, execAtomic, execute, executeWord}
 use Rattle.events.specs.declared.Event.{Event}
@@ -59,11 +60,10 @@ NotPlain (O.Refused number) = Unit {0}
 Ends : ℕ → Exec → Type 0
 Ends h e = NotPlain (outcomeOf (ofExec h e))
 
-sc-ends : (h : ℕ) (i : Atomic) (a v pc : ℕ) (covered : ℕ → ℕ → Bool) → Ends h (execSc 64 (i .width) (i .rd) a v pc covered)
-unfolding execSc Ends NotPlain
-sc-ends h i a v pc covered =
-    cond-cases (Ends h) (eqb (a % bytesOf (i .width)) 0) _ _
-    (λ t. cond-cases (Ends h) (covered a (bytesOf (i .width))) _ _ (λ c. tt) (λ c. tt)) (λ f. tt)
+sc-ends : (h : ℕ) (i : Atomic) (a v pc base : ℕ) (mem : List ℕ) (covered : ℕ → ℕ → Bool) → Ends h (execSc 64 (i .width) (i .rd) a v pc base mem covered)
+unfolding execSc checked Ends NotPlain
+sc-ends h i a v pc base mem covered =
+    cond-all (Ends h) (eqb (faultOf 6 7 a (bytesOf (i .width)) base (length mem)) 0) _ _ (cond-all (Ends h) (covered a (bytesOf (i .width))) _ _ tt tt) tt
 
 -- an instruction that neither reserves nor writes tells nothing
 module _ (base : ℕ) (m : Machine) (h : ℕ) (x : ℕ → ℕ) (o : Outcome) where
@@ -176,7 +176,7 @@ module _ (base : ℕ) (m : Machine) (v : Valid base m) where
 
     module _ (h : ℕ) where
       performs-sc : (i : Atomic) → Retires base m e h (Amo i) → i .op ≡ Sc → Ends h
-          (execSc 64 (i .width) (i .rd) (atomicAddress m h i) (regAt (m .state .x) h (i .rs2)) (getD (m .state .pc) h 0)
+          (execSc 64 (i .width) (i .rd) (atomicAddress m h i) (regAt (m .state .x) h (i .rs2)) (getD (m .state .pc) h 0) base (m .mem)
           (coversOf 64 (reservationOf (m .state) h)))
           → NotPlain (outcomeAt base m e)
       unfolding answerOf execute execAtomic Ends
@@ -191,7 +191,7 @@ module _ (base : ℕ) (m : Machine) (v : Valid base m) where
 
       plain-sc : (i : Atomic) → Retires base m e h (Amo i) → i .op ≡ Sc → outcomeAt base m e ≡ O.Retired → ⊥
       unfolding NotPlain
-      plain-sc i r q p = subst NotPlain p (performs-sc i r q (sc-ends h i _ _ _ _))
+      plain-sc i r q p = subst NotPlain p (performs-sc i r q (sc-ends h i _ _ _ _ _ _))
 
       from-sc : (i : Atomic) → Retires base m e h (Amo i) → i .op ≡ Sc → (o : Outcome) → outcomeAt base m e ≡ o
           → ComesFrom base m e (scNotice h (regAt (m .state .x) h) base (m .mem) (atomicAddress m h i) (atomicSize i) o)

@@ -78,10 +78,9 @@ module _ (h : ℕ) where
     tells-sc : (i : Atomic) → Tells (atomicNotice h x base mem Sc i) (atomicBy 64 Sc i x pc base mem covered)
     unfolding execSc Tells
     tells-sc i =
-        cond-cases (Tells (atomicNotice h x base mem Sc i)) (eqb (x (i .rs1) % bytesOf (i .width)) 0) _ _
-        (λ t. cond-cases (Tells (atomicNotice h x base mem Sc i)) (covered (x (i .rs1)) (bytesOf (i .width))) _ _
+        access (atomicNotice h x base mem Sc i) 6 7 (x (i .rs1)) (bytesOf (i .width)) base (length mem) _
+        (cond-cases (Tells (atomicNotice h x base mem Sc i)) (covered (x (i .rs1)) (bytesOf (i .width))) _ _
         (λ c d. ap (λ (j : ℕ). ScStored h (x (i .rs1)) j) (length-toLe (bytesOf (i .width)) (x (i .rs2)))) (λ c d. refl))
-        (λ f. trapped (atomicNotice h x base mem Sc i) 6 (x (i .rs1)))
 
     tells-atomic : (op : AtomicOp) (i : Atomic) → Tells (atomicNotice h x base mem op i) (atomicBy 64 op i x pc base mem covered)
     unfolding execLr execAmo execCas execCasPair

@@ -115,10 +115,11 @@ module _ (pc : ℕ) (aligned : pc % 4 ≡ 0) (small : pc + 4 < 2 ^ 64) where
         (rw q (access-retires 4 5 (x (a .rs1)) (bytesOf (a .width)) base (length mem) (omega arith) (omega arith) _ al i
         ∙ ap (λ (n : ℕ). effect (one (a .rd) v) n (reserve (x (a .rs1)) (bytesOf (a .width)))) next))
 
-    -- an SC of n bytes at addr, aligned and covered
-    pub does-sc : (a : Atomic) → a .op ≡ A.Sc → (addr n : ℕ) → x (a .rs1) ≡ addr → bytesOf (a .width) ≡ n → addr % n ≡ 0 → covered addr n ≡ true
+    -- an SC of n bytes at addr, aligned, in memory and covered
+    pub does-sc : (a : Atomic) → a .op ≡ A.Sc → (addr n : ℕ) → x (a .rs1) ≡ addr → bytesOf (a .width) ≡ n → addr % n ≡ 0
+        → Inside base (length mem) addr n → covered addr n ≡ true
         → execute 64 (I.Amo a) word x pc base mem covered ≡ effect (one (a .rd) 0) (nextPc 64 pc) (scStored addr (toLe n (x (a .rs2))))
     unfolding execute execAtomic
-    does-sc a q addr n s l al c =
-        rw q (exec-sc-stored 64 pc (a .width) (a .rd) (x (a .rs1)) (x (a .rs2)) covered (rw (s, l) al) (rw (s, l) c)
+    does-sc a q addr n s l al i c =
+        rw q (exec-sc-stored 64 pc (a .width) (a .rd) (x (a .rs1)) (x (a .rs2)) base mem covered (rw (s, l) al) (rw (s, l) i) (rw (s, l) c)
         ∙ ap₂ (λ (b k : ℕ). effect (one (a .rd) 0) (nextPc 64 pc) (scStored b (toLe k (x (a .rs2))))) s l)

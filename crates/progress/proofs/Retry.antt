@@ -383,7 +383,7 @@ module _ (base h p addr : ℕ) (words : List ℕ) (lr : Atomic) (j : ℕ)
             ∙ ap (λ (n : Instr). ofExec h (by n)) (s .is)
             ∙ ap (ofExec h)
             (does-sc (hartPc m h) pc-aligned pc-low (valueAt base (m .mem) (hartPc m h) 4) (regAt (m .state .x) h) base (m .mem)
-            (coversOf 64 (reservationOf (m .state) h)) (s .of) (s .kind) addr (bytesOf (lr .width)) src (s .width-is) aligned covered)
+            (coversOf 64 (reservationOf (m .state) h)) (s .of) (s .kind) addr (bytesOf (lr .width)) src (s .width-is) aligned (a .ground .reachable) covered)
 
         answers : outcomeAt base m (Step h) ≡ O.ScStored
         answers = said base m h (one (s .of .rd) 0) (nextPc 64 (hartPc m h)) (scStored addr new) act

@@ -194,7 +194,7 @@ module _ (base : ℕ) (mem : List ℕ) (bytes : IsBytes mem) (s : State) where
           → Ranged (apply 64 s (cond t (actOn base mem s e) (refuse (refusalOf base (length mem) s))))
       go true q =
           let v = refusal-0 base (length mem) s .0 (eqb-true (refusalOf base (length mem) s) 0 q) in
-          ranged-apply base mem (v .0) s (actOn base mem s e) (act-ok base mem s (v .0) (v .1) e) (act-fits e) r
+          ranged-apply base mem (v .0) s (actOn base mem s e) (act-ok base mem s (v .1) e) (act-fits e) r
       go false q = r
 
   pub bytes-memory : (e : Event) → IsBytes (memoryOf base mem s e)
@@ -205,7 +205,7 @@ module _ (base : ℕ) (mem : List ℕ) (bytes : IsBytes mem) (s : State) where
           → IsBytes (leaves base mem (cond t (actOn base mem s e) (refuse (refusalOf base (length mem) s))))
       go true q =
           let v = refusal-0 base (length mem) s .0 (eqb-true (refusalOf base (length mem) s) 0 q) in
-          bytes-leaves base mem (actOn base mem s e) (act-ok base mem s (v .0) (v .1) e) (act-fits e) bytes
+          bytes-leaves base mem (actOn base mem s e) (act-ok base mem s (v .1) e) (act-fits e) bytes
       go false q = bytes-leaves base mem (refuse (refusalOf base (length mem) s)) tt tt bytes
 
 pub ranged-run : (base : ℕ) (m : Machine) → IsBytes (m .mem) → Ranged (m .state) → (es : List Event) → Ranged (runOf base m es .state)

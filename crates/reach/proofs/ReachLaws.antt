@@ -91,11 +91,11 @@ reach-branch a false to pc = (refl, tt)
 -- ---- by instruction
 
 module _ (pc base : ℕ) (mem : List ℕ) (covered : ℕ → ℕ → Bool) where
-  reach-sc : (w : Width) (rd a v : ℕ) → Reaches rd a (execSc 64 w rd a v pc covered)
+  reach-sc : (w : Width) (rd a v : ℕ) → Reaches rd a (execSc 64 w rd a v pc base mem covered)
   unfolding execSc
   reach-sc w rd a v =
-      cond-all (Reaches rd a) (eqb (a % bytesOf w) 0) _ _
-      (cond-all (Reaches rd a) (covered a (bytesOf w)) _ _ (refl, sized a (bytesOf w) v (width-most w .0) (width-most w .1)) (refl, tt)) tt
+      reach-checked rd a 6 7 _ _ base (length mem) _
+      (cond-all (Reaches rd a) (covered a (bytesOf w)) _ _ (refl, sized a (bytesOf w) v (width-most w .0) (width-most w .1)) (refl, tt))
 
   reach-atomic : (op : AtomicOp) (m : Atomic) → m .rd < 32 → (x : ℕ → ℕ) → Reaches (m .rd) (x (m .rs1)) (atomicBy 64 op m x pc base mem covered)
   unfolding execLr execAmo execCas execCasPair

@@ -180,4 +180,4 @@ module _ (base : ℕ) (m : Machine) (r : Row) (ready : Ready base m r) {c : Reac
   memory-undone bytes ea =
       let enough : 16 ≤ length (m .mem) = omega (arith, v .0 .0) in
       rw (ea, ap (λ (n : Machine). n .mem) stepped′ ∙ step-memory base m v h l)
-      (undone base (m .mem) (c .at) enough d (exec base m v h l) bytes (fetch-sound base (m .mem) (m .state) (v .0) (v .1) h l) step-reaches)
+      (undone base (m .mem) (c .at) enough d (exec base m v h l) bytes (fetch-sound base (m .mem) (m .state) (v .1) h l) step-reaches)

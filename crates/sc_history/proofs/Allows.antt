@@ -1,5 +1,5 @@
 -- Demand 2's sentence on SC over events. The history in terms of events is the history of their notices. Assumes nothing.
-use Prim.Native.Nat.{ℕ, _<_}
+use Prim.Native.Nat.{ℕ, _%_, _<_}
 use native.Mathlib.Omega.{arith}
 use mathlib.Core.Path.{_≡_, refl, sym, _∙_, ap, subst}
 use mathlib.Core.Logic.{_↔_, _≢_, _⊎_, inl, inr, ⊎-elim}
@@ -28,7 +28,7 @@ use Rattle.notices.proofs.Notices.{notice-yield}
 use Rattle.notices.proofs.Exact.{notice-exact, sc-either}
 use Rattle.sc_history.specs.Sc.{Reservationless, FetchesSc}
 use Rattle.sc_history.specs.Allows.{LeavesReserved, AllLeave, ReservedSince, Allows}
-use Rattle.sc_history.proofs.ScHistory.{held-exact, sc-stored-run, sc-failed-run}
+use Rattle.sc_history.proofs.ScHistory.{held-exact, sc-since-run, sc-stored-run, sc-failed-run}
 
 -- ---- one event
 
@@ -203,6 +203,12 @@ module _ (base : ℕ) (m : Machine) (v : Valid base m) (s : Shaped (m .state)) (
       let p = held-exact base m v s free h u es a w in
       let q = reserved-exact base m v h u es a w in
       (λ x. q .1 (p .0 x), λ x. p .1 (q .0 x))
+
+  -- An aligned SC that the history allows doesn't trap: it succeeds.
+  pub allowed-stores : (sc : Atomic) → FetchesSc base (runOf base m es) h sc → atomicAddress (runOf base m es) h sc % atomicSize sc ≡ 0
+      → Allows base h m es (atomicAddress (runOf base m es) h sc) (atomicSize sc) → outcomeAt base (runOf base m es) (Step h) ≡ ScStored
+  allowed-stores sc f al y =
+      sc-since-run base m v s free h u es sc f al (allows-exact base m v h u es (atomicAddress (runOf base m es) h sc) (atomicSize sc) .0 y)
 
   module _ (sc : Atomic) (f : FetchesSc base (runOf base m es) h sc) (d : Traps (outcomeAt base (runOf base m es) (Step h)) → ⊥) where
     -- An SC that doesn't trap succeeds exactly if the history since its hart's latest retired LR allows it,

@@ -1,6 +1,6 @@
 -- Demand 2's sentence on SC, for runs of the machine. Assumes nothing.
 use mathlib.Core.Path.{_≡_, refl, sym, _∙_, ap, subst}
-use mathlib.Core.Logic.{_↔_, _≢_}
+use mathlib.Core.Logic.{_↔_, _≢_, _⊎_, inl, inr, ⊎-elim}
 use mathlib.Core.Bool.{Bool, true, false}
 use mathlib.Core.List.{List, [], _∷_}
 use Prim.Native.Nat.{ℕ, _+_, _*_, _%_, _<_}
@@ -9,14 +9,17 @@ use lib.Dec.{eqb}
 use lib.ListN.{length, getD}
 use lib.Seq.{getD-set-same}
 use borrow.Author.Tests.{eqb-true, eqb-false, ne-eqb}
-use Rattle.word.proofs.TestLaws.{bool-cases}
+use Rattle.word.specs.Bytes.{toLe}
+use Rattle.word.proofs.TestLaws.{bool-cases, contrary}
+use Rattle.reserve.specs.Range.{Inside, insideOf}
 use Rattle.reserve.specs.Reserve.{coversOf, observeOf}
 use Rattle.reserve.specs.declared.Reservation.{Reservation}
 use Rattle.reserve.specs.declared.Reservation.the-variants.{None, Held}
+use Rattle.reserve.proofs.RangeLaws.{inside-of, of-inside, cover-inside, none-covers}
 use Rattle.isa.specs.declared.Atomic.{Atomic}
 use Rattle.isa.specs.declared.Instr.the-variants.{Amo}
-use Rattle.machine.specs.Rules.{Shaped}
-use Rattle.effect.specs.Effect.{Exec}
+use Rattle.machine.specs.Rules.{MemoryRules, ReservationRules, Shaped}
+use Rattle.effect.specs.Effect.{one, scStored, scFailed, Exec, trap, effect, nextPc}
 use Rattle.effect.specs.Atomic.{execSc}
 use Rattle.effect.specs.Execute.{regAt, execute, execAtomic}
 use Rattle.effect.proofs.TrapLaws as T
@@ -33,12 +36,20 @@ use Rattle.model.proofs.Frame.{count-next, count-run, shaped-next, res-next, re
 use Rattle.notices.specs.Happened.{atomicAddress, atomicSize}
 use Rattle.history.specs.History.{observes, Reserved, Since}
 use Rattle.history.proofs.History.{history, sc-exact, stored-drops, failed-drops}
-use Rattle.sc_history.specs.Sc.{Reservationless, FetchesSc, StoredLeaves, FailedLeaves}
+use Rattle.sc_history.specs.Sc.{Reservationless, FetchesSc, MisalignedSc, OutsideSc, TrappedLeaves, StoredLeaves, FailedLeaves}
 
 -- a register that was set
 set-own : (h r v : ℕ) (x : List ℕ) → h < 8 → length x ≡ 256 → r % 32 ≢ 0 → regAt (setReg h r v x) h r ≡ v
 unfolding setReg regAt
 set-own h r v x l e z = rw (ne-eqb (r % 32) 0 z) (getD-set-same x (h * 32 + r % 32) v 0 (omega arith))
+
+-- a reservation lies in memory, and memory is of whole sets: what a reservation covers lies in memory
+pub covered-inside : (base len : ℕ) (r : Reservation) → MemoryRules base len → ReservationRules base len r
+    → (a n : ℕ) → coversOf 64 r a n ≡ true → Inside base len a n
+covered-inside base len None m o a n e = absurd (let z : _≡_ {A = ℕ} 0 1 = cc (none-covers 64 a n) in omega arith)
+covered-inside base len (Held b w) m o a n e =
+    cover-inside 64 base len b w (omega arith) (m .3) (m .2)
+    (⊎-elim (λ (q : w ≡ 4). omega arith) (λ (q : w ≡ 8). omega arith) (o .0)) (o .2) a n e
 
 -- an SC's step in a machine that 1 and 2 don't refuse: by its address, and by what the hart's reservation covers
 module _ (base : ℕ) (m : Machine) (v : Valid base m) (h : ℕ) (u : h < m .state .count) (sc : Atomic) (f : FetchesSc base m h sc) where
@@ -46,7 +57,7 @@ module _ (base : ℕ) (m : Machine) (v : Valid base m) (h : ℕ) (u : h < m .sta
   covered = coversOf 64 (reservationOf (m .state) h)
 
   exec : Exec
-  exec = execSc 64 (sc .width) (sc .rd) (atomicAddress m h sc) (regAt (m .state .x) h (sc .rs2)) (getD (m .state .pc) h 0) covered
+  exec = execSc 64 (sc .width) (sc .rd) (atomicAddress m h sc) (regAt (m .state .x) h (sc .rs2)) (getD (m .state .pc) h 0) base (m .mem) covered
 
   act-sc : actOf base (m .mem) (m .state) (Step h) ≡ ofExec h exec
   unfolding exec covered execute execAtomic
@@ -56,43 +67,100 @@ module _ (base : ℕ) (m : Machine) (v : Valid base m) (h : ℕ) (u : h < m .sta
   unfolding answerOf
   by-exec e q = ap outcomeOf (act-sc ∙ ap (ofExec h) q)
 
-  -- 01: cause 6, "address not aligned to its width", value "address"; "SC has no cause 7"
-  pub sc-misaligned : atomicAddress m h sc % atomicSize sc ≢ 0 → outcomeAt base m (Step h) ≡ Trap 6 (atomicAddress m h sc)
-  unfolding exec covered
-  sc-misaligned d = by-exec _ (T.exec-sc-traps 64 (getD (m .state .pc) h 0) (sc .width) (sc .rd) (atomicAddress m h sc) _ covered d)
+  -- what it comes to, by its address, and by what the reservation covers
+  exec-misaligned : MisalignedSc m h sc → exec ≡ trap 6 (atomicAddress m h sc)
+  unfolding exec
+  exec-misaligned d = T.exec-sc-misaligned 64 (getD (m .state .pc) h 0) (sc .width) (sc .rd) (atomicAddress m h sc) _ base (m .mem) covered d
 
-  pub sc-covered : atomicAddress m h sc % atomicSize sc ≡ 0 → coversOf 64 (reservationOf (m .state) h) (atomicAddress m h sc) (atomicSize sc) ≡ true
-      → outcomeAt base m (Step h) ≡ ScStored
-  unfolding exec covered
-  sc-covered al c = by-exec _ (T.exec-sc-stored 64 (getD (m .state .pc) h 0) (sc .width) (sc .rd) (atomicAddress m h sc) _ covered al c)
+  exec-outside : atomicAddress m h sc % atomicSize sc ≡ 0 → OutsideSc base m h sc → exec ≡ trap 7 (atomicAddress m h sc)
+  unfolding exec
+  exec-outside al d = T.exec-sc-outside 64 (getD (m .state .pc) h 0) (sc .width) (sc .rd) (atomicAddress m h sc) _ base (m .mem) covered al d
 
-  pub sc-uncovered : atomicAddress m h sc % atomicSize sc ≡ 0 → coversOf 64 (reservationOf (m .state) h) (atomicAddress m h sc) (atomicSize sc) ≡ false
-      → outcomeAt base m (Step h) ≡ ScFailed
-  unfolding exec covered
-  sc-uncovered al c = by-exec _ (T.exec-sc-failed 64 (getD (m .state .pc) h 0) (sc .width) (sc .rd) (atomicAddress m h sc) _ covered al c)
+  -- 01: cause 6, "address not aligned to its width", value "address"
+  pub sc-misaligned : MisalignedSc m h sc → outcomeAt base m (Step h) ≡ Trap 6 (atomicAddress m h sc)
+  sc-misaligned d = by-exec _ (exec-misaligned d)
 
-  -- An SC traps exactly if its address isn't aligned, whatever the reservation, and then with cause 6 and the address.
-  pub sc-traps : Traps (outcomeAt base m (Step h)) ↔ (atomicAddress m h sc % atomicSize sc ≢ 0)
-  sc-traps = (
-    λ t al.
-        bool-cases (coversOf 64 (reservationOf (m .state) h) (atomicAddress m h sc) (atomicSize sc))
-        (λ c. let o = sc-covered al c in let z : _≡_ {A = ℕ} 0 1 = cc (t .2) in omega arith)
-        (λ c. let o = sc-uncovered al c in let z : _≡_ {A = ℕ} 0 1 = cc (t .2) in omega arith),
-    λ d. (6, atomicAddress m h sc, sc-misaligned d),
-  )
+  -- 02 [2]: "After alignment, an SC whose bytes aren't wholly in memory is now cause 7, value the address"
+  pub sc-outside : atomicAddress m h sc % atomicSize sc ≡ 0 → OutsideSc base m h sc → outcomeAt base m (Step h) ≡ Trap 7 (atomicAddress m h sc)
+  sc-outside al d = by-exec _ (exec-outside al d)
+
+  module _ (al : atomicAddress m h sc % atomicSize sc ≡ 0) where
+    exec-stored : coversOf 64 (reservationOf (m .state) h) (atomicAddress m h sc) (atomicSize sc) ≡ true
+        → exec ≡ effect (one (sc .rd) 0) (nextPc 64 (getD (m .state .pc) h 0))
+        (scStored (atomicAddress m h sc) (toLe (atomicSize sc) (regAt (m .state .x) h (sc .rs2))))
+    unfolding exec covered
+    exec-stored c =
+        let i = covered-inside base (length (m .mem)) (reservationOf (m .state) h) (v .0) (v .1 .2 h u .2) (atomicAddress m h sc) (atomicSize sc) c in
+        T.exec-sc-stored 64 (getD (m .state .pc) h 0) (sc .width) (sc .rd) (atomicAddress m h sc) _ base (m .mem) covered al i c
+
+    -- an aligned SC whose bytes the reservation's set contains doesn't trap: it stores
+    pub sc-covered : coversOf 64 (reservationOf (m .state) h) (atomicAddress m h sc) (atomicSize sc) ≡ true → outcomeAt base m (Step h) ≡ ScStored
+    sc-covered c = by-exec _ (exec-stored c)
+
+    module _ (i : Inside base (length (m .mem)) (atomicAddress m h sc) (atomicSize sc)) where
+      exec-failed : coversOf 64 (reservationOf (m .state) h) (atomicAddress m h sc) (atomicSize sc) ≡ false
+          → exec ≡ effect (one (sc .rd) 1) (nextPc 64 (getD (m .state .pc) h 0)) scFailed
+      unfolding exec covered
+      exec-failed c = T.exec-sc-failed 64 (getD (m .state .pc) h 0) (sc .width) (sc .rd) (atomicAddress m h sc) _ base (m .mem) covered al i c
+
+      pub sc-uncovered : coversOf 64 (reservationOf (m .state) h) (atomicAddress m h sc) (atomicSize sc) ≡ false → outcomeAt base m (Step h) ≡ ScFailed
+      sc-uncovered c = by-exec _ (exec-failed c)
+
+      untrapped : Traps (outcomeAt base m (Step h)) → ⊥
+      untrapped t =
+          bool-cases (coversOf 64 (reservationOf (m .state) h) (atomicAddress m h sc) (atomicSize sc))
+          (λ c. let o = sc-covered c in let z : _≡_ {A = ℕ} 0 1 = cc (t .2) in omega arith)
+          (λ c. let o = sc-uncovered c in let z : _≡_ {A = ℕ} 0 1 = cc (t .2) in omega arith)
+
+  -- why an SC traps
+  data Trapped : Type 0 where
+    misaligned : MisalignedSc m h sc → Trapped
+    outside : atomicAddress m h sc % atomicSize sc ≡ 0 → OutsideSc base m h sc → Trapped
+
+  trapped : Traps (outcomeAt base m (Step h)) → Trapped
+  trapped t =
+      let a = atomicAddress m h sc in
+      let n = atomicSize sc in
+      bool-cases (eqb (a % n) 0)
+      (λ e.
+      bool-cases (insideOf base (length (m .mem)) a n)
+      (λ i. absurd (untrapped (eqb-true (a % n) 0 e) (inside-of base (length (m .mem)) a n i) t))
+      (λ i. outside (eqb-true (a % n) 0 e) (λ j. contrary (of-inside base (length (m .mem)) a n j) i)))
+      (λ e. misaligned (eqb-false (a % n) 0 e))
+
+  -- An SC traps exactly if its address isn't aligned or its bytes aren't wholly in memory, whatever the reservation; by `sc-misaligned` and
+  -- `sc-outside` with cause 6 if it isn't aligned, and else with cause 7.
+  pub sc-traps : Traps (outcomeAt base m (Step h)) ↔ (MisalignedSc m h sc ⊎ OutsideSc base m h sc)
+  sc-traps = (λ t. said (trapped t), ⊎-elim (λ (d : MisalignedSc m h sc). (6, atomicAddress m h sc, sc-misaligned d)) beyond)
+    where
+      said : Trapped → MisalignedSc m h sc ⊎ OutsideSc base m h sc
+      said (misaligned d) = inl d
+      said (outside al d) = inr d
+
+      beyond : OutsideSc base m h sc → Traps (outcomeAt base m (Step h))
+      beyond d =
+          bool-cases (eqb (atomicAddress m h sc % atomicSize sc) 0)
+          (λ e. (7, atomicAddress m h sc, sc-outside (eqb-true (atomicAddress m h sc % atomicSize sc) 0 e) d))
+          (λ e. (6, atomicAddress m h sc, sc-misaligned (eqb-false (atomicAddress m h sc % atomicSize sc) 0 e)))
 
   -- one that doesn't trap succeeds exactly if the reservation's set contains its bytes, and fails otherwise
   module _ (d : Traps (outcomeAt base m (Step h)) → ⊥) where
     aligned : atomicAddress m h sc % atomicSize sc ≡ 0
     aligned =
         bool-cases (eqb (atomicAddress m h sc % atomicSize sc) 0) (λ t. eqb-true (atomicAddress m h sc % atomicSize sc) 0 t)
-        (λ t. absurd (d (sc-traps .1 (eqb-false (atomicAddress m h sc % atomicSize sc) 0 t))))
+        (λ t. absurd (d (sc-traps .1 (inl (eqb-false (atomicAddress m h sc % atomicSize sc) 0 t)))))
+
+    inside : Inside base (length (m .mem)) (atomicAddress m h sc) (atomicSize sc)
+    inside =
+        let a = atomicAddress m h sc in
+        bool-cases (insideOf base (length (m .mem)) a (atomicSize sc)) (λ t. inside-of base (length (m .mem)) a (atomicSize sc) t)
+        (λ t. absurd (d (sc-traps .1 (inr (λ j. contrary (of-inside base (length (m .mem)) a (atomicSize sc) j) t)))))
 
     pub sc-stored : (outcomeAt base m (Step h) ≡ ScStored) ↔ (coversOf 64 (reservationOf (m .state) h) (atomicAddress m h sc) (atomicSize sc) ≡ true)
     sc-stored = (
       λ o.
           bool-cases (coversOf 64 (reservationOf (m .state) h) (atomicAddress m h sc) (atomicSize sc)) (λ c. c)
-          (λ c. let p = sc-uncovered aligned c in absurd (let z : _≡_ {A = ℕ} 0 1 = cc in omega arith)),
+          (λ c. let p = sc-uncovered aligned inside c in absurd (let z : _≡_ {A = ℕ} 0 1 = cc in omega arith)),
       λ c. sc-covered aligned c,
     )
 
@@ -101,13 +169,25 @@ module _ (base : ℕ) (m : Machine) (v : Valid base m) (h : ℕ) (u : h < m .sta
       λ o p. let z : _≡_ {A = ℕ} 0 1 = cc in omega arith,
       λ n.
           bool-cases (coversOf 64 (reservationOf (m .state) h) (atomicAddress m h sc) (atomicSize sc)) (λ c. absurd (n (sc-covered aligned c)))
-          (λ c. sc-uncovered aligned c),
+          (λ c. sc-uncovered aligned inside c),
     )
 
   -- what an SC leaves, by its answer
   next-by : (e : Exec) → exec ≡ e → nextOf base m (Step h) ≡ record { state = apply 64 (m .state) (ofExec h e); mem = leaves base (m .mem) (ofExec h e) }
   unfolding nextOf answerOf memoryOf
   next-by e q = ap (λ (a : Act). record { state = apply 64 (m .state) a; mem = leaves base (m .mem) a }) (act-sc ∙ ap (ofExec h) q)
+
+  -- 02 [2]: "reservation kept"
+  pub trapped-leaves : Traps (outcomeAt base m (Step h)) → TrappedLeaves base m h
+  unfolding apply leaves
+  trapped-leaves t = go (trapped t)
+    where
+      same : (c v : ℕ) → exec ≡ trap c v → TrappedLeaves base m h
+      same c v q = let n = next-by _ q in record { reservation = ap (λ (k : Machine). reservationOf (k .state) h) n; machine = n }
+
+      go : Trapped → TrappedLeaves base m h
+      go (misaligned d) = same 6 _ (exec-misaligned d)
+      go (outside al d) = same 7 _ (exec-outside al d)
 
   module _ (shaped : Shaped (m .state)) where
     -- the hart's reservation follows the notice
@@ -119,37 +199,35 @@ module _ (base : ℕ) (m : Machine) (v : Valid base m) (h : ℕ) (u : h < m .sta
 
     -- 01: "Success writes memory and puts 0 in rd"
     pub stored-leaves : outcomeAt base m (Step h) ≡ ScStored → StoredLeaves base m h sc
-    unfolding exec covered apply leaves
+    unfolding apply leaves
     stored-leaves o =
         let d : Traps (outcomeAt base m (Step h)) → ⊥ = λ t. let z : _≡_ {A = ℕ} 0 1 = cc (t .2) in omega arith in
         let c = sc-stored d .0 o in
-        let q = next-by _ (T.exec-sc-stored 64 (getD (m .state .pc) h 0) (sc .width) (sc .rd) (atomicAddress m h sc) _ covered (aligned d) c) in
+        let done = exec-stored (aligned d) c in
+        let q = next-by _ done in
         record {
           memory = ap (λ (n : Machine). n .mem) q;
           register = λ z.
               ap (λ (n : Machine). regAt (n .state .x) h (sc .rd)) q
               ∙ set-own h (sc .rd) 0 (m .state .x) (omega (arith, v .1 .1)) (shaped .registers) z;
-          reservation =
-              reserved-by _ (T.exec-sc-stored 64 (getD (m .state .pc) h 0) (sc .width) (sc .rd) (atomicAddress m h sc) _ covered (aligned d) c)
-              ∙ stored-drops 64 h _ _ (reservationOf (m .state) h);
+          reservation = reserved-by _ done ∙ stored-drops 64 h _ _ (reservationOf (m .state) h);
         }
 
     -- 01: "failure puts 1 in rd and writes nothing"
     pub failed-leaves : outcomeAt base m (Step h) ≡ ScFailed → FailedLeaves base m h sc
-    unfolding exec covered apply leaves
+    unfolding apply leaves
     failed-leaves o =
         let d : Traps (outcomeAt base m (Step h)) → ⊥ = λ t. let z : _≡_ {A = ℕ} 0 1 = cc (t .2) in omega arith in
         let c = bool-cases (coversOf 64 (reservationOf (m .state) h) (atomicAddress m h sc) (atomicSize sc))
         (λ t. absurd (sc-failed d .0 o (sc-covered (aligned d) t))) (λ t. t) in
-        let q = next-by _ (T.exec-sc-failed 64 (getD (m .state .pc) h 0) (sc .width) (sc .rd) (atomicAddress m h sc) _ covered (aligned d) c) in
+        let done = exec-failed (aligned d) (inside d) c in
+        let q = next-by _ done in
         record {
           memory = ap (λ (n : Machine). n .mem) q;
           register = λ z.
               ap (λ (n : Machine). regAt (n .state .x) h (sc .rd)) q
               ∙ set-own h (sc .rd) 1 (m .state .x) (omega (arith, v .1 .1)) (shaped .registers) z;
-          reservation =
-              reserved-by _ (T.exec-sc-failed 64 (getD (m .state .pc) h 0) (sc .width) (sc .rd) (atomicAddress m h sc) _ covered (aligned d) c)
-              ∙ failed-drops 64 h (reservationOf (m .state) h);
+          reservation = reserved-by _ done ∙ failed-drops 64 h (reservationOf (m .state) h);
         }
 
 -- a used hart's reservation after a run
@@ -194,8 +272,15 @@ module _ (base : ℕ) (m : Machine) (v : Valid base m) (s : Shaped (m .state)) (
         let p = sc-failed base (runOf base m es) (valid-run base m v es) h used sc f d in
         (λ o y. p .0 o (sc-stored-run .1 y), λ n. p .1 (λ o. n (sc-stored-run .0 o)))
 
-  -- which SC traps, after any events
   module _ (sc : Atomic) (f : FetchesSc base (runOf base m es) h sc) where
-    pub sc-traps-run : Traps (outcomeAt base (runOf base m es) (Step h)) ↔ (atomicAddress (runOf base m es) h sc % atomicSize sc ≢ 0)
+    -- an aligned SC that the history allows doesn't trap: its bytes lie in a set, and the set in memory
+    pub sc-since-run : atomicAddress (runOf base m es) h sc % atomicSize sc ≡ 0
+        → Since 64 h (atomicAddress (runOf base m es) h sc) (atomicSize sc) (traceOf base m es) → outcomeAt base (runOf base m es) (Step h) ≡ ScStored
+    sc-since-run al y =
+        sc-covered base (runOf base m es) (valid-run base m v es) h (subst (λ (k : ℕ). h < k) (sym (count-run base m es)) u) sc f al
+        (covered-exact (atomicAddress (runOf base m es) h sc) (atomicSize sc) .1 y)
+
+    -- which SC traps, after any events
+    pub sc-traps-run : Traps (outcomeAt base (runOf base m es) (Step h)) ↔ (MisalignedSc (runOf base m es) h sc ⊎ OutsideSc base (runOf base m es) h sc)
     sc-traps-run =
         sc-traps base (runOf base m es) (valid-run base m v es) h (subst (λ (k : ℕ). h < k) (sym (count-run base m es)) u) sc f

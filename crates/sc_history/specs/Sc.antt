@@ -1,11 +1,13 @@
--- The words of demand 2's sentence on SC: "from a start without reservations an SC that doesn't trap succeeds exactly if the history since its
+-- Which SCs trap (02 [2]), and the words of demand 2's sentence on SC: "from a start without reservations an SC that doesn't trap succeeds exactly if the history since its
 -- hart's latest retired LR allows it".
--- RULES 4.6, 11.2.
+-- RULES 3.2, 4.6, 11.2.
 use mathlib.Core.Path.{_≡_}
 use mathlib.Core.Logic.{_≢_}
 use Prim.Native.Nat.{ℕ, _-_, _%_, _<_}
+use lib.ListN.{length}
 use Rattle.word.specs.Bytes.{toLe}
 use Rattle.word.specs.Memory.{splice}
+use Rattle.reserve.specs.Range.{Inside}
 use Rattle.reserve.specs.declared.Reservation.the-variants.{None}
 use Rattle.isa.specs.declared.AtomicOp.the-variants.{Sc}
 use Rattle.isa.specs.declared.Atomic.{Atomic}
@@ -25,6 +27,19 @@ Reservationless s = (k : ℕ) → k < s .count → reservationOf s k ≡ None
 pub record FetchesSc (base : ℕ) (m : Machine) (h : ℕ) (sc : Atomic) : Type 0 where
   pub fetches : Fetches base m h (Amo sc)
   pub operation : sc .op ≡ Sc
+
+-- The SCs that trap, whatever the reservation. 01: cause 6, "address not aligned to its width"
+abbrev pub MisalignedSc : Machine → ℕ → Atomic → Type 0
+MisalignedSc m h sc = atomicAddress m h sc % atomicSize sc ≢ 0
+
+-- 02 [2]: "an SC whose bytes aren't wholly in memory": cause 7 "After alignment", so 6 if it is misaligned too
+abbrev pub OutsideSc : ℕ → Machine → ℕ → Atomic → Type 0
+OutsideSc base m h sc = Inside base (length (m .mem)) (atomicAddress m h sc) (atomicSize sc) → ⊥
+
+-- 02 [2]: "reservation kept"; 01: "A trap .. leaves registers, pc, reservations and memory as they were."
+pub record TrappedLeaves (base : ℕ) (m : Machine) (h : ℕ) : Type 0 where
+  pub reservation : reservationOf (nextOf base m (Step h) .state) h ≡ reservationOf (m .state) h
+  pub machine : nextOf base m (Step h) ≡ m
 
 -- 01: "Success writes memory and puts 0 in rd"; "Retired either way, it drops the reservation.": the low bytes of rs2 stand at the SC's address, the rest
 -- of memory is as it was, and rd is 0; x0 is anyway

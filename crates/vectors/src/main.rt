@@ -1,4 +1,4 @@
-// The report of each case of data/, 0000 to 0813, in order, each after a line with its number.
+// The report of each case of data/, 0000 to 0883, in order, each after a line with its number.
 use libc::STDOUT_FILENO;
 
 // The name of case i, four digits.
@@ -34,7 +34,7 @@ fn run_case(i: u64) {
 
 fn main() {
     let mut i: u64 = 0;
-    while i < 814 {
+    while i < 884 {
         run_case(i);
         i += 1;
     }

@@ -1,17 +1,15 @@
-use mathlib.Core.Path.{_≡_, sym, ap, subst, _∙_}
+use mathlib.Core.Path.{_≡_, ap, _∙_}
 use native.Mathlib.Omega.{arith}
 use borrow.Author.Tests.{lt-ltb}
-use lib.ListN.{length, getD}
+use lib.ListN.{getD}
 use Rattle.reserve.specs.Reserve.{coversOf}
 use Rattle.reserve.specs.declared.Reservation.{Reservation}
 use Rattle.effect.specs.declared.Done.{Done}
 use Rattle.effect.specs.Effect as E
-use Rattle.effect.specs.Atomic.{CoveredInside}
 use Rattle.effect.specs.Execute.{regAt}
 use Rattle.events.specs.declared.Event.the-variants.{Step}
-use Rattle.model.specs.Perform.{fetchOf, stepOf, ofExec, actOn, reservationOf}
+use Rattle.model.specs.Perform.{fetchOf, stepOf, ofExec, actOn}
 use Rattle.model.specs.Advance.{inParts, registersBy, pcsBy, slotsBy, outcomeBy}
-use Rattle.model.proofs.Valid.{covered-inside}
 use Rattle.model.proofs.AdvanceLaws.{registers-done, pcs-done, slots-done, outcome-done, leaves-done, advances}
 use borrow.Author.Needs.{needs}
 use Rattle.model.proofs.advance.step_hart.Statement.{statement}
@@ -29,13 +27,7 @@ element-copy-out-at c = search needs
 fetch-requires : tie.Need-fetch-requires
 fetch-requires c κs =
     let start = c .before .before .before .before .before .before in
-    let a = start .args in
-    let m = inParts (a .count) (a .x .now) (a .pc .now) (a .t .now) (a .mem .now) in
-    let v = start .pre .0 in
-    let inside = covered-inside (a .base) (length (m .mem)) (reservationOf (m .state) (a .h)) (v .0) (v .1 .2 (a .h) (start .pre .1) .2) in (
-      omega (arith, v .1 .1),
-      subst (λ (q : Reservation). CoveredInside (a .base) (length (m .mem)) (coversOf 64 q)) (sym (c .before .before .before .reservation .ensures)) inside,
-    )
+    omega (arith, start .pre .0 .1 .1)
 
 move-hart-requires : tie.Need-move-hart-requires
 move-hart-requires c κs = search needs
