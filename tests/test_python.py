@@ -185,7 +185,7 @@ class Calls(Refuses):
             self.assertEqual(lines, expected.decode().splitlines()[1:-1], name)
             self.assertEqual((start.run_bytes(body), start), (len(body) // 24, one_by_one), name)
             cases, events = cases + 1, events + len(body) // 24
-        self.assertEqual((cases, events), (655, 53_369))
+        self.assertEqual((cases, events), (725, 56_609))
 
 
 def number(bytes_):

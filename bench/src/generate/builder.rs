@@ -232,6 +232,13 @@ impl Builder {
         (1..32).find(|&r| hart.x[r as usize].is_multiple_of(align) && hart.x[r as usize] / 64 == set)
     }
 
+    /// A register of the hart that points outside memory, aligned to 8: x0 too, where address 0 isn't in memory.
+    fn outside_pointer(&self, rng: &mut Rng, hart: usize) -> Option<u32> {
+        let x = &self.state.harts[hart].x;
+        let first = rng.reg();
+        (0..32).map(|r| (first + r) % 32).find(|&r| x[r as usize].is_multiple_of(8) && !self.inside(x[r as usize], 8))
+    }
+
     /// AMOCAS, half of the time over equal bytes.
     pub fn compare_and_swap(&mut self, rng: &mut Rng, hart: usize) {
         let funct3 = rng.pick(&[W, D, Q]);
@@ -266,7 +273,12 @@ impl Builder {
             3 => s_type(rng.reg() & 3, address, rs2, rng.below(16) as i64 * 8 - 64),
             4 => atomic(rng.pick(&AMOS), funct3, order, rd, address, rs2),
             _ => {
-                let near = if rng.percent(80) { self.reserved_pointer(hart, 1) } else { None };
+                // Outside memory it traps and keeps the reservation, which a later SC shows.
+                let near = match rng.below(10) {
+                    0..=6 => self.reserved_pointer(hart, 1),
+                    7 | 8 => self.outside_pointer(rng, hart),
+                    _ => None,
+                };
                 atomic(SC, funct3, order, rd, near.unwrap_or(address), rs2)
             }
         };
