@@ -68,6 +68,25 @@ fn traps() {
     at(&mut m, 4120, 4352, Cause::StoreAccessFault, 4352);
 }
 
+/// An SC outside memory traps, with or without a reservation, and keeps the one that is held.
+#[test]
+fn sc_outside_memory() {
+    let mut m = machine(1, 4096, &[LR, SC]);
+    for (held, at, cause) in [
+        (None, 4352, Cause::StoreAccessFault),
+        (Some(Reservation { addr: 4160, width: 4 }), 4352, Cause::StoreAccessFault),
+        (Some(Reservation { addr: 4160, width: 4 }), 4092, Cause::StoreAccessFault),
+        (Some(Reservation { addr: 4160, width: 4 }), 4354, Cause::StoreAddressMisaligned),
+    ] {
+        m.state.set_reservation(0, held);
+        (m.state.pc[0], m.state.x[0][5]) = (4100, at);
+        assert_eq!(m.step(0), trap(cause, at));
+        assert_eq!((m.state.reservation(0), m.state.x[0][7], m.state.pc[0]), (held, 0, 4100));
+    }
+    m.state.x[0][5] = 4160;
+    assert_eq!(m.step(0), Ok(Outcome::ScStored));
+}
+
 /// What answers say of themselves.
 #[test]
 fn texts() {
