@@ -455,7 +455,7 @@ impl State {
         Ok(Outcome::Retired)
     }
 
-    /// An SC whose `bytes` are aligned and in memory; whether it stored.
+    /// An SC on its bytes, which are aligned and in memory; whether it stored.
     fn store_conditional<W: Watch>(&mut self, bytes: &mut [u8], number: usize, a: Atomic, watch: &mut W) -> Result<bool, W::Stop> {
         let hart = &mut self.harts[number];
         let addr = hart.get(a.rs1);

@@ -2,44 +2,26 @@
 use mathlib.Core.Path.{_≡_, refl, sym, ap, _∙_, subst}
 use mathlib.Core.Bool.{Bool, true, false, cond}
 use mathlib.Core.List.{List}
-use Prim.Native.Nat.{ℕ, _+_, _-_, _%_, _<_}
-use native.Mathlib.Omega.{arith}
-use lib.Dec.{eqb, leb}
-use borrow.Author.Tests.{eqb-true, leb-true, eq-eqb, ne-eqb}
+use Prim.Native.Nat.{ℕ, _-_, _<_}
+use lib.Dec.{eqb}
+use borrow.Author.Tests.{eq-eqb, ne-eqb}
 use Rattle.word.specs.Bytes.{toLe}
 use Rattle.word.specs.Memory.{splice}
 use Rattle.word.proofs.BytesLaws.{length-toLe}
-use Rattle.word.proofs.TestLaws.{and-both}
-use Rattle.reserve.specs.Range.{Inside, insideOf}
+use Rattle.reserve.specs.Range.{Inside}
 use Rattle.reserve.specs.declared.Notice.the-variants.{Quiet, Write}
 use Rattle.effect.specs.Effect.{Exec, trap, effect, Writes, nothing, store, stored, noticeOf, retired, Meets}
 use Rattle.effect.specs.declared.Done.{Done}
 use Rattle.effect.specs.declared.Done.the-variants.{Trap}
 use Rattle.effect.specs.Memory.{faultOf, checked}
 use Rattle.effect.specs.Atomic.{swapped}
-
-pub inside-true : (base len a n : ℕ) → insideOf base len a n ≡ true → Inside base len a n
-unfolding insideOf
-inside-true base len a n e =
-    let both = and-both (leb base a) (leb (a + n) (base + len)) e in
-    (leb-true _ _ (both .0), leb-true _ _ (both .1))
+use Rattle.effect.proofs.Sound.{fault-fine}
 
 module _ (misaligned outside a n base len : ℕ) where
-  -- an access that doesn't trap is aligned and inside memory
-  pub fault-none : 0 < misaligned → 0 < outside → faultOf misaligned outside a n base len ≡ 0 → (a % n ≡ 0) × Inside base len a n
-  unfolding faultOf
-  fault-none some some2 e = go (eqb (a % n) 0) refl (insideOf base len a n) refl e
-    where
-      go : (p : Bool) → eqb (a % n) 0 ≡ p → (q : Bool) → insideOf base len a n ≡ q
-          → _≡_ {A = ℕ} (cond p (cond q 0 outside) misaligned) 0 → (a % n ≡ 0) × Inside base len a n
-      go true ep true eq z = (eqb-true _ _ ep, inside-true base len a n eq)
-      go true ep false eq z = absurd (omega arith)
-      go false ep q eq z = absurd (omega arith)
-
   -- cause is what the code found
   module _ (cause : ℕ) (f : cause ≡ faultOf misaligned outside a n base len) where
     pub room : 0 < misaligned → 0 < outside → cause ≡ 0 → Inside base len a n
-    room some some2 h = fault-none some some2 (sym f ∙ h) .1
+    room some more h = fault-fine misaligned outside a n base len some more (sym f ∙ h) .1
 
     module _ (e : Exec) where
       pub trapped : (cause ≡ 0 → ⊥) → trap cause a ≡ checked misaligned outside a n base len e

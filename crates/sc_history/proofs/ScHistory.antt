@@ -242,6 +242,9 @@ res-run base m v s h u (e ∷ es) =
 -- A machine that 1 and 2 don't refuse, whose used harts hold no reservation; a used hart; any events.
 module _ (base : ℕ) (m : Machine) (v : Valid base m) (s : Shaped (m .state)) (free : Reservationless (m .state))
     (h : ℕ) (u : h < m .state .count) (es : List Event) where
+  used : h < runOf base m es .state .count
+  used = subst (λ (k : ℕ). h < k) (sym (count-run base m es)) u
+
   after : reservationOf (runOf base m es .state) h ≡ observes 64 h (traceOf base m es) None
   after = res-run base m v s h u es ∙ ap (λ (r : Reservation). observes 64 h (traceOf base m es) r) (free h u)
 
@@ -256,9 +259,6 @@ module _ (base : ℕ) (m : Machine) (v : Valid base m) (s : Shaped (m .state)) (
   -- Demand 2: "from a start without reservations an SC that doesn't trap succeeds exactly if the history since its hart's latest retired LR allows it":
   -- it stores, or it fails, exactly if the set around that LR's address has all its bytes and nothing since then broke the reservation, or not.
   module _ (sc : Atomic) (f : FetchesSc base (runOf base m es) h sc) (d : Traps (outcomeAt base (runOf base m es) (Step h)) → ⊥) where
-    used : h < runOf base m es .state .count
-    used = subst (λ (k : ℕ). h < k) (sym (count-run base m es)) u
-
     pub sc-stored-run : (outcomeAt base (runOf base m es) (Step h) ≡ ScStored)
         ↔ Since 64 h (atomicAddress (runOf base m es) h sc) (atomicSize sc) (traceOf base m es)
     sc-stored-run =
@@ -277,10 +277,10 @@ module _ (base : ℕ) (m : Machine) (v : Valid base m) (s : Shaped (m .state)) (
     pub sc-since-run : atomicAddress (runOf base m es) h sc % atomicSize sc ≡ 0
         → Since 64 h (atomicAddress (runOf base m es) h sc) (atomicSize sc) (traceOf base m es) → outcomeAt base (runOf base m es) (Step h) ≡ ScStored
     sc-since-run al y =
-        sc-covered base (runOf base m es) (valid-run base m v es) h (subst (λ (k : ℕ). h < k) (sym (count-run base m es)) u) sc f al
+        sc-covered base (runOf base m es) (valid-run base m v es) h used sc f al
         (covered-exact (atomicAddress (runOf base m es) h sc) (atomicSize sc) .1 y)
 
     -- which SC traps, after any events
     pub sc-traps-run : Traps (outcomeAt base (runOf base m es) (Step h)) ↔ (MisalignedSc (runOf base m es) h sc ⊎ OutsideSc base (runOf base m es) h sc)
     sc-traps-run =
-        sc-traps base (runOf base m es) (valid-run base m v es) h (subst (λ (k : ℕ). h < k) (sym (count-run base m es)) u) sc f
+        sc-traps base (runOf base m es) (valid-run base m v es) h used sc f

@@ -1,5 +1,5 @@
--- Which SCs trap (02 [2]), and the words of demand 2's sentence on SC: "from a start without reservations an SC that doesn't trap succeeds exactly if the history since its
--- hart's latest retired LR allows it".
+-- Which SCs trap (02 [2]), and the words of demand 2's sentence on SC: "from a start without reservations an SC that doesn't trap succeeds exactly if
+-- the history since its hart's latest retired LR allows it".
 -- RULES 3.2, 4.6, 11.2.
 use mathlib.Core.Path.{_≡_}
 use mathlib.Core.Logic.{_≢_}
