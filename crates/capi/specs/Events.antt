@@ -34,13 +34,13 @@ codeOf ScFailed = 2
 codeOf (Trap cause value) = 256 + cause
 codeOf (Refused number) = 512 + number
 
--- a trap's value; 0 for every other answer
-abbrev pub valueOf : Outcome → ℕ
-valueOf Retired = 0
-valueOf ScStored = 0
-valueOf ScFailed = 0
-valueOf (Trap cause value) = value
-valueOf (Refused number) = 0
+-- the number beside it: a trap's value; of a retired event the harts whose reservation it broke, bit k for hart k; 0 for a refusal
+abbrev pub valueOf : Outcome → ℕ → ℕ
+valueOf Retired broke = broke
+valueOf ScStored broke = broke
+valueOf ScFailed broke = broke
+valueOf (Trap cause value) broke = value
+valueOf (Refused number) broke = 0
 
 -- a refusal and a trap leave every byte of the state as it was
 abbrev pub isRetired : Outcome → Bool
@@ -61,7 +61,7 @@ Small (Refused number) = number ≤ 5
 -- What is left where the model's answer is a and its memory m.
 pub record Told (a : Answer) (m state : List ℕ) (r : ℕ) (state′ mem′ value′ : List ℕ) : Type 0 where
   pub answer : r ≡ codeOf (a .outcome)
-  pub value : value′ ≡ toLe 8 (valueOf (a .outcome))
+  pub value : value′ ≡ toLe 8 (valueOf (a .outcome) (a .broke))
   pub bytes : state′ ≡ stateIf (isRetired (a .outcome)) state (a .state)
   pub memory : mem′ ≡ m
 

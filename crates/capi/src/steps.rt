@@ -29,14 +29,14 @@ fn code_of(o: Outcome) -> u64
     }
 }
 
-// A trap's value, or 0.
-fn value_of(o: Outcome) -> u64
-    ensures { λ r. ⌜ r ≡ valueOf o ⌝ }
+// A trap's value, the harts whose reservation a retired event broke, or 0.
+fn value_of(o: Outcome, broke: u64) -> u64
+    ensures { λ r. ⌜ r ≡ valueOf o broke ⌝ }
 {
     match o {
-        Outcome::Retired => 0,
-        Outcome::ScStored => 0,
-        Outcome::ScFailed => 0,
+        Outcome::Retired => broke,
+        Outcome::ScStored => broke,
+        Outcome::ScFailed => broke,
         Outcome::Trap { value, .. } => value,
         Outcome::Refused { .. } => 0,
     }
@@ -83,7 +83,7 @@ fn perform(state: &mut [u8], base: u64, mem: &mut [u8], e: Event, value: &mut [u
     let outcome = a.outcome;
     let after = a.state;
     write_if(is_retired(outcome), state, after);
-    store_le(value, value_of(outcome));
+    store_le(value, value_of(outcome, a.broke));
     code_of(outcome)
 }
 

@@ -42,7 +42,7 @@ fn perform(c: Case, mem: &mut [u8; 8192], e: Event) {
     let a = answer(s, c.base, mem, c.len, e);
     let outcome = a.outcome;
     let state = a.state;
-    show::outcome(c.number, outcome);
+    show::outcome(c.number, outcome, a.broke);
     show::state(s, state);
     show::memory(&old, mem, build::within(c.len));
 }

@@ -13,6 +13,11 @@ pub fn hex(n: u64) {
     io::print_hex(STDOUT_FILENO, n, 16);
 }
 
+// A bit for each of 8 harts.
+pub fn mask(n: u64) {
+    io::print_hex(STDOUT_FILENO, n, 2);
+}
+
 pub fn hart(h: usize) {
     text(b"h");
     decimal(h as u64);

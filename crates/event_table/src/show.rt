@@ -1,4 +1,4 @@
-// The lines of a case: its outcome, and each thing that is another after the event.
+// The lines of a case: its outcome with the harts whose reservation it broke, and each thing that is another after the event.
 use crate::out;
 use machine::State;
 use model::Outcome;
@@ -9,7 +9,7 @@ ghost use mathlib.Core.Path.{_≡_};
 ghost use Prim.Native.Nat.{_≤_};
 ghost use Rattle.event_table.specs.Build.{heldAs, isFree};
 
-pub fn outcome(number: u64, o: Outcome) {
+pub fn outcome(number: u64, o: Outcome, broke: u64) {
     out::decimal(number);
     match o {
         Outcome::Retired => out::text(b" ok"),
@@ -18,6 +18,7 @@ pub fn outcome(number: u64, o: Outcome) {
         Outcome::Trap { cause, value } => trap(cause, value),
         Outcome::Refused { number: n } => refused(n),
     }
+    harts(broke);
     out::text(b"\n");
 }
 
@@ -31,6 +32,14 @@ fn trap(cause: u64, value: u64) {
 fn refused(n: u64) {
     out::text(b" refused ");
     out::decimal(n);
+}
+
+// The harts whose reservation the event broke.
+fn harts(broke: u64) {
+    if broke != 0 {
+        out::text(b" broke ");
+        out::mask(broke);
+    }
 }
 
 fn count(before: usize, after: usize) {

@@ -1,5 +1,5 @@
 -- Text that is put into the front of a buffer, before a memory that stands at its end. Assumes nothing.
-use mathlib.Core.Path.{_≡_, sym, ap, _∙_, subst}
+use mathlib.Core.Path.{_≡_, sym, ap, ap₂, _∙_, subst}
 use mathlib.Core.List.{List, _++_, append-nil}
 use Prim.Native.Nat.{ℕ, _-_, _≤_}
 use native.Mathlib.Omega.{arith}
@@ -8,8 +8,9 @@ use lib.Seq.{length-take-le, length-front, take-all, take-take, take-append-le, 
 use borrow.Rule.Slice.PartMut.{putMid, same-len-mid, take-put}
 use Rattle.text.specs.Put.{Put}
 use Rattle.events.specs.declared.Event.{Event}
-use Rattle.model.specs.Perform.{Machine}
+use Rattle.model.specs.Perform.{Machine, replyAt}
 use Rattle.model.specs.Advance.{Advances}
+use Rattle.model.specs.declared.Reply.{Reply}
 use Rattle.model.specs.declared.Outcome.{Outcome}
 
 -- a text that was put into a part `&mut out[..from]`, which is back
@@ -68,6 +69,10 @@ module _ (out mem : List ℕ) (from : ℕ) (within : from ≤ length out) (kept 
   back-put {text} {after} {p} {r} h x = record { end = x .end; holds = x .holds ∙ ap (λ (l : List ℕ). l ++ text) (same-front p h) }
 
 -- the same event, on machines written in another way
-pub advances-as : {base : ℕ} {e : Event} {r : Outcome} {m m′ a b : Machine} → m ≡ a → m′ ≡ b → Advances base e m r m′ → Advances base e a r b
+pub advances-as : {base : ℕ} {e : Event} {r : Reply} {m m′ a b : Machine} → m ≡ a → m′ ≡ b → Advances base e m r m′ → Advances base e a r b
 advances-as {base} {e} {r} {m} {m′} {a} {b} h k y =
     subst (λ (n : Machine). Advances base e n r b) h (subst (Advances base e m r) k y)
+
+-- the reply that it promises part by part, as a whole
+pub reply-same : {base : ℕ} {e : Event} {r : Reply} {m m′ : Machine} → Advances base e m r m′ → r ≡ replyAt base m e
+reply-same y = ap₂ (λ (o : Outcome) (k : ℕ). record { outcome = o; broke = k }) (y .outcome) (y .broke)

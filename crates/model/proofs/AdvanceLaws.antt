@@ -17,10 +17,11 @@ use Rattle.machine.proofs.StateLaws.{refusal-0}
 use Rattle.effect.specs.Effect as E
 use Rattle.events.specs.Events.{eventOf, firstEvents}
 use Rattle.events.specs.declared.Event.{Event}
-use Rattle.model.specs.Act.{Act, refuse, put, outcomeOf, setReg, registersAfter, pcsAfter, slotsAfter, leaves, apply}
+use Rattle.model.specs.Act.{Act, refuse, put, outcomeOf, setReg, registersAfter, pcsAfter, slotsAfter, brokenAfter, leaves, apply}
 use Rattle.model.specs.Perform.{Machine, ofExec, deviceOf, actOn, answerOf, memoryOf, nextOf, runOf}
 use Rattle.model.specs.Valid.{Valid}
-use Rattle.model.specs.Advance.{inParts, Advances, registersBy, pcsBy, slotsBy, outcomeBy}
+use Rattle.model.specs.Advance.{inParts, Advances, registersBy, pcsBy, slotsBy, brokenBy, outcomeBy}
+use Rattle.model.specs.declared.Reply.{Reply}
 use Rattle.model.specs.declared.Outcome.{Outcome}
 use Rattle.model.proofs.Valid.{act-valid}
 
@@ -45,6 +46,13 @@ module _ (h : ℕ) where
   slots-done (E.effect E.none to t) count l = refl
   slots-done (E.effect (E.one r v) to t) count l = refl
   slots-done (E.effect (E.pair r v r2 v2) to t) count l = refl
+
+  pub broken-done : (e : E.Exec) (count : ℕ) (l : List Slot) → brokenBy count (E.doneOf h e) l ≡ brokenAfter 64 count (ofExec h e) l
+  unfolding brokenBy
+  broken-done (E.trap cause value) count l = refl
+  broken-done (E.effect E.none to t) count l = refl
+  broken-done (E.effect (E.one r v) to t) count l = refl
+  broken-done (E.effect (E.pair r v r2 v2) to t) count l = refl
 
   pub outcome-done : (e : E.Exec) → outcomeBy (E.doneOf h e) ≡ outcomeOf (ofExec h e)
   unfolding outcomeBy
@@ -84,26 +92,30 @@ module _ (base : ℕ) (s : State) (t mem : List ℕ) (packed : slotsIn t ≡ s .
   lent-valid none = subst (Valid base) (sym lent-same) (refusal-0 base (length mem) s .0 none)
 
   -- an event on what is lent is the event on the state
-  pub lent-answer : {e : Event} {r : Outcome} {m′ : Machine} → Advances base e (inParts (s .count) (s .x) (s .pc) t mem) r m′
-      → (record { outcome = r; state = m′ .state } ≡ answerOf base mem s e) × (m′ .mem ≡ memoryOf base mem s e)
+  pub lent-answer : {e : Event} {r : Reply} {m′ : Machine} → Advances base e (inParts (s .count) (s .x) (s .pc) t mem) r m′
+      → (record { outcome = r .outcome; broke = r .broke; state = m′ .state } ≡ answerOf base mem s e) × (m′ .mem ≡ memoryOf base mem s e)
   unfolding nextOf
   lent-answer {e} {r} {m′} a =
       let b = subst (λ (m : Machine). Advances base e m r m′) lent-same a in
-      let after = ap (λ (m : Machine). m .state) (b .machine) in
-      (ap₂ (λ (o : Outcome) (n : State). record { outcome = o; state = n }) (b .outcome) after, ap (λ (m : Machine). m .mem) (b .machine))
+      let after = ap (λ (m : Machine). m .state) (b .machine) in (
+        ap₂ (λ (o : Outcome) (k : ℕ). record { outcome = o; broke = k; state = m′ .state }) (b .outcome) (b .broke)
+        ∙ ap (λ (n : State). record { outcome = answerOf base mem s e .outcome; broke = answerOf base mem s e .broke; state = n }) after,
+        ap (λ (m : Machine). m .mem) (b .machine),
+      )
 
--- an event's act, done part by part, is the event: answer, registers, pcs, reservations, memory
+-- an event's act, done part by part, is the event: outcome, reservations broken, registers, pcs, reservations, memory
 module _ (base : ℕ) (m : Machine) (v : Valid base m) (e : Event) {act : Act} (is : actOn base (m .mem) (m .state) e ≡ act) where
-  pub advances : {r : Outcome} {x pc mem : List ℕ} {res : List Slot} → r ≡ outcomeOf act
+  pub advances : {r : Reply} {x pc mem : List ℕ} {res : List Slot} → r .outcome ≡ outcomeOf act
+      → r .broke ≡ brokenAfter 64 (m .state .count) act (m .state .res)
       → x ≡ registersAfter act (m .state .x)
       → pc ≡ pcsAfter act (m .state .pc)
       → res ≡ slotsAfter 64 (m .state .count) act (m .state .res)
       → mem ≡ leaves base (m .mem) act
       → Advances base e m r (record { state = record { count = m .state .count; x = x; pc = pc; res = res }; mem = mem })
   unfolding answerOf memoryOf nextOf apply
-  advances answer registers pcs slots memory =
+  advances ends broken registers pcs slots memory =
       let d = act-valid base m v e ∙ is in
-      record { outcome = rw d answer; machine = rw (d, registers, pcs, slots, memory) }
+      record { outcome = rw d ends; broke = rw d broken; machine = rw (d, registers, pcs, slots, memory) }
 
 pub take-events : (k n : ℕ) (body : List ℕ) → k ≤ n → take k (firstEvents n body) ≡ firstEvents k body
 unfolding firstEvents

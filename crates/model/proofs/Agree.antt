@@ -2,7 +2,7 @@
 -- event, for every list of events and for every run of an events body. Assumes nothing; the states are of the right shape, as values of their type are.
 use mathlib.Core.Path.{_≡_, refl, sym, ap, ap₂, _∙_, fun-ext}
 use mathlib.Core.List.{List, [], _∷_}
-use Prim.Native.Nat.{ℕ, zero, suc, _+_, _*_, _%_, _<_}
+use Prim.Native.Nat.{ℕ, zero, suc, _+_, _*_, _%_, _≤_, _<_}
 use native.Mathlib.Nat.{add-zero}
 use native.Mathlib.Omega.{arith}
 use lib.Dec.{eqb, ltb}
@@ -10,7 +10,7 @@ use lib.ListN.{length, getD, set, take}
 use borrow.Author.Tests.{ltb-true}
 use Rattle.word.specs.Each.{each}
 use Rattle.word.proofs.TestLaws.{bool-cases, contrary}
-use Rattle.reserve.specs.Reserve.{slot, observeSlot, observeAllOf}
+use Rattle.reserve.specs.Reserve.{slot, observeSlot, brokenOf, observeAllOf}
 use Rattle.reserve.specs.declared.Reservation.the-variants.{None}
 use Rattle.reserve.specs.declared.Slot.{Slot}
 use Rattle.reserve.specs.declared.Notice.{Notice}
@@ -26,10 +26,11 @@ use Rattle.events.specs.declared.Event.{Event}
 use Rattle.events.specs.declared.Event.the-variants.{Step, Device, Yield as YieldOf}
 use Rattle.events.specs.declared.Checked.{Checked}
 use Rattle.events.specs.declared.Checked.the-variants.{Good, Bad}
-use Rattle.model.specs.Act.{Act, refuse, fault, change, put, release, outcomeOf, setReg, written, apply, leaves}
-use Rattle.model.specs.Perform.{Machine, stepOf, ofExec, actOn, actOf, answerOf, memoryOf, outcomeAt, nextOf, runOf}
+use Rattle.model.specs.Act.{Act, refuse, fault, change, put, release, outcomeOf, setReg, written, brokenAfter, apply, leaves}
+use Rattle.model.specs.Perform.{Machine, stepOf, ofExec, actOn, actOf, answerOf, memoryOf, replyAt, nextOf, runOf}
 use Rattle.model.specs.Run.{performedCount, runChecked, resultOf}
-use Rattle.model.specs.Agree.{Agree, Alike, AlikeRuns, outcomesOf}
+use Rattle.model.specs.Agree.{Agree, Alike, AlikeRuns, repliesOf}
+use Rattle.model.specs.declared.Outcome.{Outcome}
 use Rattle.model.proofs.Frame.{length-setReg, shaped-next}
 
 -- ---- lists of one length, the same at a place
@@ -75,6 +76,22 @@ module _ (s t : State) (a : Agree s t) where
         pcs = λ k u. sym (a .pcs k (rw (a .counts) u));
         reservations = λ k u. sym (a .reservations k (rw (a .counts) u));
       }
+
+  broken-same : (size : ℕ) (n : Notice) (k : ℕ) → k ≤ s .count → brokenOf size n k (s .res) ≡ brokenOf size n k (t .res)
+  unfolding brokenOf
+  broken-same size n zero u = refl
+  broken-same size n (suc k) u = rw (broken-same size n k (omega arith), a .reservations k (omega arith))
+
+  broken-all : (size : ℕ) (n : Notice) → observeAllOf size (s .count) n (s .res) .broken ≡ observeAllOf size (t .count) n (t .res) .broken
+  unfolding observeAllOf
+  broken-all size n = rw (← a .counts) (broken-same size n (s .count) (omega arith))
+
+  agree-broken : (size : ℕ) (act : Act) → brokenAfter size (s .count) act (s .res) ≡ brokenAfter size (t .count) act (t .res)
+  agree-broken size (refuse number) = refl
+  agree-broken size (fault cause value) = refl
+  agree-broken size (change h ws to x) = broken-all size (noticeOf h x)
+  agree-broken size (put b bs) = broken-all size (DeviceWrite b (length bs))
+  agree-broken size (release h) = broken-all size (Yield h)
 
   module _ (p : Shaped s) (q : Shaped t) where
     slots-same : (size : ℕ) (n : Notice) (k : ℕ) → k < s .count
@@ -150,14 +167,17 @@ module _ (base : ℕ) (mem : List ℕ) (s t : State) (a : Agree s t) where
   unfolding actOf
   act-agree e = rw (refusal-agree base (length mem) s t a, on-agree e)
 
-  -- 01: "unused harts' fields aren't looked at": one event gets the same answer, leaves the same memory, and the states agree afterwards
+  -- 01: "unused harts' fields aren't looked at": one event gets the same outcome, breaks the same reservations, leaves the same memory, and the states
+  -- agree afterwards
   pub agree-event : Shaped s → Shaped t → (e : Event)
       → (answerOf base mem s e .outcome ≡ answerOf base mem t e .outcome)
+      × (answerOf base mem s e .broke ≡ answerOf base mem t e .broke)
       × (memoryOf base mem s e ≡ memoryOf base mem t e)
       × Agree (answerOf base mem s e .state) (answerOf base mem t e .state)
   unfolding answerOf memoryOf
   agree-event p q e = (
     ap outcomeOf (act-agree e),
+    rw (← act-agree e) (agree-broken s t a 64 (actOf base mem s e)),
     ap (leaves base mem) (act-agree e),
     rw (← act-agree e) (agree-apply s t a p q 64 (actOf base mem s e)),
   )
@@ -166,21 +186,22 @@ module _ (base : ℕ) (mem : List ℕ) (s t : State) (a : Agree s t) where
 
 module _ (base : ℕ) where
   pub alike-next : (m n : Machine) → Shaped (m .state) → Shaped (n .state) → Alike m n → (e : Event)
-      → (outcomeAt base m e ≡ outcomeAt base n e) × Alike (nextOf base m e) (nextOf base n e)
+      → (replyAt base m e ≡ replyAt base n e) × Alike (nextOf base m e) (nextOf base n e)
   unfolding nextOf
   alike-next m n p q a e =
       let one = agree-event base (m .mem) (m .state) (n .state) (a .states) p q e in (
-        one .0 ∙ ap (λ (mem : List ℕ). answerOf base mem (n .state) e .outcome) (a .memory),
+        ap₂ (λ (o : Outcome) (k : ℕ). record { outcome = o; broke = k }) (one .0) (one .1)
+        ∙ ap (λ (mem : List ℕ). replyAt base (record { state = n .state; mem = mem }) e) (a .memory),
         record {
-          memory = one .1 ∙ ap (λ (mem : List ℕ). memoryOf base mem (n .state) e) (a .memory);
-          states = rw (← a .memory) (one .2);
+          memory = one .2 ∙ ap (λ (mem : List ℕ). memoryOf base mem (n .state) e) (a .memory);
+          states = rw (← a .memory) (one .3);
         },
       )
 
-  -- every list of events: the answers one by one, the memory, and the used harts
+  -- every list of events: the outcomes and the reservations broken, one by one, the memory, and the used harts
   pub agree-run : (m n : Machine) → Shaped (m .state) → Shaped (n .state) → Alike m n → (es : List Event)
-      → (outcomesOf base m es ≡ outcomesOf base n es) × Alike (runOf base m es) (runOf base n es)
-  unfolding outcomesOf runOf
+      → (repliesOf base m es ≡ repliesOf base n es) × Alike (runOf base m es) (runOf base n es)
+  unfolding repliesOf runOf
   agree-run m n p q a [] = (refl, a)
   agree-run m n p q a (e ∷ es) =
       let one = alike-next m n p q a e in

@@ -1,5 +1,5 @@
 -- What an event comes to: decided once, and then told and applied. Both the answer and what changes are read off the decision.
--- RULES 1.4, 2.3, 3.1 (what a refusal and a trap leave), 3.3.
+-- RULES 1.4, 2.3, 3.1 (what a refusal and a trap leave), 3.3, 5 (`brokenAfter`).
 use Prim.Native.Nat.{ℕ, _+_, _-_, _*_, _%_}
 use mathlib.Core.Bool.{cond}
 use mathlib.Core.List.{List}
@@ -79,6 +79,14 @@ slotsAfter size count (fault cause value) l = l
 slotsAfter size count (change h ws to t) l = observeAllOf size count (noticeOf h t) l .slots
 slotsAfter size count (put a bs) l = observeAllOf size count (DeviceWrite a (length bs)) l .slots
 slotsAfter size count (release h) l = observeAllOf size count (Yield h) l .slots
+
+-- 02 [3]: "the set of harts whose reservation it broke, one bit each, bit 0 for hart 0": of the first count harts, by their reservations before
+abbrev pub brokenAfter : ℕ → ℕ → Act → List Slot → ℕ
+brokenAfter size count (refuse number) l = 0
+brokenAfter size count (fault cause value) l = 0
+brokenAfter size count (change h ws to t) l = observeAllOf size count (noticeOf h t) l .broken
+brokenAfter size count (put a bs) l = observeAllOf size count (DeviceWrite a (length bs)) l .broken
+brokenAfter size count (release h) l = observeAllOf size count (Yield h) l .broken
 
 unfoldable pub leaves : ℕ → List ℕ → Act → List ℕ
 leaves base mem (refuse number) = mem

@@ -10,7 +10,8 @@ use Rattle.effect.specs.declared.Done.{Done}
 use Rattle.effect.specs.declared.Done.the-variants.{Retired, Trap}
 use Rattle.events.specs.declared.Event.{Event}
 use Rattle.model.specs.Act.{setReg, retiredAs}
-use Rattle.model.specs.Perform.{Machine, outcomeAt, nextOf}
+use Rattle.model.specs.Perform.{Machine, outcomeAt, brokeAt, nextOf}
+use Rattle.model.specs.declared.Reply.{Reply}
 use Rattle.model.specs.declared.Outcome.{Outcome}
 use Rattle.model.specs.declared.Outcome.the-variants as O
 
@@ -18,12 +19,13 @@ use Rattle.model.specs.declared.Outcome.the-variants as O
 abbrev pub inParts : ℕ → List ℕ → List ℕ → List ℕ → List ℕ → Machine
 inParts count x pc t mem = record { state = record { count = count; x = x; pc = pc; res = slotsIn t }; mem = mem }
 
--- the answer r to event e, and the machine afterwards: registers, pcs, reservations and memory
-pub record Advances (base : ℕ) (e : Event) (m : Machine) (r : Outcome) (m′ : Machine) : Type 0 where
-  pub outcome : r ≡ outcomeAt base m e
+-- the reply r to event e, and the machine afterwards: registers, pcs, reservations and memory
+pub record Advances (base : ℕ) (e : Event) (m : Machine) (r : Reply) (m′ : Machine) : Type 0 where
+  pub outcome : r .outcome ≡ outcomeAt base m e
+  pub broke : r .broke ≡ brokeAt base m e
   pub machine : m′ ≡ nextOf base m e
 
--- registers, pcs, reservations and answer after what a step of hart h came to
+-- registers, pcs, reservations, those it broke and outcome after what a step of hart h came to
 unfoldable pub registersBy : ℕ → Done → List ℕ → List ℕ
 registersBy h (Retired e) x = setReg h (e .rd2) (e .value2) (setReg h (e .rd) (e .value) x)
 registersBy h (Trap cause value) x = x
@@ -35,6 +37,10 @@ pcsBy h (Trap cause value) pc = pc
 unfoldable pub slotsBy : ℕ → Done → List Slot → List Slot
 slotsBy count (Retired e) l = observeAllOf 64 count (e .notice) l .slots
 slotsBy count (Trap cause value) l = l
+
+unfoldable pub brokenBy : ℕ → Done → List Slot → ℕ
+brokenBy count (Retired e) l = observeAllOf 64 count (e .notice) l .broken
+brokenBy count (Trap cause value) l = 0
 
 unfoldable pub outcomeBy : Done → Outcome
 outcomeBy (Retired e) = retiredAs (e .notice)

@@ -7,9 +7,9 @@ use lib.ListN.{getD}
 use Rattle.machine.specs.declared.State.{State}
 use Rattle.effect.specs.Execute.{regAt}
 use Rattle.events.specs.declared.Event.{Event}
-use Rattle.model.specs.Perform.{Machine, reservationOf, nextOf, outcomeAt}
+use Rattle.model.specs.Perform.{Machine, reservationOf, replyAt, nextOf}
 use Rattle.model.specs.Run.{Result}
-use Rattle.model.specs.declared.Outcome.{Outcome}
+use Rattle.model.specs.declared.Reply.{Reply}
 
 -- The counts are the same, and so are all registers, the pc and the reservation of each hart below the count. Nothing is asked of unused harts.
 pub record Agree (s t : State) : Type 0 where
@@ -30,7 +30,7 @@ pub record AlikeRuns (a b : Result) : Type 0 where
   pub memory : a .mem ≡ b .mem
   pub states : Agree (a .ran .state) (b .ran .state)
 
--- the answers to events one after another, the first one first
-unfoldable pub outcomesOf : ℕ → Machine → List Event → List Outcome
-outcomesOf base m [] = []
-outcomesOf base m (e ∷ es) = outcomeAt base m e ∷ outcomesOf base (nextOf base m e) es
+-- the replies to events one after another, the first one first: of each the outcome and the harts whose reservation it broke
+unfoldable pub repliesOf : ℕ → Machine → List Event → List Reply
+repliesOf base m [] = []
+repliesOf base m (e ∷ es) = replyAt base m e ∷ repliesOf base (nextOf base m e) es

@@ -17,8 +17,9 @@ use Rattle.effect.specs.Memory.{valueAt}
 use Rattle.effect.specs.Execute.{regAt, executeWord}
 use Rattle.events.specs.declared.Event.{Event}
 use Rattle.events.specs.declared.Event.the-variants.{Step, Device, Yield}
-use Rattle.model.specs.Act.{Act, refuse, fault, change, put, release, outcomeOf, apply, leaves}
+use Rattle.model.specs.Act.{Act, refuse, fault, change, put, release, outcomeOf, brokenAfter, apply, leaves}
 use Rattle.model.specs.declared.Outcome.{Outcome}
+use Rattle.model.specs.declared.Reply.{Reply}
 use Rattle.model.specs.declared.Answer.{Answer}
 
 -- a hart's reservation
@@ -59,16 +60,27 @@ pub record Machine : Type 0 where
   pub state : State
   pub mem : List ℕ
 
--- the answer to an event, the state with it, and the memory afterwards
+-- the answer to an event, with the harts whose reservation it broke and the state, and the memory afterwards
 unfoldable pub answerOf : ℕ → List ℕ → State → Event → Answer
-answerOf base mem s e = record { outcome = outcomeOf (actOf base mem s e); state = apply 64 s (actOf base mem s e) }
+answerOf base mem s e =
+    record {
+      outcome = outcomeOf (actOf base mem s e);
+      broke = brokenAfter 64 (s .count) (actOf base mem s e) (s .res);
+      state = apply 64 s (actOf base mem s e);
+    }
 
 unfoldable pub memoryOf : ℕ → List ℕ → State → Event → List ℕ
 memoryOf base mem s e = leaves base mem (actOf base mem s e)
 
--- the answer alone
+-- the outcome alone, the harts whose reservation it broke alone, and both
 abbrev pub outcomeAt : ℕ → Machine → Event → Outcome
 outcomeAt base m e = answerOf base (m .mem) (m .state) e .outcome
+
+abbrev pub brokeAt : ℕ → Machine → Event → ℕ
+brokeAt base m e = answerOf base (m .mem) (m .state) e .broke
+
+abbrev pub replyAt : ℕ → Machine → Event → Reply
+replyAt base m e = record { outcome = outcomeAt base m e; broke = brokeAt base m e }
 
 -- the machine after an event, and after events one after another: each gets what the one before left
 unfoldable pub nextOf : ℕ → Machine → Event → Machine

@@ -1,5 +1,6 @@
 // Events performed in place, on registers, pcs and reservations that refusals 1 and 2 do not refuse. Reservations are lent as 24 numbers.
 use crate::Outcome;
+use crate::Reply;
 use effect::Done;
 use events::Event;
 use reserve::Notice;
@@ -12,10 +13,10 @@ ghost use Rattle.reserve.specs.Packed.{slotsIn};
 ghost use Rattle.effect.specs.Effect.{Meets};
 ghost use Rattle.effect.specs.Execute.{regAt};
 ghost use Rattle.events.specs.declared.Event.the-variants.{Step};
-ghost use Rattle.model.specs.Act.{retiredAs, setReg, outcomeOf, release, slotsAfter, leaves};
+ghost use Rattle.model.specs.Act.{retiredAs, setReg, outcomeOf, release, slotsAfter, brokenAfter, leaves};
 ghost use Rattle.model.specs.Perform.{fetchOf, deviceOf};
 ghost use Rattle.model.specs.Valid.{Valid};
-ghost use Rattle.model.specs.Advance.{inParts, Advances, registersBy, pcsBy, slotsBy, outcomeBy};
+ghost use Rattle.model.specs.Advance.{inParts, Advances, registersBy, pcsBy, slotsBy, brokenBy, outcomeBy};
 
 // Fetches the word at pc and does what it says, for hart h, whose registers are among x and whose reservation is res.
 fn fetch(x: &[u64; 256], h: usize, pc: u64, base: u64, res: Reservation, mem: &mut [u8]) -> Done
@@ -55,7 +56,7 @@ fn move_hart(x: &mut [u64; 256], pc: &mut [u64; 8], h: usize, d: Done)
     }
 }
 
-// The answer for a retired event.
+// The outcome of a retired event.
 fn retired_as(n: Notice) -> Outcome
     ensures { λ r. ⌜ r ≡ retiredAs n ⌝ }
 {
@@ -70,18 +71,25 @@ fn retired_as(n: Notice) -> Outcome
     }
 }
 
-// The reservations after a step, and its answer.
-fn settle(t: &mut [u64; 24], count: usize, d: Done) -> Outcome
+// The reservations after a step, and its reply.
+fn settle(t: &mut [u64; 24], count: usize, d: Done) -> Reply
     requires { ⌜ count ≤ 8 ⌝ }
-    ensures { λ r. ⌜ (r ≡ outcomeBy d) × (slotsIn (now (t .exit)) ≡ slotsBy count d (slotsIn (now (t .entry)))) ⌝ }
+    ensures { λ r. ⌜ (r .outcome ≡ outcomeBy d) × (r .broke ≡ brokenBy count d (slotsIn (now (t .entry)))) ⌝ }
+    ensures { λ _. ⌜ slotsIn (now (t .exit)) ≡ slotsBy count d (slotsIn (now (t .entry))) ⌝ }
 {
     match d {
         Done::Retired(e) => {
             let n = e.notice;
-            packed::observe(t, count, 64, n);
-            retired_as(n)
+            let broke = packed::observe(t, count, 64, n);
+            Reply {
+                outcome: retired_as(n),
+                broke,
+            }
         }
-        Done::Trap { cause, value } => Outcome::Trap { cause, value },
+        Done::Trap { cause, value } => Reply {
+            outcome: Outcome::Trap { cause, value },
+            broke: 0,
+        },
     }
 }
 
@@ -94,7 +102,7 @@ fn step_hart(
     h: usize,
     base: u64,
     mem: &mut [u8],
-) -> Outcome
+) -> Reply
     requires { ⌜ Valid base (inParts count (now x) (now pc) (now t) (now mem)) ⌝ }
     requires { ⌜ h < count ⌝ }
     ensures { λ r. ⌜ Advances base (Step h)
@@ -109,6 +117,16 @@ fn step_hart(
     settle(t, count, d)
 }
 
+// The reply to an event that is refused: it breaks nothing.
+fn refused(number: u64) -> Reply
+    ensures { λ r. ⌜ (r .outcome ≡ Outcome.Refused number) × (r .broke ≡ 0) ⌝ }
+{
+    Reply {
+        outcome: Outcome::Refused { number },
+        broke: 0,
+    }
+}
+
 // A device write of the size lowest bytes of value.
 fn write_device(
     t: &mut [u64; 24],
@@ -118,33 +136,40 @@ fn write_device(
     value: u64,
     base: u64,
     mem: &mut [u8],
-) -> Outcome
+) -> Reply
     requires { ⌜ count ≤ 8 ⌝ }
-    ensures { λ r. ⌜ r ≡ outcomeOf (deviceOf base (now (mem .entry)) addr size value) ⌝ }
+    ensures { λ r. ⌜ r .outcome ≡ outcomeOf (deviceOf base (now (mem .entry)) addr size value) ⌝ }
+    ensures { λ r. ⌜ r .broke ≡ brokenAfter 64 count (deviceOf base (now (mem .entry)) addr size value) (slotsIn (now (t .entry))) ⌝ }
     ensures { λ _. ⌜ slotsIn (now (t .exit)) ≡ slotsAfter 64 count (deviceOf base (now (mem .entry)) addr size value) (slotsIn (now (t .entry))) ⌝ }
     ensures { λ _. ⌜ now (mem .exit) ≡ leaves base (now (mem .entry)) (deviceOf base (now (mem .entry)) addr size value) ⌝ }
 {
     if size == 0 {
-        return Outcome::Refused { number: 4 };
+        return refused(4);
     }
     if 8 < size {
-        return Outcome::Refused { number: 4 };
+        return refused(4);
     }
     if !reserve::inside(base, mem.len() as u64, addr, size as u64) {
-        return Outcome::Refused { number: 5 };
+        return refused(5);
     }
     word::bytes::store_at(mem, (addr - base) as usize, size, value);
-    packed::device_write(t, count, 64, addr, size as u64);
-    Outcome::Retired
+    Reply {
+        outcome: Outcome::Retired,
+        broke: packed::device_write(t, count, 64, addr, size as u64),
+    }
 }
 
 // A yield of hart h.
-fn release_hart(t: &mut [u64; 24], count: usize, h: usize) -> Outcome
+fn release_hart(t: &mut [u64; 24], count: usize, h: usize) -> Reply
     requires { ⌜ count ≤ 8 ⌝ }
-    ensures { λ r. ⌜ (r ≡ outcomeOf (release h)) × (slotsIn (now (t .exit)) ≡ slotsAfter 64 count (release h) (slotsIn (now (t .entry)))) ⌝ }
+    ensures { λ r. ⌜ (r .outcome ≡ outcomeOf (release h)) × (r .broke ≡ brokenAfter 64 count (release h) (slotsIn (now (t .entry)))) ⌝ }
+    ensures { λ _. ⌜ slotsIn (now (t .exit)) ≡ slotsAfter 64 count (release h) (slotsIn (now (t .entry))) ⌝ }
 {
     packed::release(t, count, h);
-    Outcome::Retired
+    Reply {
+        outcome: Outcome::Retired,
+        broke: 0,
+    }
 }
 
 // An event.
@@ -156,7 +181,7 @@ pub fn advance(
     base: u64,
     mem: &mut [u8],
     e: Event,
-) -> Outcome
+) -> Reply
     requires { ⌜ Valid base (inParts count (now x) (now pc) (now t) (now mem)) ⌝ }
     ensures { λ r. ⌜ Advances base e
         (inParts count (now (x .entry)) (now (pc .entry)) (now (t .entry)) (now (mem .entry))) r
@@ -168,7 +193,7 @@ pub fn advance(
             if hart < count {
                 return step_hart(x, pc, t, count, hart, base, mem);
             }
-            Outcome::Refused { number: 3 }
+            refused(3)
         }
         Event::Device {
             addr,
@@ -179,7 +204,7 @@ pub fn advance(
             if hart < count {
                 return release_hart(t, count, hart);
             }
-            Outcome::Refused { number: 3 }
+            refused(3)
         }
     }
 }

@@ -9,7 +9,7 @@ ghost use mathlib.Core.Path.{_≡_};
 ghost use Rattle.events.specs.declared.Event.the-variants.{Step, Device, Yield};
 ghost use Rattle.model.specs.Perform.{answerOf, memoryOf};
 
-// The answer to an event. ScStored and ScFailed are the two ends of an SC that does not trap, whatever its rd: 0 and 1.
+// How an event ends. ScStored and ScFailed are the two ends of an SC that does not trap, whatever its rd: 0 and 1.
 pub enum Outcome {
     Retired,
     ScStored,
@@ -18,8 +18,16 @@ pub enum Outcome {
     Refused { number: u64 },
 }
 
+// What is told of an event: its outcome, and the harts whose reservation it broke, bit k for hart k.
+pub struct Reply {
+    pub outcome: Outcome,
+    pub broke: u64,
+}
+
+// The same with the state afterwards.
 pub struct Answer {
     pub outcome: Outcome,
+    pub broke: u64,
     pub state: State,
 }
 
@@ -49,14 +57,17 @@ pub fn perform(s: State, base: u64, mem: &mut [u8], e: Event) -> Answer
     if number != 0 {
         return Answer {
             outcome: Outcome::Refused { number },
+            broke: 0,
             state: s,
         };
     }
     let mut t = packed::pack(res);
-    let outcome = advance::advance(&mut x, &mut pc, &mut t, count, base, mem, e);
+    let r = advance::advance(&mut x, &mut pc, &mut t, count, base, mem, e);
+    let outcome = r.outcome;
     let after = packed::unpack(&t);
     Answer {
         outcome,
+        broke: r.broke,
         state: State {
             count,
             x,

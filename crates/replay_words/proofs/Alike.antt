@@ -16,6 +16,7 @@ use Rattle.effect.specs.Memory.{valueAt}
 use Rattle.events.specs.declared.Event.the-variants.{Step}
 use Rattle.model.specs.Agree.{Agree, Alike}
 use Rattle.model.specs.Perform.{Machine, outcomeAt, nextOf}
+use Rattle.model.specs.declared.Reply.{Reply}
 use Rattle.model.specs.declared.Outcome.{Outcome}
 use Rattle.model.proofs.Agree.{refusal-agree, alike-next}
 use Rattle.model.proofs.Frame.{count-next, shaped-next}
@@ -67,7 +68,7 @@ module _ (base : ℕ) (m n : Machine) (p : Shaped (m .state)) (q : Shaped (n .st
         let o = outcomeAt base m (Step h) in
         ap₂ (λ (pc : ℕ) (f : Bool). told r pc f (wordAt base m h) o (rdAt base m h) (valueAfter base m h)) same-pc same-fetched
         ∙ ap₂ (λ (w : ℕ) (x : Outcome). told r (pcAt base n h) (fetchable base n h) w x (rdAt base m h) (valueAfter base m h)) same-word
-        (alike-next base m n p q a (Step h) .0)
+        (ap (λ (y : Reply). y .outcome) (alike-next base m n p q a (Step h) .0))
         ∙ ap₂ (λ (d v : ℕ). told r (pcAt base n h) (fetchable base n h) (wordAt base n h) (outcomeAt base n (Step h)) d v) same-rd same-value
 
   told-alike : (read : Reading) → Counted (m .state .count) read → toldOf base m read ≡ toldOf base n read

@@ -10,7 +10,7 @@ use Rattle.machine.proofs.StateLaws.{refusal-0}
 use Rattle.events.specs.Events.{checkedOf, eventsOf}
 use Rattle.events.specs.declared.Event.{Event}
 use Rattle.events.specs.declared.Checked.the-variants.{Good}
-use Rattle.model.specs.Perform.{Machine, nextOf, outcomeAt}
+use Rattle.model.specs.Perform.{Machine, nextOf, replyAt}
 use Rattle.model.specs.Valid.{Valid}
 use Rattle.casefile.specs.Case.{caseOf, SoundCaseAs}
 use Rattle.casefile.specs.declared.Found.the-variants.{Bodies}
@@ -25,7 +25,7 @@ lines-unrefused : (base : ℕ) (m : Machine) (k : ℕ) (es : List Event) → Non
 unfolding NoneRefused UnrefusedLines linesOf
 lines-unrefused base m k [] f = refl
 lines-unrefused base m k (e ∷ es) f =
-    (outcomeAt base m e, f .0, linesOf base (nextOf base m e) (suc k) es, refl, lines-unrefused base (nextOf base m e) (suc k) es (f .1))
+    (replyAt base m e, f .0, linesOf base (nextOf base m e) (suc k) es, refl, lines-unrefused base (nextOf base m e) (suc k) es (f .1))
 
 -- a file whose memory body starts at m and whose events body at e
 module _ (file : List ℕ) (m e : ℕ) (read : caseOf file .found ≡ Bodies m e) where

@@ -9,7 +9,7 @@ use Rattle.word.specs.Memory.{part}
 use Rattle.events.specs.declared.Event.{Event}
 use Rattle.model.specs.Perform.{Machine}
 use Rattle.model.specs.Retired.{Refuses}
-use Rattle.model.specs.declared.Outcome.{Outcome}
+use Rattle.model.specs.declared.Reply.{Reply}
 use Rattle.casefile.specs.Case.{caseOf}
 use Rattle.lines.specs.Lines.{lineOf}
 use Rattle.report.specs.Report.{caseLine, endLine}
@@ -22,7 +22,7 @@ machineOf file m e = record { state = caseOf file .state; mem = part file m (e -
 unfoldable pub UnrefusedLines : ℕ → List Event → List ℕ → Type 0
 UnrefusedLines k [] text = text ≡ []
 UnrefusedLines k (e ∷ es) text =
-    (o : Outcome) × (Refuses o → ⊥) × (rest : List ℕ) × (text ≡ lineOf k e o ++ rest) × UnrefusedLines (suc k) es rest
+    (r : Reply) × (Refuses (r .outcome) → ⊥) × (rest : List ℕ) × (text ≡ lineOf k e r ++ rest) × UnrefusedLines (suc k) es rest
 
 -- the text is the first line of a case, a line without a refusal for each of its events, and the last line
 pub record UnrefusedReport (harts bytes : ℕ) (events : List Event) (text : List ℕ) : Type 0 where

@@ -54,7 +54,7 @@ pub fn put_end(out: &mut [u8], at: usize, events: u64) -> usize
 
 // All lines of a case whose events are body. Its memory is what stands in the buffer from `from` on, which the lines don't reach.
 fn put_lines_of_case(out: &mut [u8], from: usize, s: State, base: u64, body: &[u8]) -> usize
-    requires { ⌜ (115 + 90 * (length (now body) / 24) ≤ from) × (from ≤ length (now out)) ⌝ }
+    requires { ⌜ (115 + 95 * (length (now body) / 24) ≤ from) × (from ≤ length (now out)) ⌝ }
     requires { ⌜ refusalOf base (length (now out) - from) s ≡ 0 ⌝ }
     ensures { λ r. ⌜ Put (now (out .entry)) 0 (linesOfCase base s (drop from (now (out .entry))) (now (body .entry))) (now (out .exit)) r ⌝ }
     ensures { λ r. ⌜ r ≤ from ⌝ }
@@ -68,7 +68,7 @@ fn put_lines_of_case(out: &mut [u8], from: usize, s: State, base: u64, body: &[u
 }
 
 // The report of a file whose memory body and events body start at these places. The memory is copied to the end of the buffer, since events
-// write to it: an event has 24 bytes in the file and a line at most 90 in the buffer, which has four times the room, so no line reaches it.
+// write to it: an event has 24 bytes in the file and a line at most 95 in the buffer, which has four times the room, so no line reaches it.
 fn put_bodies(
     out: &mut [u8],
     file: &[u8],

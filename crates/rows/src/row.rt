@@ -74,8 +74,9 @@ fn perform(
     let kept = *t;
     let first = reg(x, h, rd);
     let second = reg(x, h, rd % 32 + 1);
-    let o = advance(x, pc, t, count, base, mem, Event::Step { hart: h });
-    let told = judge(o, r, rd, reg(x, h, rd));
+    let reply = advance(x, pc, t, count, base, mem, Event::Step { hart: h });
+    let outcome = reply.outcome;
+    let told = judge(outcome, r, rd, reg(x, h, rd));
     match told {
         Told::Agrees => {}
         Told::Stops(_) => {

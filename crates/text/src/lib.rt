@@ -4,7 +4,7 @@ ghost use mathlib.Core.List.{_∷_, []};
 ghost use Prim.Native.Nat.{_+_, _≤_, _<_};
 ghost use lib.ListN.{length};
 ghost use Rattle.text.specs.Put.{Put};
-ghost use Rattle.text.specs.Number.{glyph, decimalOf, hexOf};
+ghost use Rattle.text.specs.Number.{glyph, decimalOf, hexFrom};
 
 // One byte.
 pub fn put_byte(out: &mut [u8], at: usize, b: u8) -> usize
@@ -76,19 +76,19 @@ pub fn put_decimal(out: &mut [u8], at: usize, n: u64) -> usize
     past
 }
 
-// n in 16 hexadecimal digits, from the last back to the first. A table of their characters is faster than a test of each digit.
-pub fn put_hex16(out: &mut [u8], at: usize, n: u64) -> usize
-    requires { ⌜ at + 16 ≤ length (now out) ⌝ }
-    ensures { λ r. ⌜ Put (now (out .entry)) at (hexOf n) (now (out .exit)) r ⌝ }
-    ensures { λ r. ⌜ r ≡ at + 16 ⌝ }
+// The last k hexadecimal digits of n, from the last back to the first. A table of their characters is faster than a test of each digit.
+pub fn put_hex(out: &mut [u8], at: usize, n: u64, k: usize) -> usize
+    requires { ⌜ at + k ≤ length (now out) ⌝ }
+    ensures { λ r. ⌜ Put (now (out .entry)) at (hexFrom k n) (now (out .exit)) r ⌝ }
+    ensures { λ r. ⌜ r ≡ at + k ⌝ }
 {
     let digits = b"0123456789abcdef";
-    let mut i = 16;
+    let mut i = k;
     let mut rest = n;
     while 0 < i {
         i -= 1;
         out[at + i] = digits[(rest % 16) as usize];
         rest /= 16;
     }
-    at + 16
+    at + k
 }

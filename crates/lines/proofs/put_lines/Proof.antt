@@ -16,7 +16,7 @@ use Rattle.model.proofs.Valid.{valid-next}
 use Rattle.model.proofs.AdvanceLaws.{lent-same, lent-valid, event-cut, run-more}
 use Rattle.lines.specs.Lines.{linesOf}
 use Rattle.lines.proofs.LineLaws.{lines-none, lines-more}
-use Rattle.lines.proofs.BehindLaws.{front-length, front-behind, front-put, lent-behind, advances-as}
+use Rattle.lines.proofs.BehindLaws.{front-length, front-behind, front-put, lent-behind, advances-as, reply-same}
 use Rattle.lines.proofs.BehindLaws.{back, back-length, back-within, back-behind, back-put}
 use borrow.Author.Needs.{needs}
 use Rattle.lines.proofs.put_lines.Statement.{statement}
@@ -26,7 +26,7 @@ abbrev Inv-loop : tie.InvT-loop
 Inv-loop out₀ at from base body count x₀ pc₀ t₀ n p₀ i₀ out x pc t p i =
     (i ≤ n)
     × (length out ≡ length out₀)
-    × (p ≤ at + 90 * i)
+    × (p ≤ at + 95 * i)
     × Valid base (inParts count x pc t (drop from out))
     × ((o : List ℕ) (r : ℕ)
     → Put out p (linesOf base (inParts count x pc t (drop from out)) i (firstEvents (n - i) (drop (i * 24) body))) o r
@@ -151,7 +151,7 @@ loop-again c =
       front-length out (line .last .0) (a .from) w (line .kept .0) ∙ back-length (l .out) mem (a .from) (within turn) kept ∙ l .inv .1,
       omega (arith, line .ensures .1),
       subst (Valid (a .base)) (sym q) (valid-next (a .base) here (l .inv .3) (read .result)),
-      λ o r y. l .inv .4 o r (as-text (sym (lines-more (a .base) here _ n (l .i) body (read .result) _ (omega arith) e (more .outcome) q)) (then put y)),
+      λ o r y. l .inv .4 o r (as-text (sym (lines-more (a .base) here _ n (l .i) body (read .result) _ (omega arith) e (reply-same more) q)) (then put y)),
       run-more (a .base) here n (l .i) body (omega arith) e q ∙ l .inv .5,
     )
 

@@ -16,15 +16,15 @@ put-decimal-requires c κs = search needs
 put-byte-requires : tie.Need-put-byte-requires
 put-byte-requires c κs = search needs
 
-put-hex16-requires : tie.Need-put-hex16-requires
-put-hex16-requires c κs = search needs
+put-hex-requires : tie.Need-put-hex-requires
+put-hex-requires c κs = search needs
 
 same-length : tie.Need-same-length
 same-length c = search needs
 
 returns : tie.Need-returns
 returns c =
-    let hex = c .before .before .put-hex16 .ensures in
+    let hex = c .before .before .put-hex .ensures in
     let space = c .before .before .before .before .before .before in
     let number = space .before .before .before .before in
     let trap = number .before .before .before .before in (
@@ -40,6 +40,6 @@ put-trap-spec =
     put-bytes-requires
     put-decimal-requires
     put-byte-requires
-    put-hex16-requires
+    put-hex-requires
     same-length
     returns)

@@ -62,7 +62,7 @@ returns-3 c =
         answer = c .code-of .ensures ∙ ap (λ (a : Answer). codeOf (a .outcome)) p;
         value =
             c .before .before .before .store-le .ensures
-            ∙ ap₂ toLe (sized .if2 .left) (c .before .before .before .before .value-of .ensures ∙ ap (λ (a : Answer). valueOf (a .outcome)) p);
+            ∙ ap₂ toLe (sized .if2 .left) (c .before .before .before .before .value-of .ensures ∙ ap (λ (a : Answer). valueOf (a .outcome) (a .broke)) p);
         bytes = event-written (x .state .now) _ _ p _ (written .before .before .is-retired .ensures) _ (written .write-if .ensures);
         memory = done .perform .ensures .1 ∙ ap (λ (s : State). memoryOf (x .base) (x .mem .now) s (x .e)) read;
       };

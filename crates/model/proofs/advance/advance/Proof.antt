@@ -29,6 +29,9 @@ returns c =
     let stepped = c .before .before .step-hart .ensures in
     rw (c .before .before .before .before .before .before .before .before .before .e .given .1) stepped
 
+refused-requires : tie.Need-refused-requires
+refused-requires c κs = search needs
+
 enum-known-e-2 : tie.Need-enum-known-e-2
 enum-known-e-2 c = search needs
 
@@ -47,14 +50,18 @@ returns-2 c =
     let start = c .before .before .before .before .before .before .before in
     let yield = c .before .before .before .before .e3 .given in
     let is : Acts start (release (yield .0 .0)) = rw (yield .1, lt-ltb _ _ (c .before .before .if2 .taken)) in
-    advances _ _ (start .pre) _ is (c .release-hart .ensures .0) refl refl (c .release-hart .ensures .1) refl
+    advances _ _ (start .pre) _ is (c .release-hart .ensures .0 .0) (c .release-hart .ensures .0 .1) refl refl (c .release-hart .ensures .1) refl
+
+refused-requires-2 : tie.Need-refused-requires-2
+refused-requires-2 c κs = search needs
 
 returns-3 : tie.Need-returns-3
 unfolding actOn leaves
 returns-3 c =
-    let start = c .before .before .before .before .before in
-    let is : Acts start (refuse 3) = rw (c .before .before .e .given .1, le-ltb _ _ (c .if1 .left)) in
-    advances _ _ (start .pre) _ is refl refl refl refl refl
+    let start = c .before .before .before .before .before .before in
+    let told = c .refused .ensures in
+    let is : Acts start (refuse 3) = rw (c .before .before .before .e .given .1, le-ltb _ _ (c .before .if1 .left)) in
+    advances _ _ (start .pre) _ is (told .0) (told .1) refl refl refl refl
 
 same-length-2 : tie.Need-same-length-2
 same-length-2 c = search needs
@@ -67,14 +74,15 @@ returns-4 c =
     let a = start .args in
     let write = c .before .before .before .before .before .before .e2 .given in
     let is : Acts start (deviceOf (a .base) (a .mem .now) (write .0 .0) (write .0 .1 .0) (write .0 .1 .1 .0)) = rw (write .1) in
-    advances _ _ (start .pre) _ is (w .0) (sym (device-registers _ _ _ _ _ _)) (sym (device-pcs _ _ _ _ _ _)) (w .1 .0) (w .1 .1)
+    advances _ _ (start .pre) _ is (w .0) (w .1 .0) (sym (device-registers _ _ _ _ _ _)) (sym (device-pcs _ _ _ _ _ _)) (w .1 .1 .0) (w .1 .1 .1)
 
 returns-5 : tie.Need-returns-5
 unfolding actOn leaves
 returns-5 c =
-    let start = c .before .before .before .before .before in
-    let is : Acts start (refuse 3) = rw (c .before .before .e3 .given .1, le-ltb _ _ (c .if2 .left)) in
-    advances _ _ (start .pre) _ is refl refl refl refl refl
+    let start = c .before .before .before .before .before .before in
+    let told = c .refused2 .ensures in
+    let is : Acts start (refuse 3) = rw (c .before .before .before .e3 .given .1, le-ltb _ _ (c .before .if2 .left)) in
+    advances _ _ (start .pre) _ is (told .0) (told .1) refl refl refl refl
 
 pub advance-spec : {M : Type 1} → statement M
 advance-spec =
@@ -84,11 +92,13 @@ advance-spec =
     step-hart-requires
     same-length
     returns
+    refused-requires
     enum-known-e-2
     write-device-requires
     enum-known-e-3
     release-hart-requires
     returns-2
+    refused-requires-2
     returns-3
     same-length-2
     returns-4

@@ -8,7 +8,9 @@ release-requires : tie.Need-release-requires
 release-requires c κs = search needs
 
 returns : tie.Need-returns
-returns c = (refl, ap (λ (o : Observed). o .slots) (c .release .ensures 64))
+returns c =
+    let seen = c .release .ensures 64 in
+    ((refl, ap (λ (o : Observed). o .broken) seen), ap (λ (o : Observed). o .slots) seen)
 
 pub release-hart-spec : {M : Type 1} → statement M
 release-hart-spec = tie.close (tie.spec release-requires returns)

@@ -1,6 +1,6 @@
 use mathlib.Core.Path.{refl, ap}
 use Rattle.reserve.specs.Reserve.{Observed}
-use Rattle.model.specs.Advance.{slotsBy, outcomeBy}
+use Rattle.model.specs.Advance.{slotsBy, brokenBy, outcomeBy}
 use borrow.Author.Needs.{needs}
 use Rattle.model.proofs.advance.settle.Statement.{statement}
 use Rattle.model.proofs.advance.settle.Tie as tie
@@ -18,12 +18,15 @@ enum-known-d-2 : tie.Need-enum-known-d-2
 enum-known-d-2 c = search needs
 
 returns : tie.Need-returns
-unfolding outcomeBy slotsBy
-returns c = rw (c .before .before .before .before .d .given .1) (c .retired-as .ensures, ap (λ (o : Observed). o .slots) (c .before .observe .ensures))
+unfolding outcomeBy brokenBy slotsBy
+returns c =
+    let seen = c .before .observe .ensures in
+    rw (c .before .before .before .before .d .given .1)
+    ((c .retired-as .ensures, ap (λ (o : Observed). o .broken) seen), ap (λ (o : Observed). o .slots) seen)
 
 returns-2 : tie.Need-returns-2
-unfolding outcomeBy slotsBy
-returns-2 c = rw (c .before .d2 .given .1) (refl, refl)
+unfolding outcomeBy brokenBy slotsBy
+returns-2 c = rw (c .before .d2 .given .1) ((refl, refl), refl)
 
 pub settle-spec : {M : Type 1} → statement M
 settle-spec =

@@ -9,8 +9,8 @@ use Rattle.effect.specs.Effect as E
 use Rattle.effect.specs.Execute.{regAt}
 use Rattle.events.specs.declared.Event.the-variants.{Step}
 use Rattle.model.specs.Perform.{fetchOf, stepOf, ofExec, actOn}
-use Rattle.model.specs.Advance.{inParts, registersBy, pcsBy, slotsBy, outcomeBy}
-use Rattle.model.proofs.AdvanceLaws.{registers-done, pcs-done, slots-done, outcome-done, leaves-done, advances}
+use Rattle.model.specs.Advance.{inParts, registersBy, pcsBy, slotsBy, brokenBy, outcomeBy}
+use Rattle.model.proofs.AdvanceLaws.{registers-done, pcs-done, slots-done, broken-done, outcome-done, leaves-done, advances}
 use borrow.Author.Needs.{needs}
 use Rattle.model.proofs.advance.step_hart.Statement.{statement}
 use Rattle.model.proofs.advance.step_hart.Tie as tie
@@ -56,7 +56,8 @@ returns c =
     let d = f .answer ∙ ap (E.doneOf h) same in
     let is : actOn (a .base) (m .mem) (m .state) (Step h) ≡ ofExec h e = rw (lt-ltb h (a .count) (start .pre .1)) in
     advances (a .base) m (start .pre .0) (Step h) is
-    (settled .0 ∙ ap outcomeBy d ∙ outcome-done h e)
+    (settled .0 .0 ∙ ap outcomeBy d ∙ outcome-done h e)
+    (settled .0 .1 ∙ ap (λ (r : Done). brokenBy (a .count) r (m .state .res)) d ∙ broken-done h e (a .count) (m .state .res))
     (moved .0 ∙ ap (λ (r : Done). registersBy h r (m .state .x)) d ∙ registers-done h e (m .state .x))
     (moved .1 ∙ ap (λ (r : Done). pcsBy h r (m .state .pc)) d ∙ pcs-done h e (m .state .pc))
     (settled .1 ∙ ap (λ (r : Done). slotsBy (a .count) r (m .state .res)) d ∙ slots-done h e (a .count) (m .state .res))

@@ -13,25 +13,38 @@ use borrow.Author.Needs.{needs}
 use Rattle.model.proofs.advance.write_device.Statement.{statement}
 use Rattle.model.proofs.advance.write_device.Tie as tie
 
+refused-requires : tie.Need-refused-requires
+refused-requires c κs = search needs
+
 returns : tie.Need-returns
 unfolding deviceOf leaves
-returns c = rw (lt-leb 1 (c .before .before .args .size) (omega arith)) (refl, (refl, refl))
+returns c =
+    let told = c .refused .ensures in
+    rw (lt-leb 1 (c .before .before .before .args .size) (omega arith)) (told .0, (told .1, (refl, refl)))
+
+refused-requires-2 : tie.Need-refused-requires-2
+refused-requires-2 c κs = search needs
 
 returns-2 : tie.Need-returns-2
 unfolding deviceOf leaves
 returns-2 c =
-    let size = c .before .before .before .args .size in
-    rw (le-leb 1 size (omega arith), lt-leb size 8 (c .if2 .taken)) (refl, (refl, refl))
+    let size = c .before .before .before .before .args .size in
+    let told = c .refused2 .ensures in
+    rw (le-leb 1 size (omega arith), lt-leb size 8 (c .before .if2 .taken)) (told .0, (told .1, (refl, refl)))
 
 inside-requires : tie.Need-inside-requires
 inside-requires c κs = search needs
 
+refused-requires-3 : tie.Need-refused-requires-3
+refused-requires-3 c κs = search needs
+
 returns-3 : tie.Need-returns-3
 unfolding deviceOf leaves
 returns-3 c =
-    let size = c .before .before .before .before .before .args .size in
-    let outside = sym (c .before .inside .ensures) ∙ not-true _ (c .if3 .taken) in
-    rw (le-leb 1 size (omega arith), le-leb size 8 (omega arith), outside) (refl, (refl, refl))
+    let size = c .before .before .before .before .before .before .args .size in
+    let outside = sym (c .before .before .inside .ensures) ∙ not-true _ (c .before .if3 .taken) in
+    let told = c .refused3 .ensures in
+    rw (le-leb 1 size (omega arith), le-leb size 8 (omega arith), outside) (told .0, (told .1, (refl, refl)))
 
 sub-store-at : tie.Need-sub-store-at
 sub-store-at c = let i = inside-of _ _ _ _ (sym (c .before .before .inside .ensures) ∙ not-false _ (c .before .if3 .left)) in omega arith
@@ -55,15 +68,18 @@ returns-4 c =
     let seen : ℕ → Observed = λ k. observeAllOf 64 (a .count) (DeviceWrite (a .addr) k) (slotsIn (a .t .now)) in
     let q = c .device-write .ensures ∙ ap seen (sym (length-toLe (a .size) (a .value))) in
     rw (le-leb 1 (a .size) (omega arith), le-leb (a .size) 8 (omega arith), inside)
-    (refl, (ap (λ (o : Observed). o .slots) q, store .store-at .ensures))
+    (refl, (ap (λ (o : Observed). o .broken) q, (ap (λ (o : Observed). o .slots) q, store .store-at .ensures)))
 
 pub write-device-spec : {M : Type 1} → statement M
 write-device-spec =
     tie.close
     (tie.spec
+    refused-requires
     returns
+    refused-requires-2
     returns-2
     inside-requires
+    refused-requires-3
     returns-3
     sub-store-at
     store-at-requires
