@@ -1,4 +1,5 @@
 -- What the contracts of `capi` come to for a caller.
 pub mod Means
 pub mod Stops
+pub mod Values
 pub mod ReplayMeans

@@ -99,7 +99,7 @@ module _ (base : ℕ) (s : State) (t mem : List ℕ) (packed : slotsIn t ≡ s .
       let b = subst (λ (m : Machine). Advances base e m r m′) lent-same a in
       let after = ap (λ (m : Machine). m .state) (b .machine) in (
         ap₂ (λ (o : Outcome) (k : ℕ). record { outcome = o; broke = k; state = m′ .state }) (b .outcome) (b .broke)
-        ∙ ap (λ (n : State). record { outcome = answerOf base mem s e .outcome; broke = answerOf base mem s e .broke; state = n }) after,
+            ∙ ap (λ (n : State). record { outcome = answerOf base mem s e .outcome; broke = answerOf base mem s e .broke; state = n }) after,
         ap (λ (m : Machine). m .mem) (b .machine),
       )
 

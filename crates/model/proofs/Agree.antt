@@ -191,7 +191,7 @@ module _ (base : ℕ) where
   alike-next m n p q a e =
       let one = agree-event base (m .mem) (m .state) (n .state) (a .states) p q e in (
         ap₂ (λ (o : Outcome) (k : ℕ). record { outcome = o; broke = k }) (one .0) (one .1)
-        ∙ ap (λ (mem : List ℕ). replyAt base (record { state = n .state; mem = mem }) e) (a .memory),
+            ∙ ap (λ (mem : List ℕ). replyAt base (record { state = n .state; mem = mem }) e) (a .memory),
         record {
           memory = one .2 ∙ ap (λ (mem : List ℕ). memoryOf base mem (n .state) e) (a .memory);
           states = rw (← a .memory) (one .3);

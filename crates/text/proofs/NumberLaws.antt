@@ -156,7 +156,8 @@ decimal-front (suc k) n some h = go (ltb n 10) refl (λ l. decimal-front k (n / 
     go true t f = rw t (omega arith)
     go false t f = first-append (decimalFrom k (n / 10)) (glyph (n % 10) ∷ []) (f (ltb-false n 10 t))
 
-hex-numeral : (k n : ℕ) → n < 16 ^ k → Numeral 16 n (hexFrom k n)
+-- k digits hold a number below 16 ^ k
+pub hex-numeral : (k n : ℕ) → n < 16 ^ k → Numeral 16 n (hexFrom k n)
 unfolding hexFrom
 hex-numeral zero n h = record { digits = tt; value = omega arith }
 hex-numeral (suc k) n h =

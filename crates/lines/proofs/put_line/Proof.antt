@@ -37,9 +37,15 @@ returns c =
     let number = space .before .before .before .before in (
       then (number .put-decimal .ensures .0)
           (then (space .put-byte .ensures) (then (who .put-who .ensures .0) (then (said .put-said .ensures .0) (then (broke .put-broke .ensures .0) feed)))),
-      omega
-          (arith, number .put-decimal .ensures .1, space .put-byte .ensures .end, who .put-who .ensures .1, said .put-said .ensures .1,
-          broke .put-broke .ensures .1, feed .end),
+      omega (
+        arith,
+        number .put-decimal .ensures .1,
+        space .put-byte .ensures .end,
+        who .put-who .ensures .1,
+        said .put-said .ensures .1,
+        broke .put-broke .ensures .1,
+        feed .end,
+      ),
     )
 
 pub put-line-spec : {M : Type 1} → statement M

@@ -1,0 +1,3 @@
+-- Who lost a reservation to an event.
+pub mod Broken
+pub mod Shown

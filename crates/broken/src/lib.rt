@@ -1,0 +1,1 @@
+// Theorems only: who lost a reservation to an event, in words.
