@@ -27,25 +27,43 @@ static void start(void)
     machine.state.x[1][8] = 0x12345678;
 }
 
+/* The harts whose reservation an event broke, if it broke any: as on the line of a report, and by name. */
+static void show_broke(const floecavern_outcome *o)
+{
+    if (o->broke == 0)
+        return;
+    printf(" broke %02" PRIx64 " (", o->broke);
+    const char *between = "";
+    for (size_t h = 0; h < machine.state.count; h++)
+        if (floecavern_broke(o, h)) {
+            printf("%sh%zu", between, h);
+            between = " ";
+        }
+    printf(")");
+}
+
 static void show(const char *what, floecavern_outcome o)
 {
+    printf("%s: ", what);
     switch (o.kind) {
     case FLOECAVERN_RETIRED:
-        printf("%s: retired\n", what);
+        printf("retired");
         break;
     case FLOECAVERN_SC_STORED:
-        printf("%s: sc stored\n", what);
+        printf("sc stored");
         break;
     case FLOECAVERN_SC_FAILED:
-        printf("%s: sc failed\n", what);
+        printf("sc failed");
         break;
     case FLOECAVERN_TRAP:
-        printf("%s: trap %d %016" PRIx64 " (%s)\n", what, (int)o.cause, o.value, floecavern_cause_text(o.cause));
+        printf("trap %d %016" PRIx64 " (%s)", (int)o.cause, o.value, floecavern_cause_text(o.cause));
         break;
     case FLOECAVERN_REFUSED:
-        printf("%s: refused %d (%s)\n", what, (int)o.refusal, floecavern_refusal_text(o.refusal));
+        printf("refused %d (%s)", (int)o.refusal, floecavern_refusal_text(o.refusal));
         break;
     }
+    show_broke(&o);
+    printf("\n");
 }
 
 static void step(const char *what, size_t hart)
@@ -105,6 +123,11 @@ int main(void)
            machine.state.reservation[1].addr);
     show("h1 yields", floecavern_machine_yield_hart(&machine, 1));
     step("h1 sc.w", 1);
+
+    start();
+    step("h0 lr.w", 0);
+    step("h1 lr.w", 1);
+    device_write("a byte at 67", 67, 1, 0xff);
 
     floecavern_event events[] = {floecavern_event_step(0), floecavern_event_device_write(72, 1, 0xff),
                                  floecavern_event_step(1), floecavern_event_step(1), floecavern_event_step(0)};

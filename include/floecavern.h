@@ -27,9 +27,9 @@
 #include <string.h>
 
 /* The version of this interface: of this header, of rust/ and of python/ alike. */
-#define FLOECAVERN_VERSION "0.4.0"
+#define FLOECAVERN_VERSION "0.5.0"
 #define FLOECAVERN_VERSION_MAJOR 0
-#define FLOECAVERN_VERSION_MINOR 4
+#define FLOECAVERN_VERSION_MINOR 5
 #define FLOECAVERN_VERSION_PATCH 0
 
 /* A condition that must hold where this is compiled: name is an identifier that no other assertion has. */
@@ -70,7 +70,8 @@ extern "C" {
  * 11 the events' length is not a multiple of 24 (their start), or an event is wrong (the event's start).
  *
  * Lines: `case H harts B bytes E events`; for event N `N hH ok`, `N hH sc 0`, `N hH sc 1`, `N hH trap CAUSE VALUE`,
- * `N d ok` or `N yH ok`; `end E`.
+ * `N d ok` or `N yH ok`; `end E`. Where the event broke reservations, `N hH ok`, `N hH sc 0` and `N d ok` have
+ * ` broke XX` behind them: the harts that held them, two lower-case hex digits, bit 0 for hart 0.
  *
  * Answers how many bytes of out are the report: at most FLOECAVERN_REPORT_ROOM. No 0 byte ends them. What stands in
  * out between the report and FLOECAVERN_REPORT_ROOM is unspecified; what stands behind that is as it was.
@@ -162,13 +163,21 @@ FLOECAVERN_ASSERT(reservations_stand_at_2120, offsetof(floecavern_state, reserva
  * of 0 or more than 8 bytes; 5 one not wholly in memory; 11, of a run alone: its events; 12 and 13, of a replay alone: its
  * log.
  *
- * What is written. value gets 8 bytes, the lowest first: a trap's value, and 0 with every other answer but
- * FLOECAVERN_BAD_SIZE. A retired event changes state and memory as the model says: of the state, the registers and the
- * pcs, and each used hart's reservation, of which it writes held 1, addr and width, or three zeros, also where it is as
- * before. The count never changes, and no byte of a hart at or above it. An answer of 256 or more to an event or a run
- * leaves every byte of state and memory as it was; FLOECAVERN_BAD_SIZE leaves value too. After each call the bytes mean
- * the state that the model's answer has, so calls one after another perform events one after another
+ * What is written. value gets 8 bytes, the lowest first: of a retired event, answers 0 to 2, the harts whose
+ * reservation it broke, bit 0 for hart 0, so 0 where it broke none; of a trap, the trap's value; of a refusal, 0. A
+ * retired event changes state and memory as the model says: of the state, the registers and the pcs, and each used
+ * hart's reservation, of which it writes held 1, addr and width, or three zeros, also where it is as before. The count
+ * never changes, and no byte of a hart at or above it. An answer of 256 or more to an event or a run leaves every byte
+ * of state and memory as it was; FLOECAVERN_BAD_SIZE leaves value too. After each call the bytes mean the state that
+ * the model's answer has, so calls one after another perform events one after another
  * (crates/capi_means/proofs/Means.antt).
+ *
+ * Whose reservation is broken. A retired write of a hart (a store, an AMO, an equal AMOCAS, an SC that stored) breaks a
+ * reservation of another hart if it touches a byte of its set, the aligned 64 bytes around the LR's address. A device
+ * write breaks a hart's reservation if it touches a byte that the LR read. Both do also where they write the bytes that
+ * were there. A step never sets the bit of its own hart, also where it drops that hart's reservation (an SC) or
+ * replaces it (an LR). So value is 0 after a retired event that writes nothing: a load, an LR, an unequal AMOCAS,
+ * FLOECAVERN_SC_FAILED, a yield. A run and a replay do not tell what their events broke.
  *
  * A memory of a wrong length, as a wrong base, is refusal 1 and no bad size.
  *
@@ -265,8 +274,9 @@ typedef enum {
 /* ---- The typed form ----
  *
  * Inline functions over the seven above. Sizes are right by type; a NULL or a length that no buffer can have is refused
- * by the model's own number, as each function says. What is asked is that machine, text, event and bytes are not NULL,
- * that a length is that of the buffer before it, and that a machine, its memory and a text overlap no other argument. */
+ * by the model's own number, as each function says. What is asked is that machine, text, event, outcome and bytes are
+ * not NULL, that a length is that of the buffer before it, and that a machine, its memory and a text overlap no other
+ * argument. */
 #if defined(__GNUC__)
 #define FLOECAVERN_INLINE static __inline__
 #elif defined(__cplusplus) || (defined(__STDC_VERSION__) && __STDC_VERSION__ >= 199901L)
@@ -369,13 +379,25 @@ FLOECAVERN_INLINE const char *floecavern_reason_text(uint64_t reason)
     }
 }
 
-/* What an event came to. cause and value are a trap's, refusal is a refusal's; they are 0 with every other kind. */
+/* What an event came to. cause and value are a trap's, refusal is a refusal's; they are 0 with every other kind.
+ *
+ * broke is the harts whose reservation the event broke, bit 0 for hart 0; 0 with a trap and a refusal. What counts is a
+ * retired write of another hart that touches a byte of the set, and a device write that touches a byte that the LR
+ * read; never an event of the hart itself. A yield, an LR and an SC that failed break none of another hart's. */
 typedef struct {
     floecavern_kind kind;
     floecavern_cause cause;
     floecavern_refusal refusal;
     uint64_t value;
+    uint64_t broke;
 } floecavern_outcome;
+
+/* Whether an event broke the reservation of a hart: 1 or 0. 0 also for a hart that no machine has. */
+FLOECAVERN_INLINE int floecavern_broke(const floecavern_outcome *outcome, size_t hart)
+{
+    /* A shift by 64 or more is undefined. */
+    return hart < 64 && (outcome->broke >> hart & 1) != 0;
+}
 
 /* What a run did: how many events it performed; or, if refusal is not FLOECAVERN_REFUSAL_NONE, none, and the place of
  * refusal 11, counted in bytes from the first event (0 with 1 and 2). */
@@ -508,6 +530,7 @@ FLOECAVERN_INLINE floecavern_outcome floecavern_outcome_of(uint64_t answer, cons
         outcome.refusal = (floecavern_refusal)FLOECAVERN_NUMBER(answer);
     } else {
         outcome.kind = (floecavern_kind)answer;
+        outcome.broke = floecavern_number(value);
     }
     return outcome;
 }

@@ -12,6 +12,7 @@ FLOECAVERN_SO names a shared object at another place; a relative name counts fro
     machine.state.x[0][5] = 64
     machine.step(0)                                             # floecavern.RETIRED
     machine.state.reservation(0)                                # Reservation(addr=64, width=4)
+    floecavern.harts(machine.device_write(64, 1, 7).broke)      # (0,): hart 0's reservation is broken
 
 The names are those of include/floecavern.h and of rust/. What the model refuses is the exception Refused, and state and memory are as they
 were; a trap is an outcome. A value that isn't the model's at all is a TypeError or a ValueError before the library is called: a number that
@@ -26,7 +27,7 @@ import struct
 from dataclasses import dataclass
 from typing import NamedTuple, Optional
 
-__version__ = '0.4.0'
+__version__ = '0.5.0'
 
 BUILD = 'cc -shared -o target/libfloecavern.so -Wl,--whole-archive target/staticlib/libcapi.a -Wl,--no-whole-archive'
 ROOT = os.path.dirname(os.path.dirname(os.path.abspath(__file__)))
@@ -139,18 +140,34 @@ class Kind(enum.Enum):
 
 
 class Outcome(NamedTuple):
-    """The answer to an event that isn't refused. Of a trap it has the cause and the value; nothing has changed then."""
+    """The answer to an event that isn't refused. Of a trap it has the cause and the value; nothing has changed then.
+
+    `broke` is the harts whose reservation the event broke, bit 0 for hart 0; `harts` lists them. A retired write of another hart (a store, an
+    AMO, an equal AMOCAS, an SC that stored) breaks a reservation if it touches a byte of its set, the aligned 64 bytes around the LR's address;
+    a device write if it touches a byte that the LR read; both also where they write the bytes that were there. A step never sets the bit of its
+    own hart, also where it drops that hart's reservation (an SC) or replaces it (an LR). A yield, a trap and everything else that writes
+    nothing has 0. Two outcomes that differ in `broke` aren't equal: RETIRED, SC_STORED and SC_FAILED are those that broke none.
+    """
     kind: Kind
     cause: Optional[Cause] = None
     value: int = 0
+    broke: int = 0
 
     def __str__(self):
-        if self.kind is not Kind.TRAP:
-            return self.kind.name.lower().replace('_', ' ')
-        return 'trap %d %016x: %s' % (self.cause, self.value, self.cause.text)
+        """What it came to; behind it, as on a report's line, whose reservation was broken."""
+        text = self.kind.name.lower().replace('_', ' ')
+        if self.kind is Kind.TRAP:
+            text = 'trap %d %016x: %s' % (self.cause, self.value, self.cause.text)
+        return text + (' broke %02x' % self.broke if self.broke else '')
 
 
 RETIRED, SC_STORED, SC_FAILED = Outcome(Kind.RETIRED), Outcome(Kind.SC_STORED), Outcome(Kind.SC_FAILED)
+
+
+def harts(bits):
+    """The harts of a set such as `Outcome.broke`, the lowest first: harts(0b1001) is (0, 3)."""
+    bits = _number('set of harts', bits, MAX_HARTS)
+    return tuple(hart for hart in range(MAX_HARTS) if bits >> hart & 1)
 
 
 def trap(cause, value):
@@ -364,11 +381,12 @@ def _call(name, told, state, base, mem, *arguments):
 
 
 def _outcome(answer, numbers):
+    """What an event came to. The number told is a trap's value, or else whose reservation was broken."""
     if answer >= _REFUSED:
         raise Refused(answer - _REFUSED)
     if answer >= _TRAP:
         return trap(answer - _TRAP, numbers[0])
-    return Outcome(Kind(answer))
+    return Outcome(Kind(answer), broke=numbers[0])
 
 
 def step(state, base, mem, hart):
@@ -387,7 +405,8 @@ def yield_hart(state, base, mem, hart):
 
 
 def run(state, base, mem, events, budget=None):
-    """A run of the first `budget` events, or of all: how many that were. Traps don't stop it. Refusals 1, 2 and 11."""
+    """A run of the first `budget` events, or of all: how many that were. Traps don't stop it. Whose reservation they broke isn't told;
+    `Machine.perform` tells it of an event. Refusals 1, 2 and 11."""
     events = list(events)
     for event in events:
         if not isinstance(event, Event):

@@ -17,7 +17,7 @@ EVENTS = b'''\
 h0 lr.w: retired
 a byte at 72: retired
 h1 lr.w: retired
-h1 sc.w: sc stored
+h1 sc.w: sc stored broke 01 (h0)
 h0 sc.w: sc failed
 x7 of the harts: 1 0; the word at 64: 12345678
 h0 fetches a zero word: trap 2 0000000000000000 (illegal instruction)
@@ -28,6 +28,9 @@ h1 lr.w: retired
 h1 holds 4 bytes at 64
 h1 yields: retired
 h1 sc.w: sc failed
+h0 lr.w: retired
+h1 lr.w: retired
+a byte at 67: retired broke 03 (h0 h1)
 a run of 5 events: performed 5
 x7 of the harts: 1 0; the word at 64: 12345678
 with a budget of 2: performed 2
@@ -101,9 +104,10 @@ static void start(void)
     machine.state.x[0][5] = machine.state.x[1][5] = 4160;
 }
 
+/* An outcome that broke no reservation. */
 static int is(floecavern_outcome o, floecavern_kind kind, int cause, uint64_t value, int refusal)
 {
-    return o.kind == kind && (int)o.cause == cause && o.value == value && (int)o.refusal == refusal;
+    return o.kind == kind && (int)o.cause == cause && o.value == value && (int)o.refusal == refusal && o.broke == 0;
 }
 
 static int refused(floecavern_outcome o, int number)
@@ -131,6 +135,87 @@ static void outcomes(void)
     CHECK(refused(floecavern_machine_yield_hart(&machine, SIZE_MAX), FLOECAVERN_REFUSAL_HART));
     CHECK(refused(floecavern_machine_device_write(&machine, 4096, 9, 0), FLOECAVERN_REFUSAL_DEVICE_SIZE));
     CHECK(refused(floecavern_machine_device_write(&machine, 0, 1, 0), FLOECAVERN_REFUSAL_DEVICE_ADDRESS));
+}
+
+enum { LR = 0x1002a32f, SC = 0x1882a3af, SW = 0x0082a023, LW = 0x0002a303, AMOADD = 0x0082a4af, AMOCAS = 0x2882a4af };
+
+/* Four harts with the word at their pc, hart 1 with these registers; all else is 0. Harts 0, 1 and 2 hold the 4 bytes at 4160,
+ * hart 3 the 8 bytes at 4224. */
+static void contended(uint32_t word, uint64_t x5, uint64_t x9)
+{
+    static uint8_t wide[320];
+    size_t h;
+    memset(wide, 0, sizeof wide);
+    CHECK(floecavern_machine_start(&machine, 4, 4096, wide, sizeof wide) == FLOECAVERN_REFUSAL_NONE);
+    CHECK(floecavern_machine_put_words(&machine, 4096, &word, 1) == FLOECAVERN_REFUSAL_NONE);
+    for (h = 0; h < 4; h++) {
+        machine.state.reservation[h].held = 1;
+        machine.state.reservation[h].addr = h == 3 ? 4224 : 4160;
+        machine.state.reservation[h].width = h == 3 ? 8 : 4;
+    }
+    machine.state.x[1][5] = x5;
+    machine.state.x[1][9] = x9;
+    was = machine;
+}
+
+static floecavern_outcome stepped(uint32_t word, uint64_t x5, uint64_t x9)
+{
+    contended(word, x5, x9);
+    return floecavern_machine_step(&machine, 1);
+}
+
+static floecavern_outcome written(uint64_t addr, size_t size)
+{
+    contended(0, 0, 0);
+    return floecavern_machine_device_write(&machine, addr, size, 0);
+}
+
+/* A retired event broke the reservations of these harts, and those that hold one afterwards are left. */
+static int broke(floecavern_outcome o, floecavern_kind kind, uint64_t harts, uint64_t left)
+{
+    uint64_t held = 0;
+    size_t h;
+    for (h = 0; h < 4; h++)
+        held |= machine.state.reservation[h].held << h;
+    for (h = 0; h < 200; h++)
+        if (floecavern_broke(&o, h) != (h < 8 ? (int)(harts >> h & 1) : 0))
+            return 0;
+    return o.kind == kind && o.broke == harts && held == left && (int)o.cause == 0 && o.value == 0 && (int)o.refusal == 0;
+}
+
+static void breaks(void)
+{
+    static const uint8_t told[8] = {5};
+    uint8_t value[8];
+    floecavern_outcome o;
+    CHECK(broke(stepped(SW, 4160, 0), FLOECAVERN_RETIRED, 5, 10));
+    CHECK(broke(stepped(SW, 4220, 0), FLOECAVERN_RETIRED, 5, 10));
+    CHECK(broke(stepped(SW, 4224, 0), FLOECAVERN_RETIRED, 8, 7));
+    CHECK(broke(stepped(SW, 4156, 0), FLOECAVERN_RETIRED, 0, 15));
+    CHECK(broke(stepped(AMOADD, 4160, 0), FLOECAVERN_RETIRED, 5, 10));
+    CHECK(broke(stepped(AMOCAS, 4160, 0), FLOECAVERN_RETIRED, 5, 10));
+    CHECK(broke(stepped(SC, 4160, 0), FLOECAVERN_SC_STORED, 5, 8));
+    CHECK(broke(stepped(AMOCAS, 4160, 1), FLOECAVERN_RETIRED, 0, 15)); /* x9 and the memory are not equal */
+    CHECK(broke(stepped(LR, 4224, 0), FLOECAVERN_RETIRED, 0, 15) && machine.state.reservation[1].addr == 4224);
+    CHECK(broke(stepped(LW, 4160, 0), FLOECAVERN_RETIRED, 0, 15));
+    CHECK(broke(stepped(SC, 4224, 0), FLOECAVERN_SC_FAILED, 0, 13)); /* outside the set */
+    CHECK(broke(written(4164, 8), FLOECAVERN_RETIRED, 0, 15)); /* in the set, beside the bytes that the LR read */
+    CHECK(broke(written(4163, 1), FLOECAVERN_RETIRED, 7, 8));
+    CHECK(broke(written(4231, 1), FLOECAVERN_RETIRED, 8, 7));
+    contended(0, 0, 0);
+    CHECK(broke(floecavern_machine_yield_hart(&machine, 1), FLOECAVERN_RETIRED, 0, 13));
+    CHECK(is(stepped(SW, 4167, 0), FLOECAVERN_TRAP, FLOECAVERN_CAUSE_STORE_ADDRESS_MISALIGNED, 4167, 0));
+    CHECK(is(stepped(SW, 8192 + 4, 0), FLOECAVERN_TRAP, FLOECAVERN_CAUSE_STORE_ACCESS_FAULT, 8196, 0));
+    CHECK(memcmp(&machine, &was, sizeof was) == 0);
+    CHECK(refused(floecavern_machine_step(&machine, 4), FLOECAVERN_REFUSAL_HART));
+    CHECK(refused(written(4160, 9), FLOECAVERN_REFUSAL_DEVICE_SIZE));
+    /* The same number as bytes: all 8 of them are written. */
+    contended(SW, 4160, 0);
+    memset(value, 0xa5, sizeof value);
+    CHECK(floecavern_step((uint8_t *)&machine.state, sizeof machine.state, 4096, machine.mem, machine.mem_len, 1, value, 8) == FLOECAVERN_RETIRED);
+    CHECK(memcmp(value, told, sizeof told) == 0);
+    memset(&o, 0xff, sizeof o);
+    CHECK(floecavern_broke(&o, 63) == 1 && floecavern_broke(&o, 64) == 0 && floecavern_broke(&o, SIZE_MAX) == 0);
 }
 
 static void starts(void)
@@ -255,7 +340,7 @@ static void others(void)
     refused = floecavern_report_text(NULL, 40, &text);
     CHECK(refused.refusal == FLOECAVERN_REFUSAL_FILE_LENGTH && refused.place == 0);
     CHECK(text.len == 12 && memcmp(text.bytes, "refused 7 0\n", 12) == 0);
-    CHECK(FLOECAVERN_VERSION_MAJOR == 0 && FLOECAVERN_VERSION_MINOR == 4 && FLOECAVERN_VERSION_PATCH == 0);
+    CHECK(FLOECAVERN_VERSION_MAJOR == 0 && FLOECAVERN_VERSION_MINOR == 5 && FLOECAVERN_VERSION_PATCH == 0);
 }
 
 int main(int argc, char **argv)
@@ -265,6 +350,7 @@ int main(int argc, char **argv)
     size_t n = f == NULL ? 0 : fread(file, 1, sizeof file, f);
     uint64_t i;
     outcomes();
+    breaks();
     starts();
     runs();
     replays();
@@ -489,3 +575,5 @@ class Versions(unittest.TestCase):
         version = '.'.join(numbers)
         self.assertIn('#define FLOECAVERN_VERSION "%s"\n' % version, header)
         self.assertIn('\nversion = "%s"\n' % version, data(os.path.join(ROOT, 'rust', 'Cargo.toml')).decode())
+        for folder in ['rust', 'bench']:
+            self.assertIn('\nname = "floecavern"\nversion = "%s"\n' % version, data(os.path.join(ROOT, folder, 'Cargo.lock')).decode())

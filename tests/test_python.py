@@ -16,8 +16,8 @@ from common import EXAMPLE, EXAMPLE_LINES, ROOT, data, vector_pairs
 
 sys.path.insert(0, os.path.join(ROOT, 'python'))
 import floecavern
-from floecavern import (RETIRED, SC_FAILED, SC_STORED, Cause, Event, Machine, Reason, Refusal, Refused, Replayed, Reservation, State, Stop, StopKind,
-                        Verdict, check_loop, device_write, replay, report, report_text, run, run_bytes, step, trap, yield_hart)
+from floecavern import (RETIRED, SC_FAILED, SC_STORED, Cause, Event, Kind, Machine, Outcome, Reason, Refusal, Refused, Replayed, Reservation, State, Stop,
+                        StopKind, Verdict, check_loop, device_write, harts, replay, report, report_text, run, run_bytes, step, trap, yield_hart)
 
 LIBRARY = os.path.join(ROOT, 'target', 'staticlib', 'libcapi.a')
 LR, SC = 0x1002a32f, 0x1882a3af  # lr.w x6,(x5); sc.w x7,x8,(x5)
@@ -64,7 +64,7 @@ class Calls(Refuses):
         self.assertEqual(m.step(0), RETIRED)
         self.assertEqual(m.state.reservation(0), Reservation(64, 4))
         self.assertEqual(m.device_write(72, 1, 0xff), RETIRED)
-        self.assertEqual([m.step(1), m.step(1), m.step(0)], [RETIRED, SC_STORED, SC_FAILED])
+        self.assertEqual([m.step(1), m.step(1), m.step(0)], [RETIRED, SC_STORED._replace(broke=1), SC_FAILED])
         self.assertEqual((m.bytes(64, 4), m.bytes(72, 1)), (b'\xf0\xde\xbc\x9a', b'\xff'))
         self.assertEqual((m.state.x[0][7], m.state.x[1][7], list(m.state.pc[:2])), (1, 0, [8, 8]))
         self.assertEqual([m.state.reservation(h) for h in range(8)], [None] * 8)
@@ -172,8 +172,9 @@ class Calls(Refuses):
         self.assertEqual(of_words.step(0), trap(8, 0))
 
     def test_outside_cases(self):
-        """What the calls answer, event by event, is what the lines of every outside case say; and a run does the same."""
-        cases = events = 0
+        """What the calls answer, event by event, is what the lines of every outside case say; and a run does the same. The harts whose reservation an
+        event broke are those that held one before it and don't after it, but for the hart of a step or a yield."""
+        cases = events = breaks = 0
         for name, file, expected in vector_pairs():
             self.assertEqual(report_text(file).encode(), expected, name)
             if expected.startswith(b'refused'):
@@ -181,11 +182,15 @@ class Calls(Refuses):
             start, body = read(file)
             one_by_one, lines = copy.deepcopy(start), []
             for n in range(0, len(body), 24):
-                lines.append(line(one_by_one, n // 24, body[n:n + 24]))
+                event, before = body[n:n + 24], held(one_by_one)
+                who, outcome = perform(one_by_one, event)
+                lines.append('%d %s %s' % (n // 24, who, said(outcome)))
+                own = 0 if event[0] == 2 else 1 << event[1]
+                self.assertEqual(outcome.broke, before & ~held(one_by_one) & ~own, (name, n // 24))
             self.assertEqual(lines, expected.decode().splitlines()[1:-1], name)
             self.assertEqual((start.run_bytes(body), start), (len(body) // 24, one_by_one), name)
-            cases, events = cases + 1, events + len(body) // 24
-        self.assertEqual((cases, events), (725, 56_609))
+            cases, events, breaks = cases + 1, events + len(body) // 24, breaks + expected.count(b' broke ')
+        self.assertEqual((cases, events, breaks), (725, 56_609, 1_066))
 
 
 def number(bytes_):
@@ -204,14 +209,119 @@ def read(file):
     return Machine.from_parts(state, number(file[40:48]), bytearray(file[mem:events])), file[events:]
 
 
-def line(m, n, e):
-    """The line of an event, which is performed."""
+def perform(m, e):
+    """An event performed: its name on a line, and its outcome."""
+    if e[0] == 1:
+        return 'h%d' % e[1], m.step(e[1])
     if e[0] == 2:
-        m.device_write(number(e[8:16]), e[2], number(e[16:]))
-        return '%d d ok' % n
-    name, outcome = ('h', m.step(e[1])) if e[0] == 1 else ('y', m.yield_hart(e[1]))
-    said = {RETIRED: 'ok', SC_STORED: 'sc 0', SC_FAILED: 'sc 1'}.get(outcome)
-    return '%d %s%d %s' % (n, name, e[1], said or 'trap %d %016x' % (outcome.cause, outcome.value))
+        return 'd', m.device_write(number(e[8:16]), e[2], number(e[16:]))
+    return 'y%d' % e[1], m.yield_hart(e[1])
+
+
+def said(outcome):
+    """What a line says of an outcome."""
+    text = {Kind.RETIRED: 'ok', Kind.SC_STORED: 'sc 0', Kind.SC_FAILED: 'sc 1'}.get(outcome.kind)
+    if text is None:
+        text = 'trap %d %016x' % (outcome.cause, outcome.value)
+    return text + (' broke %02x' % outcome.broke if outcome.broke else '')
+
+
+def held(m):
+    """The harts that hold a reservation, as bits."""
+    return sum(1 << hart for hart in range(8) if m.state.reservation(hart) is not None)
+
+
+class Broke(Refuses):
+    """Whose reservation an event breaks."""
+    SW, LW = 0x0082a023, 0x0002a303  # sw x8,0(x5); lw x6,0(x5)
+    AMOADD, AMOCAS = 0x0082a4af, 0x2882a4af  # amoadd.w x9,x8,(x5); amocas.w x9,x8,(x5)
+
+    def contended(self, word=0, **registers):
+        """Four harts with x5 = 64 and the word at their pc; all other registers and bytes are 0, but for those given of hart 1. Harts 0, 1 and 2 hold the
+        4 bytes at 64, hart 3 the 8 bytes at 128."""
+        m = machine(4, words=[word], length=320)
+        for hart in range(4):
+            m.state.set_reservation(hart, Reservation(128, 8) if hart == 3 else Reservation(64, 4))
+        for name, value in registers.items():
+            m.state.x[1][int(name[1:])] = value
+        return m
+
+    def check(self, m, event, outcome, broke, left):
+        """The event is answered so, and the harts that hold a reservation afterwards are `left`."""
+        self.assertEqual((m.perform(event), held(m)), (outcome._replace(broke=broke), left))
+
+    def test_retired_writes(self):
+        """A write of hart 1 breaks the reservations of harts 0 and 2, also if it writes the zeros that are there. Its own stays, or an SC drops it: its bit
+        isn't set either way."""
+        for word, outcome, left in [(self.SW, RETIRED, 0b1010), (self.AMOADD, RETIRED, 0b1010), (self.AMOCAS, RETIRED, 0b1010), (SC, SC_STORED, 0b1000)]:
+            for x8 in [0, 0x12345678]:
+                self.check(self.contended(word, x8=x8), Event.step(1), outcome, 0b0101, left)
+
+    def test_writes_in_the_set(self):
+        """Where a hart writes in the set doesn't matter, only that it does."""
+        for addr, broke in [(60, 0), (64, 0b0101), (68, 0b0101), (124, 0b0101), (128, 0b1000), (188, 0b1000), (192, 0)]:
+            self.check(self.contended(self.SW, x5=addr), Event.step(1), RETIRED, broke, 0b1111 & ~broke)
+
+    def test_steps_that_break_none(self):
+        self.check(self.contended(self.AMOCAS, x9=1), Event.step(1), RETIRED, 0, 0b1111)
+        self.check(self.contended(self.LW), Event.step(1), RETIRED, 0, 0b1111)
+        m = self.contended(LR, x5=128)
+        self.check(m, Event.step(1), RETIRED, 0, 0b1111)
+        self.assertEqual(m.state.reservation(1), Reservation(128, 4))
+        # An SC that fails: outside the set, or without a reservation.
+        self.check(self.contended(SC, x5=128), Event.step(1), SC_FAILED, 0, 0b1101)
+        m = self.contended(SC)
+        m.state.set_reservation(1, None)
+        self.check(m, Event.step(1), SC_FAILED, 0, 0b1101)
+        self.check(self.contended(), Event.yield_hart(1), RETIRED, 0, 0b1101)
+
+    def test_device_writes(self):
+        """A device write breaks a reservation only if it touches a byte that the LR read. It has no hart of its own."""
+        for addr, size, broke in [(63, 1, 0), (63, 2, 0b0111), (67, 1, 0b0111), (68, 1, 0), (68, 8, 0), (120, 8, 0), (121, 8, 0b1000), (135, 1, 0b1000),
+                                  (136, 1, 0)]:
+            self.check(self.contended(), Event.device_write(addr, size, 0), RETIRED, broke, 0b1111 & ~broke)
+
+    def test_only_what_is_held(self):
+        """What is broken once isn't broken again, and unused harts aren't looked at."""
+        m = self.contended(self.SW)
+        self.check(m, Event.step(1), RETIRED, 0b0101, 0b1010)
+        m.state.pc[1] = 0
+        self.check(m, Event.step(1), RETIRED, 0, 0b1010)
+        for event, broke in [(Event.step(1), 0b0001), (Event.device_write(64, 1, 0), 0b0011)]:
+            m = self.contended(self.SW)
+            m.state.count = 2
+            self.check(m, event, RETIRED, broke, 0b1111 & ~broke)
+
+    def test_eight_harts(self):
+        m = machine(8)
+        self.assertEqual([m.step(hart) for hart in range(8)], [RETIRED] * 8)
+        self.check(copy.deepcopy(m), Event.device_write(64, 8, 0), RETIRED, 0xff, 0)
+        for hart in range(8):
+            self.check(copy.deepcopy(m), Event.step(hart), SC_STORED, 0xff & ~(1 << hart), 0)
+
+    def test_traps_and_refusals(self):
+        """The value of a trap is no set of harts, whatever its bits are; a trap and a refusal break none."""
+        for addr, cause in [(66, Cause.STORE_ADDRESS_MISALIGNED), (4160, Cause.STORE_ACCESS_FAULT)]:
+            for word in [self.SW, SC, self.AMOADD, self.AMOCAS]:
+                self.check(self.contended(word, x5=addr), Event.step(1), trap(cause, addr), 0, 0b1111)
+        m = self.contended(self.SW)
+        self.refuses_unchanged(Refusal.HART, m, step, 4)
+        self.refuses_unchanged(Refusal.HART, m, yield_hart, 4)
+        self.refuses_unchanged(Refusal.DEVICE_SIZE, m, device_write, 64, 9, 0)
+        self.refuses_unchanged(Refusal.DEVICE_ADDRESS, m, device_write, 316, 8, 0)
+
+    def test_texts(self):
+        for outcome, text in [(RETIRED, 'retired'), (RETIRED._replace(broke=1), 'retired broke 01'), (SC_STORED._replace(broke=0xfe), 'sc stored broke fe'),
+                              (SC_FAILED, 'sc failed'), (trap(2, 3), 'trap 2 0000000000000003: illegal instruction')]:
+            self.assertEqual(str(outcome), text)
+        self.assertNotEqual(Outcome(Kind.RETIRED, broke=1), RETIRED)
+
+    def test_sets(self):
+        for bits in range(256):
+            self.assertEqual((sum(1 << hart for hart in harts(bits)), harts(bits)), (bits, tuple(sorted(harts(bits)))))
+        self.assertEqual((harts(0), harts(0b1001), harts(0xff)), ((), (0, 3), tuple(range(8))))
+        for error, bad in [(ValueError, -1), (ValueError, 256), (TypeError, 1.0), (TypeError, None)]:
+            self.assertRaises(error, harts, bad)
 
 
 class Values(Refuses):

@@ -1,5 +1,6 @@
 //! What calls answer: outcomes, refusals, and the names of their numbers.
 
+use crate::Harts;
 use std::error::Error;
 use std::fmt;
 
@@ -144,7 +145,7 @@ impl Error for Trap {
     }
 }
 
-/// The answer to an event that isn't refused.
+/// What an event that isn't refused came to.
 #[derive(Clone, Copy, Debug, PartialEq, Eq)]
 pub enum Outcome {
     /// A step that is no SC, a device write or a yield.
@@ -164,6 +165,60 @@ impl fmt::Display for Outcome {
             Outcome::ScFailed => f.write_str("sc failed"),
             Outcome::Trap(trap) => trap.fmt(f),
         }
+    }
+}
+
+/// The answer to an event that isn't refused: what it came to, and whose reservation it broke.
+///
+/// ```
+/// use floecavern::{Machine, Outcome, Refusal};
+/// // lr.w x6,(x5) for hart 0 and sw x8,0(x5) for hart 1.
+/// let mut machine = Machine::new(2, 0, 128)?;
+/// machine.put_words(0, &[0x1002_a32f, 0x0082_a023])?;
+/// (machine.state.x[0][5], machine.state.x[1][5], machine.state.pc[1]) = (64, 100, 4);
+///
+/// // An outcome becomes an answer that broke no reservation.
+/// assert_eq!(machine.step(0)?, Outcome::Retired.into());
+/// let answer = machine.step(1)?;
+/// assert_eq!(answer.outcome, Outcome::Retired);
+/// assert!(answer.broke.contains(0) && answer.broke.len() == 1);
+/// assert_eq!(answer.to_string(), "retired broke 01");
+/// # Ok::<(), Refusal>(())
+/// ```
+///
+/// It isn't compared with an outcome, so that a test can't pass over what was broken:
+///
+/// ```compile_fail
+/// use floecavern::{Machine, Outcome};
+/// let mut machine = Machine::new(1, 0, 64).unwrap();
+/// assert_eq!(machine.yield_hart(0).unwrap(), Outcome::Retired);
+/// ```
+#[derive(Clone, Copy, Debug, PartialEq, Eq)]
+pub struct Answer {
+    pub outcome: Outcome,
+    /// The harts whose reservation the event broke. A retired write of another hart (a store, an AMO, an equal AMOCAS, an SC
+    /// that stored) breaks a reservation if it touches a byte of its set, the aligned 64 bytes around the LR's address; a
+    /// device write if it touches a byte that the LR read; both also where they write the bytes that were there. A step
+    /// never has its own hart in it, also where it drops that hart's reservation (an SC) or replaces it (an LR). A yield, a
+    /// trap and everything else that writes nothing has none.
+    pub broke: Harts,
+}
+
+/// An outcome that broke no reservation.
+impl From<Outcome> for Answer {
+    fn from(outcome: Outcome) -> Answer {
+        Answer { outcome, broke: Harts::NONE }
+    }
+}
+
+/// The outcome's text; behind it ` broke ` and two hex digits, as on a report's line, where a reservation was broken.
+impl fmt::Display for Answer {
+    fn fmt(&self, f: &mut fmt::Formatter) -> fmt::Result {
+        self.outcome.fmt(f)?;
+        if self.broke.is_empty() {
+            return Ok(());
+        }
+        write!(f, " broke {:02x}", self.broke)
     }
 }
 

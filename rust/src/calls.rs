@@ -1,7 +1,9 @@
 //! The library's functions over a state and a memory that the caller keeps, over a case file and over a block of words.
 
 use crate::raw::*;
-use crate::{Cause, Event, Outcome, Reason, Refusal, RefusedAt, Replayed, State, Stop, Trap, Verdict, STATE_SIZE};
+use crate::{
+    Answer, Cause, Event, Harts, Outcome, Reason, Refusal, RefusedAt, Replayed, State, Stop, Trap, Verdict, STATE_SIZE,
+};
 
 /// The room that a report needs, in bytes.
 pub const REPORT_ROOM: usize = 262_144;
@@ -73,27 +75,34 @@ pub fn check_loop(words: &[u32]) -> Result<Verdict, Refusal> {
     }
 }
 
-/// The answer of a call that lends `value`, which is 8 bytes.
-fn outcome(call: impl FnOnce(*mut u8, usize) -> u64) -> Result<Outcome, Refusal> {
-    let mut value = [0; 8];
-    match call(value.as_mut_ptr(), value.len()) {
-        0 => Ok(Outcome::Retired),
-        1 => Ok(Outcome::ScStored),
-        2 => Ok(Outcome::ScFailed),
+/// The answer of a call that lends `value`, 8 bytes, which get the harts whose reservation a retired event broke, or a
+/// trap's value.
+fn answer(call: impl FnOnce(*mut u8, usize) -> u64) -> Result<Answer, Refusal> {
+    let mut bytes = [0; 8];
+    let r = call(bytes.as_mut_ptr(), bytes.len());
+    let value = u64::from_le_bytes(bytes);
+    let retired = |outcome| {
+        let broke = Harts::from_bits(u8::try_from(value).expect("harts are 0 to 7"));
+        Ok(Answer { outcome, broke })
+    };
+    match r {
+        0 => retired(Outcome::Retired),
+        1 => retired(Outcome::ScStored),
+        2 => retired(Outcome::ScFailed),
         BAD_SIZE => unreachable!("the sizes are right by type"),
         r if r < REFUSED => {
             let cause = Cause::of(r - TRAP).expect("causes are 0 to 8");
-            Ok(Outcome::Trap(Trap { cause, value: u64::from_le_bytes(value) }))
+            Ok(Outcome::Trap(Trap { cause, value }).into())
         }
         r => Err(refusal(r - REFUSED)),
     }
 }
 
 /// A step of a hart on the memory at `base`: fetches the word at its pc and performs it. Refusals 1 to 3.
-pub fn step(state: &mut State, base: u64, mem: &mut [u8], hart: usize) -> Result<Outcome, Refusal> {
+pub fn step(state: &mut State, base: u64, mem: &mut [u8], hart: usize) -> Result<Answer, Refusal> {
     // SAFETY: the pointers come from a state of this size and from slices of these lengths; none overlap. Any bytes that
     // are written are a state, since all its fields are numbers.
-    outcome(|value, len| unsafe {
+    answer(|value, len| unsafe {
         floecavern_step(state.pointer(), STATE_SIZE, base, mem.as_mut_ptr(), mem.len(), hart, value, len)
     })
 }
@@ -106,24 +115,24 @@ pub fn device_write(
     addr: u64,
     size: usize,
     data: u64,
-) -> Result<Outcome, Refusal> {
+) -> Result<Answer, Refusal> {
     let (mem, mem_len) = (mem.as_mut_ptr(), mem.len());
     // SAFETY: as in `step`.
-    outcome(|value, len| unsafe {
+    answer(|value, len| unsafe {
         floecavern_device_write(state.pointer(), STATE_SIZE, base, mem, mem_len, addr, size, data, value, len)
     })
 }
 
 /// A yield: drops a hart's reservation. Refusals 1 to 3.
-pub fn yield_hart(state: &mut State, base: u64, mem: &mut [u8], hart: usize) -> Result<Outcome, Refusal> {
+pub fn yield_hart(state: &mut State, base: u64, mem: &mut [u8], hart: usize) -> Result<Answer, Refusal> {
     // SAFETY: as in `step`.
-    outcome(|value, len| unsafe {
+    answer(|value, len| unsafe {
         floecavern_yield(state.pointer(), STATE_SIZE, base, mem.as_mut_ptr(), mem.len(), hart, value, len)
     })
 }
 
-/// A run of the first `budget` events, or of all if there are fewer: how many that were. Traps don't stop it. Refusals 1, 2
-/// and 11.
+/// A run of the first `budget` events, or of all if there are fewer: how many that were. Traps don't stop it. Whose
+/// reservation they broke isn't told. Refusals 1, 2 and 11.
 pub fn run(state: &mut State, base: u64, mem: &mut [u8], events: &[Event], budget: usize) -> Result<usize, RefusedAt> {
     let bytes: Vec<u8> = events.iter().flat_map(|e| e.to_bytes()).collect();
     run_bytes(state, base, mem, &bytes, budget)

@@ -3,11 +3,11 @@
 //!
 //! From the repository's root: `rt staticlib capi`, then `cargo test --offline` in `rust/`. x86-64 Linux only.
 //!
-//! A [`Machine`] owns a state and a memory. An event gives an [`Outcome`], or is refused: an `Err` of a [`Refusal`], and
-//! state and memory are as they were.
+//! A [`Machine`] owns a state and a memory. An event gives an [`Answer`], its [`Outcome`] and the [`Harts`] whose reservation
+//! it broke; or it is refused: an `Err` of a [`Refusal`], and state and memory are as they were.
 //!
 //! ```
-//! use floecavern::{Cause, Event, Machine, Outcome, Refusal, Reservation, Trap};
+//! use floecavern::{Answer, Cause, Event, Harts, Machine, Outcome, Refusal, Reservation, Trap};
 //!
 //! # fn main() -> Result<(), Box<dyn std::error::Error>> {
 //! // Two harts with their pc at 0, and 128 bytes of memory there: lr.w x6,(x5) and sc.w x7,x8,(x5).
@@ -16,17 +16,21 @@
 //! machine.state.x[0][5] = 64;
 //! machine.state.x[1][5] = 64;
 //!
-//! assert_eq!(machine.step(0)?, Outcome::Retired);
+//! assert_eq!(machine.step(0)?.outcome, Outcome::Retired);
 //! assert_eq!(machine.state.reservation(0), Some(Reservation { addr: 64, width: 4 }));
 //! machine.device_write(72, 1, 0xff)?;
 //! machine.step(1)?;
-//! assert_eq!(machine.step(1)?, Outcome::ScStored);
-//! assert_eq!(machine.step(0)?, Outcome::ScFailed);
+//!
+//! // Hart 1's SC stores, and breaks the reservation of hart 0, whose SC fails.
+//! let answer = machine.step(1)?;
+//! assert_eq!(answer, Answer { outcome: Outcome::ScStored, broke: Harts::from_bits(1) });
+//! assert_eq!(answer.to_string(), "sc stored broke 01");
 //! assert_eq!(machine.state.reservation(0), None);
+//! assert_eq!(machine.step(0)?, Outcome::ScFailed.into());
 //!
 //! // The word behind them is 0: a trap is an outcome, no error.
 //! let trap = Trap { cause: Cause::IllegalInstruction, value: 0 };
-//! assert_eq!(machine.step(0)?, Outcome::Trap(trap));
+//! assert_eq!(machine.step(0)?, Outcome::Trap(trap).into());
 //! assert_eq!(machine.step(2), Err(Refusal::Hart));
 //!
 //! // Traps don't stop a run.
@@ -46,15 +50,17 @@
 mod answers;
 mod calls;
 mod event;
+mod harts;
 mod machine;
 pub mod raw;
 mod state;
 
-pub use answers::{Cause, Outcome, Reason, Refusal, RefusedAt, Replayed, Stop, Trap, Verdict};
+pub use answers::{Answer, Cause, Outcome, Reason, Refusal, RefusedAt, Replayed, Stop, Trap, Verdict};
 pub use calls::{
     check_loop, device_write, replay, report, report_text, run, run_bytes, step, yield_hart, REPORT_ROOM, ROW_SIZE,
 };
 pub use event::Event;
+pub use harts::Harts;
 pub use machine::{Machine, MAX_MEMORY};
 pub use state::{Reservation, State, MAX_HARTS, STATE_SIZE};
 

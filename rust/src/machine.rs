@@ -1,6 +1,6 @@
 //! A machine that owns its state and its memory.
 
-use crate::{calls, Event, Outcome, Refusal, RefusedAt, Replayed, State, MAX_HARTS};
+use crate::{calls, Answer, Event, Refusal, RefusedAt, Replayed, State, MAX_HARTS};
 
 /// The longest memory that a machine can have, in bytes.
 pub const MAX_MEMORY: usize = 1_048_576;
@@ -62,22 +62,22 @@ impl Machine {
     }
 
     /// A step of a hart: fetches the word at its pc and performs it. Refusals 1 to 3.
-    pub fn step(&mut self, hart: usize) -> Result<Outcome, Refusal> {
+    pub fn step(&mut self, hart: usize) -> Result<Answer, Refusal> {
         calls::step(&mut self.state, self.base, &mut self.mem, hart)
     }
 
     /// A device writes the `size` lowest bytes of `data` at `addr`, the lowest first. Refusals 1, 2, 4 and 5.
-    pub fn device_write(&mut self, addr: u64, size: usize, data: u64) -> Result<Outcome, Refusal> {
+    pub fn device_write(&mut self, addr: u64, size: usize, data: u64) -> Result<Answer, Refusal> {
         calls::device_write(&mut self.state, self.base, &mut self.mem, addr, size, data)
     }
 
     /// A yield: drops a hart's reservation. Refusals 1 to 3.
-    pub fn yield_hart(&mut self, hart: usize) -> Result<Outcome, Refusal> {
+    pub fn yield_hart(&mut self, hart: usize) -> Result<Answer, Refusal> {
         calls::yield_hart(&mut self.state, self.base, &mut self.mem, hart)
     }
 
     /// An event by itself.
-    pub fn perform(&mut self, event: Event) -> Result<Outcome, Refusal> {
+    pub fn perform(&mut self, event: Event) -> Result<Answer, Refusal> {
         match event {
             Event::Step { hart } => self.step(hart.into()),
             Event::DeviceWrite { addr, size, data } => self.device_write(addr, size.into(), data),
@@ -85,8 +85,8 @@ impl Machine {
         }
     }
 
-    /// A run of the first `budget` events, or of all if there are fewer: how many that were. Traps don't stop it. Refusals
-    /// 1, 2 and 11.
+    /// A run of the first `budget` events, or of all if there are fewer: how many that were. Traps don't stop it. Whose
+    /// reservation they broke isn't told; [`perform`](Machine::perform) tells it of an event. Refusals 1, 2 and 11.
     ///
     /// ```
     /// use floecavern::{Event, Machine, Refusal, RefusedAt};

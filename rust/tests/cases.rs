@@ -1,6 +1,6 @@
 //! The outside cases, event by event and as a run: what the calls answer is what the report's lines say.
 
-use floecavern::{report, Machine, Outcome, State};
+use floecavern::{report, Answer, Machine, Outcome, State, MAX_HARTS};
 
 fn number(bytes: &[u8]) -> u64 {
     bytes.iter().rev().fold(0, |n, b| n << 8 | *b as u64)
@@ -22,27 +22,50 @@ fn read(file: &[u8]) -> (Machine, &[u8]) {
     (Machine::from_parts(state, number(&harts[..8]), mem.to_vec()).unwrap(), events)
 }
 
-/// The line of an event, which is performed.
-fn line(machine: &mut Machine, i: usize, e: &[u8]) -> String {
+/// The event performed, with its name on a line.
+fn perform(machine: &mut Machine, e: &[u8]) -> (String, Answer) {
     let hart = e[1] as usize;
-    let (name, o) = match e[0] {
+    let (name, answer) = match e[0] {
         1 => (format!("h{hart}"), machine.step(hart)),
         2 => ("d".to_string(), machine.device_write(number(&e[8..16]), e[2] as usize, number(&e[16..]))),
         _ => (format!("y{hart}"), machine.yield_hart(hart)),
     };
-    match o {
-        Ok(Outcome::Retired) => format!("{i} {name} ok"),
-        Ok(Outcome::ScStored) => format!("{i} {name} sc 0"),
-        Ok(Outcome::ScFailed) => format!("{i} {name} sc 1"),
-        Ok(Outcome::Trap(trap)) => format!("{i} {name} trap {} {:016x}", trap.cause.number(), trap.value),
-        Err(refusal) => format!("{i} {name} refused {}", refusal.number()),
+    (name, answer.expect("the events of a case aren't refused"))
+}
+
+/// What a line says of an answer.
+fn said(answer: Answer) -> String {
+    let said = match answer.outcome {
+        Outcome::Retired => "ok".to_string(),
+        Outcome::ScStored => "sc 0".to_string(),
+        Outcome::ScFailed => "sc 1".to_string(),
+        Outcome::Trap(trap) => format!("trap {} {:016x}", trap.cause.number(), trap.value),
+    };
+    match answer.broke.bits() {
+        0 => said,
+        bits => format!("{said} broke {bits:02x}"),
     }
+}
+
+/// The harts that hold a reservation, as bits.
+fn held(machine: &Machine) -> u8 {
+    (0..MAX_HARTS).fold(0, |bits, h| bits | u8::from(machine.state.reservation(h).is_some()) << h)
+}
+
+/// The line of an event, which is performed. The harts whose reservation it broke are those that held one before it and
+/// don't after it, but for the hart of a step or a yield.
+fn line(machine: &mut Machine, i: usize, e: &[u8]) -> String {
+    let before = held(machine);
+    let (name, answer) = perform(machine, e);
+    let own = if e[0] == 2 { 0 } else { 1 << e[1] };
+    assert_eq!(answer.broke.bits(), before & !held(machine) & !own, "event {i}");
+    format!("{i} {name} {}", said(answer))
 }
 
 #[test]
 fn every_outside_case() {
     let folder = concat!(env!("CARGO_MANIFEST_DIR"), "/../crates/vectors/data");
-    let (mut cases, mut events) = (0, 0);
+    let (mut cases, mut events, mut breaks) = (0, 0, 0);
     for i in 0..884 {
         let file = std::fs::read(format!("{folder}/{i:04}")).unwrap();
         let Ok(text) = report(&file) else {
@@ -62,6 +85,7 @@ fn every_outside_case() {
         assert!(at_once == one_by_one, "case {i}");
         cases += 1;
         events += n;
+        breaks += text.matches(" broke ").count();
     }
-    assert_eq!((cases, events), (725, 56_609));
+    assert_eq!((cases, events, breaks), (725, 56_609, 1_066));
 }

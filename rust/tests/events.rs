@@ -1,6 +1,6 @@
 use floecavern::{
-    device_write, run, run_bytes, step, yield_hart, Cause, Event, Machine, Outcome, Refusal, RefusedAt, Reservation,
-    State, Trap, MAX_MEMORY, STATE_SIZE,
+    device_write, run, run_bytes, step, yield_hart, Answer, Cause, Event, Harts, Machine, Outcome, Refusal, RefusedAt,
+    Reservation, State, Trap, MAX_MEMORY, STATE_SIZE,
 };
 
 const LR: u32 = 0x1002_a32f; // lr.w x6,(x5)
@@ -20,12 +20,12 @@ fn body(events: &[Event]) -> Vec<u8> {
     events.iter().flat_map(|e| e.to_bytes()).collect()
 }
 
-fn trap(cause: Cause, value: u64) -> Result<Outcome, Refusal> {
-    Ok(Outcome::Trap(Trap { cause, value }))
+fn trap(cause: Cause, value: u64) -> Result<Answer, Refusal> {
+    Ok(Outcome::Trap(Trap { cause, value }).into())
 }
 
 /// What `f` refuses leaves every byte of state and memory as it was.
-fn refuses(state: &State, mem: &[u8], refusal: Refusal, f: impl Fn(&mut State, &mut [u8]) -> Result<Outcome, Refusal>) {
+fn refuses(state: &State, mem: &[u8], refusal: Refusal, f: impl Fn(&mut State, &mut [u8]) -> Result<Answer, Refusal>) {
     let (mut s, mut m) = (*state, mem.to_vec());
     assert_eq!(f(&mut s, &mut m), Err(refusal));
     assert!(s.to_bytes() == state.to_bytes() && m == mem);
@@ -36,14 +36,14 @@ fn refuses(state: &State, mem: &[u8], refusal: Refusal, f: impl Fn(&mut State, &
 fn example() {
     let mut m = machine(2, 0, &[LR, SC]);
     m.state.x[1][8] = 0x1234_5678_9abc_def0;
-    assert_eq!(m.step(0), Ok(Outcome::Retired));
+    assert_eq!(m.step(0), Ok(Outcome::Retired.into()));
     assert_eq!(m.state.reservation(0), Some(Reservation { addr: 64, width: 4 }));
-    assert_eq!(m.device_write(72, 1, 0xff), Ok(Outcome::Retired));
+    assert_eq!(m.device_write(72, 1, 0xff), Ok(Outcome::Retired.into()));
     assert_eq!(m.bytes(72, 1), Some(&[0xff][..]));
-    assert_eq!(m.step(1), Ok(Outcome::Retired));
-    assert_eq!(m.step(1), Ok(Outcome::ScStored));
+    assert_eq!(m.step(1), Ok(Outcome::Retired.into()));
+    assert_eq!(m.step(1), Ok(Answer { outcome: Outcome::ScStored, broke: Harts::from_bits(1) }));
     assert_eq!(m.bytes(64, 4), Some(&[0xf0, 0xde, 0xbc, 0x9a][..]));
-    assert_eq!(m.step(0), Ok(Outcome::ScFailed));
+    assert_eq!(m.step(0), Ok(Outcome::ScFailed.into()));
     assert_eq!((m.state.x[0][7], m.state.x[1][7], m.state.pc[0], m.state.pc[1]), (1, 0, 8, 8));
     assert!((0..8).all(|h| m.state.reservation(h).is_none()));
 }
@@ -84,7 +84,7 @@ fn sc_outside_memory() {
         assert_eq!((m.state.reservation(0), m.state.x[0][7], m.state.pc[0]), (held, 0, 4100));
     }
     m.state.x[0][5] = 4160;
-    assert_eq!(m.step(0), Ok(Outcome::ScStored));
+    assert_eq!(m.step(0), Ok(Outcome::ScStored.into()));
 }
 
 /// What answers say of themselves.
@@ -201,12 +201,12 @@ fn unused_harts() {
     bytes[slot(0) + 8..slot(1)].fill(1);
     (bytes[slot(1)], bytes[slot(1) + 8], bytes[slot(1) + 16]) = (5, 64, 4);
     let mut s = State::from_bytes(&bytes);
-    assert_eq!(yield_hart(&mut s, 0, &mut mem, 0), Ok(Outcome::Retired));
+    assert_eq!(yield_hart(&mut s, 0, &mut mem, 0), Ok(Outcome::Retired.into()));
     bytes[slot(0) + 8..slot(1)].fill(0);
     bytes[slot(1)] = 1;
     assert_eq!(s.to_bytes(), bytes);
     s.pc[1] = 4;
-    assert_eq!(step(&mut s, 0, &mut mem, 1), Ok(Outcome::ScStored));
+    assert_eq!(step(&mut s, 0, &mut mem, 1), Ok(Outcome::ScStored.into()));
     let after = s.to_bytes();
     for unused in [8 + 512..2056, 2056 + 16..2120, slot(2)..STATE_SIZE] {
         assert_eq!(after[unused.clone()], bytes[unused]);
@@ -292,7 +292,7 @@ fn device_data_above_size() {
     for size in 1..=8 {
         let event = Event::DeviceWrite { addr: 64, size, data: u64::MAX };
         let (mut called, mut ran) = (start.clone(), start.clone());
-        assert_eq!(called.perform(event), Ok(Outcome::Retired));
+        assert_eq!(called.perform(event), Ok(Outcome::Retired.into()));
         assert_eq!(run(&mut ran.state, 0, &mut ran.mem, &[event], 1), Ok(1));
         assert!(called == ran && called.mem[64..72].iter().filter(|&&b| b == 255).count() == size as usize);
     }

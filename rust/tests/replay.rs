@@ -20,7 +20,7 @@ fn rows(machine: &mut Machine, harts: &[usize]) -> Vec<u8> {
     let mut row = |&h: &usize| {
         let pc = machine.state.pc[h];
         let n = (pc - 4096) as usize / 4;
-        assert!(!matches!(machine.step(h), Ok(Outcome::Trap(_)) | Err(_)));
+        assert!(!matches!(machine.step(h).unwrap().outcome, Outcome::Trap(_)));
         format!("{h} {pc:016x} {:08x} {:02} {:016x}\n", WORDS[n], RD[n], machine.state.x[h][RD[n]])
     };
     harts.iter().map(&mut row).collect::<String>().into_bytes()
