@@ -7,6 +7,7 @@ import stat
 import subprocess
 import sys
 import tempfile
+import textwrap
 import unittest
 
 from common import CASE, EXAMPLE, EXAMPLE_LINES, ROOT, command, data, vector_pairs
@@ -27,6 +28,11 @@ def documented():
     """The example of docs/TOOLS.md: the first block that starts with `memory`."""
     text = data(os.path.join(ROOT, 'docs', 'TOOLS.md')).decode()
     return next(re.sub('(?m)^    ', '', block) for block in re.findall(r'(?:^(?:    .*)?\n)+', text, re.M) if '    memory 128' in block)
+
+
+def bits(number):
+    """The places of the bits that are set."""
+    return [k for k in range(number.bit_length()) if number >> k & 1]
 
 
 class RoundTrip(unittest.TestCase):
@@ -296,37 +302,106 @@ class Inputs(unittest.TestCase):
         self.assertEqual(data(self.named('copy')), data(EXAMPLE))
 
 
+class Losers(unittest.TestCase):
+    """The set of harts behind `broke` on an event's line."""
+
+    def setUp(self):
+        self.case = casefile.read(casetext.make('memory 64\nhart 0\nhart 1\nhart 2\nevents\nstep 1\ndevice 0 1 0\nyield 2\n'))
+        self.lines = ['0 h1 ok', '1 d ok', '2 y2 ok']
+
+    def text(self, n, line):
+        """The program's output with this line for event n."""
+        return '\n'.join([casefile.header(self.case), *self.lines[:n], line, *self.lines[n + 1:], 'end 3', ''])
+
+    def test_right_lines(self):
+        for n, line, losers in ((0, '0 h1 ok', []), (0, '0 h1 ok broke 01', ['h0']), (0, '0 h1 ok broke 05', ['h0', 'h2']), (0, '0 h1 sc 0', []),
+                                (0, '0 h1 sc 0 broke 04', ['h2']), (1, '1 d ok', []), (1, '1 d ok broke 02', ['h1']),
+                                (1, '1 d ok broke 07', ['h0', 'h1', 'h2'])):
+            self.assertEqual(casefile.faults(self.case, self.text(n, line)), [], line)
+            answer = casefile.right_line(n, self.case.events[n], line, 3)
+            self.assertEqual((answer.said, answer.losers), (line.split(' ', 2)[2].split(' broke ')[0], losers))
+
+    def test_wrong_lines(self):
+        own, form, place = "bit 1 is the stepping hart's own", 'behind broke stand two lower-case hex digits', 'broke stands only behind ok and sc 0'
+        for n, line, why in (
+                (0, '0 h1 ok broke 00', 'broke 00 is never written'), (0, '0 h1 sc 0 broke 00', 'broke 00 is never written'),
+                (1, '1 d ok broke 00', 'broke 00 is never written'),
+                (0, '0 h1 ok broke 02', own), (0, '0 h1 sc 0 broke 02', own), (0, '0 h1 ok broke 07', own),
+                (0, '0 h1 ok broke 08', 'bit 3 is set, but the number of harts is 3'), (0, '0 h1 sc 0 broke 81', 'bit 7 is set, but the number of harts is 3'),
+                (1, '1 d ok broke 08', 'bit 3 is set, but the number of harts is 3'), (1, '1 d ok broke ff', 'bit 7 is set, but the number of harts is 3'),
+                (0, '0 h1 sc 1 broke 01', place), (0, '0 h1 trap 2 0000000000000000 broke 01', place),
+                (2, '2 y2 ok broke 04', "a yield's line has no broke"), (2, '2 y2 ok broke 01', "a yield's line has no broke"),
+                (1, '1 d ok broke 0A', form), (0, '0 h1 ok broke 1', form), (0, '0 h1 ok broke 001', form), (0, '0 h1 ok broke 0x01', form),
+                (0, '0 h1 ok broke ', form), (0, '0 h1 ok broke 01 ', form), (0, '0 h1 ok broke  01', form), (0, '0 h1 ok broke 01\r', form),
+                (0, '0 h1 ok broke +1', form), (0, '0 h1 ok broke 01 broke 01', form), (0, '0 h1 ok broke h0', form)):
+            self.assertEqual(casefile.faults(self.case, self.text(n, line)), [
+                'event %d (%s) has the line %r: %s' % (n, self.lines[n].split()[1], line, why)], line)
+            self.assertIsNone(casefile.right_line(n, self.case.events[n], line, 3))
+
+    def test_lines_that_are_wrong_before_it(self):
+        for n, line in ((0, '0 h1 ok broke'), (0, '0 h1 ok  broke 01'), (0, '0 h1 ok broke01'), (0, '0 h1 ok Broke 01'), (0, '0 h1 ok\tbroke 01'),
+                        (0, '0 h1 broke 01'), (0, '0 h1 sc broke 01'), (0, '0 h0 ok broke 02'), (1, '1 d sc 0 broke 01'), (2, '2 y2 sc 0 broke 01')):
+            self.assertEqual(casefile.faults(self.case, self.text(n, line)), ['event %d (%s) has the line %r' % (n, self.lines[n].split()[1], line)])
+
+    def test_every_set(self):
+        for harts in range(1, 9):
+            for losers in range(256):
+                fits = 0 < losers < 1 << harts
+                for event, said, right in [(casefile.Event(1, hart, 0, 0, 0), said, fits and said != 'sc 1' and hart not in bits(losers))
+                                           for hart in range(harts) for said in ('ok', 'sc 0', 'sc 1')] + [
+                        (casefile.Event(2, 0, 1, 0, 0), 'ok', fits), (casefile.Event(3, 0, 0, 0, 0), 'ok', False)]:
+                    line = '9 %s %s broke %02x' % (casefile.letters(event), said, losers)
+                    answer = casefile.right_line(9, event, line, harts)
+                    self.assertEqual(answer, (said, ['h%d' % k for k in bits(losers)]) if right else None, (line, harts))
+
+    def test_counts(self):
+        lines = '\n'.join([casefile.header(self.case), '0 h1 sc 0 broke 05', '1 d ok broke 07', '2 y2 ok', 'end 3', ''])
+        self.assertEqual(casefile.count(self.case, lines), {
+            'events': 3, 'retired': 1, 'sc 0': 1, 'device': 1, 'yield': 1, 'broke': 2, 'broke h1 h0': 1, 'broke h1 h2': 1,
+            'broke d h0': 1, 'broke d h1': 1, 'broke d h2': 1})
+
+
 class Show(unittest.TestCase):
     def test_lines_beside_events(self):
         status, out, err = command(CASE, 'show', EXAMPLE, '--lines', EXAMPLE_LINES)
         self.assertEqual((status, err), (0, ''))
         self.assertRegex(out.decode(), r'(?m)^  sc\.w x7,x8,\(x5\) +# 4: 1882a3af$')
         self.assertRegex(out.decode(), r'(?m)^  device 0x48 1 0x00 +# 1 d ok$')
-        self.assertRegex(out.decode(), r'(?m)^  step 1 +# 3 h1 sc 0$')
+        self.assertRegex(out.decode(), r'(?m)^  step 1 +# 3 h1 sc 0 broke 01$')
+        self.assertIn('\n\n%s\n' % textwrap.indent(out.decode(), '    '), data(os.path.join(ROOT, 'docs', 'TOOLS.md')).decode())
         self.assertEqual(command(CASE, 'make', given=out), (0, data(EXAMPLE), ''))
 
     def test_missing_line(self):
-        status, out, err = command(CASE, 'show', EXAMPLE, '--lines', '-', given=data(EXAMPLE_LINES).replace(b'3 h1 sc 0\n', b''))
+        status, out, err = command(CASE, 'show', EXAMPLE, '--lines', '-', given=data(EXAMPLE_LINES).replace(b'3 h1 sc 0 broke 01\n', b''))
         self.assertEqual((status, err), (1, '-: event 3 (h1) has no line\n'))
         self.assertRegex(out.decode(), r'(?m)^  step 1 +# 3: no line$')
 
+    def test_a_wrong_set_of_losers(self):
+        """It is a wrong line, told with what is wrong in it; the event keeps it beside itself."""
+        given = data(EXAMPLE_LINES).replace(b'broke 01', b'broke 02')
+        status, out, err = command(CASE, 'show', EXAMPLE, '--lines', '-', given=given)
+        self.assertEqual((status, err), (1, "-: event 3 (h1) has the line '3 h1 sc 0 broke 02': bit 1 is the stepping hart's own\n"))
+        self.assertRegex(out.decode(), r'(?m)^  step 1 +# 3 h1 sc 0 broke 02$')
+        self.assertEqual(command(CASE, 'make', given=out), (0, data(EXAMPLE), ''))
+
     def test_long_numbers(self):
         """A line with a number that Python doesn't convert is a wrong line like another."""
-        long = b'9' * 5000 + b' h1 sc 0\n'
-        status, out, err = command(CASE, 'show', EXAMPLE, '--lines', '-', given=data(EXAMPLE_LINES).replace(b'3 h1 sc 0\n', long))
+        long = b'9' * 5000 + b' h1 sc 0 broke 01\n'
+        status, out, err = command(CASE, 'show', EXAMPLE, '--lines', '-', given=data(EXAMPLE_LINES).replace(b'3 h1 sc 0 broke 01\n', long))
         self.assertEqual((status, err), (1, '-: event 3 (h1) has no line\n-: a line of no event: %r\n' % ('9' * 60)))
         self.assertRegex(out.decode(), r'(?m)^  step 1 +# 3: no line$')
         case, text = casefile.read(data(EXAMPLE)), data(EXAMPLE_LINES).decode()
         for old, new in (('2 h1 ok', long.decode()[:-1]), ('h1 sc 0', 'h%s sc 0' % ('1' * 5000)), ('end 5', 'end ' + '5' * 5000),
-                         ('case 2', 'case ' + '2' * 5000), ('sc 0', 'trap %s 0' % ('1' * 5000))):
+                         ('case 2', 'case ' + '2' * 5000), ('sc 0 broke 01', 'trap %s 0' % ('1' * 5000)),
+                         ('broke 01', 'broke ' + '0' * 5000 + '1')):
             self.assertEqual(text.count(old), 1)
             self.assertNotEqual(casefile.faults(case, text.replace(old, new)), [])
-        self.assertIsNone(casefile.right_line(3, case.events[3], long.decode()))
+        self.assertIsNone(casefile.right_line(3, case.events[3], long.decode(), 2))
         self.assertEqual(casefile.numbered(['1 d ok', long.decode()]), {1: ['1 d ok'], None: [long.decode()]})
 
     def test_control_characters(self):
         """What a terminal would obey is printed as an escape."""
-        given = data(EXAMPLE_LINES).replace(b'3 h1 sc 0', b'3 h1 \x1b[2J\r\t\0\x7f\x9b\xc3\xa4')
+        given = data(EXAMPLE_LINES).replace(b'3 h1 sc 0 broke 01', b'3 h1 \x1b[2J\r\t\0\x7f\x9b\xc3\xa4')
         status, out, err = command(CASE, 'show', EXAMPLE, '--lines', '-', given=given)
         self.assertEqual(status, 1)
         self.assertRegex(out.decode('ascii'), r'(?m)^  step 1 +# 3 h1 \\x1b\[2J\\r\\t\\x00\\x7f\\x9b\\xc3\\xa4$')

@@ -179,11 +179,11 @@ class Compiled(Files):
         subprocess.run([GCC, *FLAGS, *flags, '-Wl,-N,-Ttext=%#x,--build-id=none' % text, COUNTER, '-o', made], check=True, capture_output=True)
 
     def lines(self, text):
-        """The program's lines for a case's text, by hart."""
+        """What the program's lines for a case's text say, by hart, without the reservations that a step broke."""
         given = casetext.make(text, None, self.folder)
         done = subprocess.run([PROGRAM], input=given, capture_output=True, check=True)
         self.assertEqual(casefile.faults(casefile.read(given), done.stdout.decode()), [])
-        return [[line.split(' ', 2)[2] for line in done.stdout.decode().splitlines() if ' h%d ' % hart in line] for hart in range(8)]
+        return [[line.split(' ', 2)[2].partition(' broke ')[0] for line in done.stdout.decode().splitlines() if ' h%d ' % hart in line] for hart in range(8)]
 
     @unittest.skipUnless(os.path.exists(PROGRAM), 'target/bin/floecavern is not built')
     def test_the_example(self):

@@ -89,7 +89,7 @@ class Nightly(NightlyCase):
         self.only_the_example()
         page = '\n'.join(self.night()[1])
         for row in ('5  events in the files', '4  steps retired', '1  .. SC that stored', '1  .. SC that failed', '0  steps trapped',
-                    '1  device writes', '0  yields'):
+                    '1  device writes', '0  yields', '1  writes that broke a reservation'):
             self.assertRegex(page, '(?m)^ +%s$' % row)
 
     def test_empty_folder(self):
@@ -101,14 +101,19 @@ class Nightly(NightlyCase):
     def test_programs_that_leave_something_out(self):
         self.only_the_example()
         for edit, what in (
-                ("out = out.replace(b'3 h1 sc 0\\n', b'')", 'event 3 (h1) has no line'),
-                ("out = out.replace(b'3 h1 sc 0\\n', b'3 h1 sc 0\\n' * 2)", 'event 3 (h1) has 2 lines'),
+                ("out = out.replace(b'3 h1 sc 0 broke 01\\n', b'')", 'event 3 (h1) has no line'),
+                ("out = out.replace(b'3 h1 sc 0 broke 01\\n', b'3 h1 sc 0 broke 01\\n' * 2)", 'event 3 (h1) has 2 lines'),
                 ("out = out.replace(b'1 d ok\\n2 h1 ok\\n', b'2 h1 ok\\n1 d ok\\n')", 'not in the order'),
-                ("out = out.replace(b'3 h1', b'3 h0')", "event 3 (h1) has the line '3 h0 sc 0'"),
+                ("out = out.replace(b'3 h1', b'3 h0')", "event 3 (h1) has the line '3 h0 sc 0 broke 01'"),
                 ("out = out.replace(b'1 d ok', b'1 y0 ok')", "event 1 (d) has the line '1 y0 ok'"),
                 ("out = out.replace(b'1 d ok', b'1 d sc 0')", "event 1 (d) has the line '1 d sc 0'"),
-                ("out = out.replace(b'sc 0', b'trap 9 0000000000000000')", 'event 3 (h1) has the line'),
-                ("out = out.replace(b'sc 0', b'trap 2 ABCDEF0000000000')", 'event 3 (h1) has the line'),
+                ("out = out.replace(b'sc 0 broke 01', b'trap 9 0000000000000000')", 'event 3 (h1) has the line'),
+                ("out = out.replace(b'sc 0 broke 01', b'trap 2 ABCDEF0000000000')", 'event 3 (h1) has the line'),
+                ("out = out.replace(b'broke 01', b'broke 00')", "event 3 (h1) has the line '3 h1 sc 0 broke 00': broke 00 is never written"),
+                ("out = out.replace(b'broke 01', b'broke 02')", "event 3 (h1) has the line '3 h1 sc 0 broke 02': bit 1 is the stepping hart's own"),
+                ("out = out.replace(b'broke 01', b'broke 05')", "has the line '3 h1 sc 0 broke 05': bit 2 is set, but the number of harts is 2"),
+                ("out = out.replace(b'broke 01', b'broke 1')", "event 3 (h1) has the line '3 h1 sc 0 broke 1': behind broke stand two lower-case hex digits"),
+                ("out = out.replace(b'sc 0', b'sc 1')", "event 3 (h1) has the line '3 h1 sc 1 broke 01': broke stands only behind ok and sc 0"),
                 ("out = out.replace(b'5 events', b'4 events').replace(b'4 h0 sc 1\\n', b'').replace(b'end 5', b'end 4')", 'event 4 (h0) has no line'),
                 ("out = out.replace(b'end 5\\n', b'5 h0 ok\\nend 5\\n')", "a line of no event: '5 h0 ok'"),
                 ("out = out.replace(b'end 5\\n', b'')", 'the last line is'), ("out = out[:-1]", 'no line feed'),
@@ -279,9 +284,11 @@ class Nightly(NightlyCase):
             ['deep/er/example.case'] + ['deep/%s.case' % os.path.basename(name) for name in CASES]))
 
     def test_expected_outputs(self):
-        status, page, _ = self.night('--expect', edit="out = out.replace(b'sc 0', b'sc 1')")
+        status, page, _ = self.night('--expect', edit="out = out.replace(b'sc 0 broke 01', b'sc 1')")
         self.assertEqual((status, page[2][:9], page[4]), (1, 'different', 'Different from the expected output: 1'))
-        self.assertIn("line 5 is '3 h1 sc 1', expected '3 h1 sc 0'", page[5])
+        self.assertIn("line 5 is '3 h1 sc 1', expected '3 h1 sc 0 broke 01'", page[5])
+        page = self.night('--expect', edit="out = out.replace(b' broke 01', b'')")[1]
+        self.assertIn("line 5 is '3 h1 sc 0', expected '3 h1 sc 0 broke 01'", page[5])
         os.remove(os.path.join(self.folder, 'deep', 'er', 'example.case'))
         self.assert_missing('its .out is here, but not the case', '--expect')
 
@@ -352,7 +359,7 @@ class Nightly(NightlyCase):
         self.assertIn(b"line 1 is 'case 2 harts 128 bytes 5 events', expected '\\x00", done.stdout)
 
     def test_a_fault_is_told_though_the_expected_output_is_missing(self):
-        night = self.fixed(data(EXAMPLE_LINES).replace(b'3 h1 sc 0\n', b''))[1]
+        night = self.fixed(data(EXAMPLE_LINES).replace(b'3 h1 sc 0 broke 01\n', b''))[1]
         prefix = os.path.join(self.top, 'page')
         self.assertEqual(command(*night, '--out', prefix)[0], 1)
         self.assertIn(b'event 3 (h1) has no line; its expected output cannot be read: No such file or directory\n', data(prefix + '.txt'))
@@ -450,7 +457,8 @@ class Nightly(NightlyCase):
         whole = data(files[1])
         for change, what in ((lambda r: r['cases'].pop(), 'does not agree with itself'), (lambda r: r.pop('beside'), 'no counts file'),
                              (lambda r: r.update(sha256='0'), 'another program'), (lambda r: r.update(list='0'), 'another list of cases'),
-                             (lambda r: r.update(format='floecavern nightly counts 1'), 'no counts file of this version'),
+                             (lambda r: r.update(format='floecavern nightly counts 3'), 'is no counts file of this version of tools/nightly: '
+                              "its format is 'floecavern nightly counts 3', not 'floecavern nightly counts 4'\n"),
                              (lambda r: r.clear(), 'no counts file')):
             self.rewrite(files[1], change)
             self.assert_not_merged(what, *files)
@@ -526,5 +534,6 @@ class Nightly(NightlyCase):
     def test_the_program_over_all_outside_cases(self):
         status, out, _ = command(NIGHTLY, vectors(), '--expect')
         self.assertEqual(status, 0, out.decode())
-        for row in ('884  files', '56,609  .. performed, each with its line', '884  outputs equal to the expected ones'):
+        for row in ('884  files', '56,609  .. performed, each with its line', '884  outputs equal to the expected ones',
+                    '1,066  writes that broke a reservation'):
             self.assertRegex(out.decode(), '(?m)^ +%s$' % row)

@@ -125,7 +125,7 @@ class Files(NightlyCase):
     # outputs that are kept
 
     def test_outputs_of_failing_cases_are_kept(self):
-        edit = "out = out.replace(b'sc 0', b'sc 9'); sys.stderr.write('' if len(sys.argv) else 'x')"
+        edit = "out = out.replace(b'sc 0 broke 01', b'sc 9'); sys.stderr.write('' if len(sys.argv) else 'x')"
         self.assertEqual(self.night('--out', self.page, edit=edit)[0], 1)
         kept = os.path.join(self.page + '.outputs', 'deep', 'er', 'example.got')
         self.assertIn(b'3 h1 sc 9\n', data(kept))
@@ -140,7 +140,7 @@ class Files(NightlyCase):
         self.assertEqual((os.path.exists(kept), data(mine)), (False, b'mine'))
 
     def test_files_of_a_user_among_the_outputs_stay(self):
-        fail, folder = "out = out.replace(b'sc 0', b'sc 9')", self.page + '.outputs'
+        fail, folder = "out = out.replace(b'sc 0 broke 01', b'sc 9')", self.page + '.outputs'
         self.night('--out', self.page, edit=fail + "\nif name == 'trap_8.case': out = out[:-1]")
         kept, mine = (os.path.join(folder, 'deep', name) for name in ('trap_8.got', 'empty'))
         os.mkdir(mine)
@@ -160,7 +160,7 @@ class Files(NightlyCase):
         self.assertTrue(os.path.exists(os.path.join(self.top, 'elsewhere', 'example.got')))
 
     def test_a_full_disk_does_not_block_the_next_night(self):
-        fail, folder = "out = out.replace(b'sc 0', b'sc 9')", self.page + '.outputs'
+        fail, folder = "out = out.replace(b'sc 0 broke 01', b'sc 9')", self.page + '.outputs'
         os.mkdir(folder)         # a night that could make the folder, and no more
         self.assertEqual(self.night('--out', self.page, edit=fail)[0], 1)
         index = os.path.join(folder, 'index.txt')

@@ -13,6 +13,7 @@ import unittest
 import xml.etree.ElementTree as xml
 
 from common import CASE, EXAMPLE, EXAMPLE_LINES, NIGHTLY, ROOT, command, data
+from casefile import HARTS, WRITERS
 from logs import AGREED, DIFFERENT, FAKE, RIGHT, SC, STOPPED, LogsCase, row, write
 from nightlyfolder import board, find
 from nightlyhtml import html_page
@@ -407,6 +408,7 @@ class Sheet(LogsCase):
         self.night('--counts', self.counts)
         record = json.loads(data(self.counts))
         record['counts'].update({'%s %s' % (key, kind): 1234567890 for key in ('row', 'agreed') for kind in KINDS})
+        record['counts'].update({'broke %s %s' % (writer, loser): 1234567890 for writer in WRITERS for loser in HARTS if writer != loser})
         write(self.page, html_page(record).encode())
         for width in (360, 1000):
             shown, window = shown_width(self.page, width)
@@ -428,7 +430,7 @@ class Sheet(LogsCase):
         os.remove(os.path.join(self.folder, 'lock.case'))
         case = command(CASE, 'make', given=text.encode())[1]
         write(os.path.join(self.folder, 'first.case'), case)
-        self.script(self.program, '#!/bin/sh\necho case 2 harts 128 bytes 7 events\nfor e in "0 h0 ok" "1 h0 ok" "2 h1 ok" "3 h1 ok" "4 h1 sc 0" '
+        self.script(self.program, '#!/bin/sh\necho case 2 harts 128 bytes 7 events\nfor e in "0 h0 ok" "1 h0 ok" "2 h1 ok" "3 h1 ok" "4 h1 sc 0 broke 01" '
                     '"5 h0 sc 1" "6 h0 ok"; do echo "$e"; done\necho end 7\n')
         self.log('first.b7', rows, 'log 7 rows\nrow 5 value 0000000000000000 0000000000000001\nend 5\n')
         page = self.night()[1]

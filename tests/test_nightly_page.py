@@ -59,7 +59,7 @@ class Page(NightlyCase):
         self.add('deep/a')
         self.add('deep/b')
         self.add('deep/c')
-        edit = "out = out.replace(b'sc 0', b'sc 1')\nif name in ('a.case', 'b.case'): sys.exit(3)\nif name == 'c.case': out = out[:-1]"
+        edit = "out = out.replace(b'sc 0 broke 01', b'sc 1')\nif name in ('a.case', 'b.case'): sys.exit(3)\nif name == 'c.case': out = out[:-1]"
         _, page, _ = self.night('--expect', edit=edit)
         self.assertEqual(page[2], 'not complete: 2 missing, 1 wrong, 1 different; 9 files, 1 of them refused, 25 events; no board was compared')
         self.assertEqual(page[4:8], ['Missing: 2', '  2: the program ended with status 3', '      deep/a.case', '      deep/b.case'])
@@ -130,7 +130,7 @@ class Page(NightlyCase):
         self.assertIn('no case failed there', self.night('--only', again)[2])
 
     def test_only_compares_as_the_night_did(self):
-        differs = "out = out.replace(b'sc 0', b'sc 1')"
+        differs = "out = out.replace(b'sc 0 broke 01', b'sc 1')"
         self.night('--expect', '--counts', self.counts, edit=differs)
         status, page, _ = self.night('--only', self.counts, edit=differs)
         self.assertEqual((status, page[2]), (1, 'different: 1 different; only 1 of 6 files, 5 events; no board was compared'))
@@ -227,7 +227,7 @@ class Page(NightlyCase):
         file = os.path.join(self.top, 'junit.xml')
         self.add('\x01<&"-->\udcff')
         os.remove(os.path.join(self.folder, '\x01<&"-->\udcff.out'))
-        self.night('--junit', file, '--expect', '--night', 'a---b', edit="out = out.replace(b'sc 0', b'sc 1')")
+        self.night('--junit', file, '--expect', '--night', 'a---b', edit="out = out.replace(b'sc 0 broke 01', b'sc 1')")
         top = xml.parse(file).getroot()
         self.assertEqual((top.get('tests'), len(top.findall('.//testcase'))), ('7', 7))
         self.assertEqual((top.get('failures'), len(top.findall('.//failure'))), ('1', 1))

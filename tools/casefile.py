@@ -7,6 +7,9 @@ STEP, DEVICE, YIELD = 1, 2, 3
 Hart = namedtuple('Hart', 'registers pc')                    # registers: x1 to x31
 Event = namedtuple('Event', 'kind hart size address data')
 Case = namedtuple('Case', 'base harts memory events')
+Answer = namedtuple('Answer', 'said losers')                 # said: 'ok', 'sc 0', 'sc 1', 'trap CAUSE VALUE'; losers: of HARTS, those behind `broke`
+HARTS = tuple('h%d' % hart for hart in range(8))
+WRITERS = (*HARTS, 'd')                                      # of a write that breaks reservations, as the lines name them
 
 CAUSES = {
     0: 'jump or taken branch to a misaligned target', 1: 'the word at pc is not in memory', 2: 'no instruction of the model', 3: 'ebreak',
@@ -127,13 +130,44 @@ def letters(event):
     return 'd' if event.kind == DEVICE else ('h%d' if event.kind == STEP else 'y%d') % event.hart
 
 
-def right_line(number, event, line):
-    """The answer on an event's line ('ok', 'sc 0', 'sc 1', 'trap CAUSE VALUE'); None if it is no line of this event."""
+def line_parts(number, event, line):
+    """What an event's line says, and what stands behind its `broke` (None without one), which is not looked at; None if it is no line of this event."""
     start = '%d %s ' % (number, letters(event))
-    answer = line[len(start):]
-    if line.startswith(start) and (answer == 'ok' or event.kind == STEP and re.fullmatch(r'sc [01]|trap [0-8] [0-9a-f]{16}', answer)):
-        return answer
+    said, broke, digits = line[len(start):].partition(' broke ')
+    if line.startswith(start) and (said == 'ok' or event.kind == STEP and re.fullmatch(r'sc [01]|trap [0-8] [0-9a-f]{16}', said)):
+        return said, digits if broke else None
     return None
+
+
+def broke_fault(event, said, digits, harts):
+    """What is wrong with `broke` and what stands behind it on the line of an event of so many harts; None if nothing is."""
+    if event.kind == YIELD:
+        return "a yield's line has no broke"
+    if said not in ('ok', 'sc 0'):
+        return 'broke stands only behind ok and sc 0'
+    if not re.fullmatch('[0-9a-f]{2}', digits):
+        return 'behind broke stand two lower-case hex digits'
+    losers = int(digits, 16)
+    if not losers:
+        return 'broke 00 is never written'
+    if losers >> harts:
+        return 'bit %d is set, but the number of harts is %d' % (losers.bit_length() - 1, harts)
+    return "bit %d is the stepping hart's own" % event.hart if event.kind == STEP and losers >> event.hart & 1 else None
+
+
+def right_line(number, event, line, harts):
+    """The answer on an event's line; None if it is no line of this event in a case of so many harts."""
+    said, digits = line_parts(number, event, line) or (None, None)
+    if said is None or digits is not None and broke_fault(event, said, digits, harts):
+        return None
+    losers = int(digits or '0', 16)
+    return Answer(said, [hart for k, hart in enumerate(HARTS) if losers >> k & 1])
+
+
+def wrong_line(number, event, line, harts):
+    """What is told of a line that is not right: the line and, where all before its `broke` is right, what is wrong from there on."""
+    parts = line_parts(number, event, line)
+    return 'event %d (%s) has the line %r%s' % (number, letters(event), line[:60], ': ' + broke_fault(event, *parts, harts) if parts else '')
 
 
 def header(case):
@@ -151,7 +185,7 @@ def numbered(lines):
 
 def faults(case, text):
     """What is missing or wrong in the program's output for a good case: a list of sentences, empty if there is one line for every event."""
-    lines, count, wrong = text.split('\n'), len(case.events), []
+    lines, count, harts, wrong = text.split('\n'), len(case.events), len(case.harts), []
     if lines.pop() != '':
         wrong.append('the last line has no line feed')
         lines = text.split('\n')
@@ -161,30 +195,34 @@ def faults(case, text):
         wrong.append('the last line is %r, not %r' % (''.join(lines[-1:])[:60], 'end %d' % count))
     body = lines[bool(lines) and lines[0].startswith('case '):]
     body = body[:len(body) - (bool(body) and body[-1].startswith('end '))]
-    if len(body) == count and all(right_line(n, event, line) for n, (event, line) in enumerate(zip(case.events, body))):
+    if len(body) == count and all(right_line(n, event, line, harts) for n, (event, line) in enumerate(zip(case.events, body))):
         return wrong
     found = numbered(body)
     for n, event in enumerate(case.events):
         mine = found.pop(n, [])
         if len(mine) != 1:
             wrong.append('event %d (%s) has %s' % (n, letters(event), '%d lines' % len(mine) if mine else 'no line'))
-        elif not right_line(n, event, mine[0]):
-            wrong.append('event %d (%s) has the line %r' % (n, letters(event), mine[0][:60]))
+        elif not right_line(n, event, mine[0], harts):
+            wrong.append(wrong_line(n, event, mine[0], harts))
     wrong += ['a line of no event: %r' % line[:60] for rest in found.values() for line in rest]
     return wrong or ['the lines are not in the order of their events']
 
 
 def count(case, text):
-    """What the lines of a good answer say: events, retired, sc 0, sc 1, device, yield, and `trap C` for each cause."""
+    """What the lines of a good answer say: events, retired, sc 0, sc 1, device, yield, `trap C` for each cause, broke (the writes that broke a
+    reservation) and `broke WRITER LOSER` (the reservations that they broke)."""
     counts = Counter(events=len(case.events))
     for n, (event, line) in enumerate(zip(case.events, text.split('\n')[1:])):
-        answer = right_line(n, event, line)
+        answer = right_line(n, event, line, len(case.harts))
         if event.kind != STEP:
             counts['device' if event.kind == DEVICE else 'yield'] += 1
-        elif answer.startswith('trap'):
-            counts[answer[:6]] += 1
+        elif answer.said.startswith('trap'):
+            counts[answer.said[:6]] += 1
         else:
             counts['retired'] += 1
-            if answer != 'ok':
-                counts[answer] += 1
+            if answer.said != 'ok':
+                counts[answer.said] += 1
+        if answer.losers:
+            counts['broke'] += 1
+            counts.update('broke %s %s' % (letters(event), loser) for loser in answer.losers)
     return counts

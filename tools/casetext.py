@@ -422,11 +422,11 @@ def printable(line):
     return re.sub(r'[^ -~]', lambda found: found.group().encode('unicode_escape').decode(), line)
 
 
-def event_line(number, event, lines):
+def event_line(number, event, lines, harts):
     """An event with its number or, where lines are given, what the program wrote for it; behind a device write of a word, its disassembly."""
     mine = ['%d' % number] if lines is None else lines.get(number, ['%d: no line' % number])
     comment = ' | '.join(map(printable, mine))
-    if len(mine) == 1 and ' trap ' in comment and right_line(number, event, comment):
+    if len(mine) == 1 and ' trap ' in comment and right_line(number, event, comment, harts):
         comment += '  (%s)' % CAUSES[int(comment.split()[3])]
     if event.size == 4 and event.address % 4 == 0 and riscv.disassemble(event.data):
         comment += '  (%s)' % riscv.disassemble(event.data)
@@ -445,4 +445,4 @@ def show(case, lines=None):
     yield ''
     yield 'events'
     for number, event in enumerate(case.events):
-        yield event_line(number, event, lines)
+        yield event_line(number, event, lines, len(case.harts))

@@ -3,7 +3,7 @@ import html
 import os
 from urllib.parse import quote
 
-from nightlypage import TITLES, about, all_rows, counted, folders, good, groups, refused, since_title, title, traps, verdict
+from nightlypage import TITLES, about, all_rows, counted, folders, good, groups, losses, refused, since_title, title, traps, verdict
 from nightlysheet import (NOT_IN_ROWS, SHORT, board_text, boards, held, logs_counted, never_held, no_board, not_compared, number, printable, short_logs,
                           stop_text, stops, uncontrolled)
 from riscv import INSTRUCTIONS
@@ -33,6 +33,8 @@ summary { overflow-wrap: anywhere; cursor: pointer; } details { margin: .35rem 0
 .tables { display: flex; flex-wrap: wrap; gap: 0 1.5rem; align-items: start; } .tables div { flex: 1 1 auto; max-width: 100%; overflow-x: auto; }
 .tables div:last-child { flex-basis: 100%; } .tables th, .tables td { padding-right: .5rem; font-size: .85rem; } .tables th { font-size: .75rem; }
 .tables td.name { min-width: 0; overflow-wrap: normal; }
+.losers table { width: auto; } .losers th, .losers td { padding-right: .5rem; font-size: .85rem; overflow-wrap: anywhere; white-space: normal; width: auto; }
+.losers th { font-size: .75rem; } .losers td.name { min-width: 0; padding-right: 0; }
 .about td:first-child { color: var(--soft); white-space: nowrap; width: 1%; }
 '''
 LISTED, OPEN = 500, 20        # names of a list in the HTML page (the text has all); up to so many stand open
@@ -141,11 +143,18 @@ def escaped(rows):
     return [list(map(html.escape, row)) for row in rows]
 
 
+def html_losses(record):
+    """Who broke whose reservations; where there is little room, its numbers break over lines, so that the columns of eight harts fit."""
+    heads, rows = losses(record)
+    return section('Who broke whose reservations', html_rows(heads, ['n'] * (len(heads) - 1) + ['name'], escaped(rows)) if rows else 'None.', 'losers')
+
+
 def html_tables(record, links):
     yield '<div class="columns">'
     yield section('Counts', html_rows(None, ['n', ''], escaped(counted(record)), parts=True))
     yield section('Traps by cause', html_rows(['traps', 'cause', ''], ['n', 'n', ''], escaped(traps(record))))
     yield '</div>'
+    yield html_losses(record)
     if len(folders(record)) > 1:
         yield section('By folder', html_rows(['files', 'events', 'folder', 'faults'], ['n', 'n', 'name', 'whole'], escaped(folders(record))))
     yield section('Refused files', html_refused(record, links) or 'None.')

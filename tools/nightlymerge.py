@@ -3,6 +3,7 @@ import json
 import re
 from collections import Counter
 
+from casefile import HARTS, WRITERS
 from nightlycases import FORMAT, seal, totals
 from nightlyfolder import board, contents_hash, is_log, list_hash
 from nightlylogs import possible_stop
@@ -20,6 +21,7 @@ ROW = {'name': str, 'sha256': str, 'expected': str, 'uncompared': bool, 'outcome
 LOG = {'name': str, 'board': str, 'sha256': str, 'bytes': (int, type(None)), 'outcome': str, 'what': TEXT, 'refusal': TEXT,
        'stop': (dict, type(None)), 'counts': dict, 'seconds': float, 'kept': list, 'unkept': TEXT, 'uncontrolled': TEXT}
 STOP = {'row': int, 'field': str, 'board': TEXT, 'model': TEXT, 'line': str, 'form': TEXT}
+BROKE = {'broke %s %s' % (writer, loser) for writer in WRITERS for loser in HARTS if writer != loser}         # a hart doesn't break its own
 APART = 24 * 3600         # seconds between the starts of two parts that may be of one night, if it has no name
 
 
@@ -35,9 +37,23 @@ def well_shaped(record):
         type(x) is str for texts in [record['others']] + [row['kept'] for row in all_rows(record)] for x in texts)
 
 
+def broke_agrees(c):
+    """Whether the counts of broken reservations agree with each other and with those of the events. A write that breaks any breaks at most one of each
+    loser: so a writer has at least as many such writes as one loser lost to it, and at most as many as all lost to it. Those of harts are retired steps
+    and no failed SC."""
+    if any(key.startswith('broke ') and key not in BROKE for key in c):
+        return False
+    lost = {writer: [c['broke %s %s' % (writer, loser)] for loser in HARTS] for writer in WRITERS}
+    ranges = [(sum(max(lost[writer]) for writer in writers), min(sum(sum(lost[writer]) for writer in writers), writes))
+              for writers, writes in ((HARTS, c['retired'] - c['sc 1']), (('d',), c['device']))]
+    return all(least <= most for least, most in ranges) and sum(least for least, _ in ranges) <= c['broke'] <= sum(most for _, most in ranges)
+
+
 def agrees(row):
     """Whether a case's row agrees with itself: each event of a performed case is a step retired or trapped, a device write or a yield."""
     c = Counter(row['counts'])
+    if not broke_agrees(c):
+        return False
     parts = c['retired'] + c['device'] + c['yield'] + sum(n for key, n in c.items() if key.startswith('trap '))
     if row['outcome'] == 'performed':
         return c['asked'] == c['events'] == parts and c['sc 0'] + c['sc 1'] <= c['retired'] and not row['what'] and not row['refusal']
@@ -84,7 +100,9 @@ def load(path):
         return 'is no whole counts file: %s' % error
     if not isinstance(record, dict) or not str(record.get('format')).startswith(FORMAT[:-1]):
         return 'is no counts file of tools/nightly'
-    if record['format'] != FORMAT or not well_shaped(record):
+    if record['format'] != FORMAT:
+        return 'is no counts file of this version of tools/nightly: its format is %s, not %s' % (ascii(str(record['format'])[:60]), ascii(FORMAT))
+    if not well_shaped(record):
         return 'is no counts file of this version of tools/nightly'
     if record['seal'] != seal(record):
         return 'was changed after it was written: its hash is another'

@@ -2,7 +2,7 @@
 import os
 from textwrap import wrap
 
-from casefile import CAUSES, REFUSALS
+from casefile import CAUSES, HARTS, REFUSALS, WRITERS
 from nightlysheet import (NOT_IN_ROWS, SHORT, board_text, boards, held, log_reason, logs_counted, logs_of, never_held, no_board, not_compared, number, of,
                           printable, seconds, sheet_verdict, short_logs, stop_text, stops, uncontrolled)
 
@@ -102,7 +102,7 @@ def counted(record):
              (c.get('missing', 0) + c.get('wrong', 0), '.. without a right answer'), (len(record['others']), 'other files, not run'),
              (c.get('asked', 0), 'events in the files'), (c.get('events', 0), '.. performed, each with its line'), (c.get('retired', 0), 'steps retired'),
              (c.get('sc 0', 0), '.. SC that stored'), (c.get('sc 1', 0), '.. SC that failed'), (trapped, 'steps trapped'),
-             (c.get('device', 0), 'device writes'), (c.get('yield', 0), 'yields')]
+             (c.get('device', 0), 'device writes'), (c.get('yield', 0), 'yields'), (c.get('broke', 0), 'writes that broke a reservation')]
     if record['expect']:
         table.append((sum(fault(row) is None and not row['uncompared'] for row in rows), 'outputs equal to the expected ones'))
     if c.get('uncompared'):
@@ -114,6 +114,16 @@ def traps(record):
     c = record['counts']
     rows = [[number(c['trap %d' % cause]), str(cause), what] for cause, what in CAUSES.items() if c.get('trap %d' % cause)]
     return rows or [['0', '', 'none']]
+
+
+def losses(record):
+    """The heads and rows of who broke whose reservations: a row for each writer and a column for each loser that there were, and the sums of both; no
+    rows if none was broken."""
+    broke = {writer: {loser: record['counts'].get('broke %s %s' % (writer, loser), 0) for loser in HARTS} for writer in WRITERS}
+    losers = [loser for loser in HARTS if any(mine[loser] for mine in broke.values())]
+    rows = [([mine[loser] for loser in losers], writer) for writer, mine in broke.items() if any(mine.values())]
+    rows += [([sum(column) for column in zip(*(mine for mine, _ in rows))], 'in all')] if rows else []
+    return [loser + ' lost' for loser in losers] + ['in all', 'writer'], [[*map(number, mine), number(sum(mine)), name] for mine, name in rows]
 
 
 def refused(record):
@@ -201,6 +211,11 @@ def text_groups(record):
     return lines + ['  %s: %s' % (printable(row['name']), row['unkept']) for row in unkept]
 
 
+def text_losses(record):
+    heads, rows = losses(record)
+    return ['', 'Who broke whose reservations'] + (text_table(heads, rows) if rows else ['  none'])
+
+
 def text_page(record):
     lines = [title(record), '', ': '.join(verdict(record))] + text_sheet(record) + text_groups(record)
     if record['since']:
@@ -208,7 +223,7 @@ def text_page(record):
         for what, names in record['since']['groups'] or [['nothing is new and nothing is gone', []]]:
             lines += ['  %s %s' % (number(len(names)), what) if names else '  ' + what] + ['      ' + printable(name) for name in names]
     lines += text_boards(record) + ['', 'Counts'] + text_table(None, counted(record))
-    lines += ['', 'Traps by cause'] + text_table(['traps', 'cause', ''], traps(record))
+    lines += ['', 'Traps by cause'] + text_table(['traps', 'cause', ''], traps(record)) + text_losses(record)
     rows = [[k, place, what, printable(name)] for k, place, what, name in refused(record)]
     lines += ['', 'Refused files'] + (text_table(['number', 'place', 'what is wrong', 'file'], rows, left=(2,)) if rows else ['  none'])
     lines += ['', 'By folder'] + text_table(['files', 'events', 'folder', 'faults'], folders(record), left=(2,))
