@@ -51,8 +51,8 @@ impl Call {
         }
     }
 
-    /// The bytes it tells beside its answer: a trap's value; how many events a run performed, and the place of its refusal; how many
-    /// rows of a log agreed, and the values of the next one, the board's and the model's.
+    /// The bytes it tells beside its answer: a trap's value, or the harts whose reservation a retired event broke; how many events a run
+    /// performed, and the place of its refusal; how many rows of a log agreed, and the values of the next one, the board's and the model's.
     pub fn told(&self) -> usize {
         match self {
             Call::Run { .. } => 16,
@@ -73,8 +73,10 @@ pub fn perform(machine: &mut Machine, call: &Call, told: &mut [u8]) -> u64 {
     let mut memory = Memory { base: machine.base, bytes: &mut machine.memory };
     let answer = match *call {
         Call::Step { hart } => event(state.step(&mut memory, hart), told),
-        Call::DeviceWrite { addr, size, data } => event(state.device(&mut memory, addr, size, data).map(|()| Outcome::Retired), told),
-        Call::Yield { hart } => event(state.yield_hart(&memory, hart).map(|()| Outcome::Retired), told),
+        Call::DeviceWrite { addr, size, data } => {
+            event(state.device(&mut memory, addr, size, data).map(|broke| Outcome::Retired { broke }), told)
+        }
+        Call::Yield { hart } => event(state.yield_hart(&memory, hart).map(|()| Outcome::Retired { broke: 0 }), told),
         Call::Run { ref events, budget } => run_all(&mut state, &mut memory, events, budget, told),
         Call::Replay { ref log } => replay_all(&mut state, &mut memory, log, told),
     };
@@ -88,9 +90,9 @@ pub fn perform(machine: &mut Machine, call: &Call, told: &mut [u8]) -> u64 {
 /// The number of an event's outcome, and the value it tells.
 fn event(outcome: Result<Outcome, u8>, value: &mut [u8]) -> u64 {
     let (answer, told) = match outcome {
-        Ok(Outcome::Retired) => (0, 0),
-        Ok(Outcome::Sc { success: true }) => (SC_STORED, 0),
-        Ok(Outcome::Sc { success: false }) => (SC_FAILED, 0),
+        Ok(Outcome::Retired { broke }) => (0, broke.into()),
+        Ok(Outcome::Sc { success: true, broke }) => (SC_STORED, broke.into()),
+        Ok(Outcome::Sc { success: false, broke }) => (SC_FAILED, broke.into()),
         Ok(Outcome::Trap(trap)) => (TRAP + trap.cause as u64, trap.value),
         Err(number) => (REFUSED + number as u64, 0),
     };
@@ -145,5 +147,50 @@ pub fn check_loop(words: &[u8]) -> u64 {
         Ok(Verdict::Accepted) => 0,
         Ok(Verdict::Rejected { place, reason }) => 256 * (place as u64 + 1) + reason as u64,
         Err(number) => number as u64,
+    }
+}
+
+#[cfg(test)]
+mod tests {
+    use super::*;
+    use crate::generate::{scenario, Rng};
+
+    /// Whose reservation is gone after an event, as a number.
+    fn lost(before: &State, after: &State) -> u64 {
+        let gone = |h: &usize| before.harts[*h].reservation.is_some() && after.harts[*h].reservation.is_none();
+        (0..before.harts.len()).filter(gone).map(|h| 1 << h).sum()
+    }
+
+    /// A hart that doesn't step or yield itself loses its reservation by a write alone: so what a retired event tells is what is gone,
+    /// without the event's own hart.
+    #[test]
+    fn told_is_lost() {
+        let mut times = [0; 256];
+        for seed in 0..1000 {
+            let given = scenario(&mut Rng::new(seed));
+            let mut machine = given.machine;
+            for call in of_events(&given.events) {
+                let (before, mut told) = (layout::read(&machine.state), [0xA5; 8]);
+                let answer = perform(&mut machine, &call, &mut told);
+                let (Some(before), Some(after)) = (before, layout::read(&machine.state)) else {
+                    continue;
+                };
+                let own = match call {
+                    Call::Step { hart } | Call::Yield { hart } if hart < 8 => 1 << hart,
+                    _ => 0,
+                };
+                let value = layout::get(&told, 0);
+                match answer {
+                    0..TRAP => {
+                        assert_eq!(value, lost(&before, &after) & !own, "seed {seed}, {call:?}");
+                        times[value as usize] += 1;
+                    }
+                    TRAP..REFUSED => assert_eq!(lost(&before, &after), 0, "seed {seed}, {call:?}"),
+                    _ => assert_eq!((value, lost(&before, &after)), (0, 0), "seed {seed}, {call:?}"),
+                }
+            }
+        }
+        // Nearly every set of harts is met, so that no bit is left out.
+        assert!(times.iter().filter(|&&times| times > 0).count() > 200);
     }
 }

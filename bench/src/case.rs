@@ -1,6 +1,6 @@
 //! The case file, a run of its events, and the program's lines.
 
-use crate::machine::{base_allowed, length_allowed, Memory, Outcome, State, MAX_HARTS};
+use crate::machine::{base_allowed, length_allowed, HartMask, Memory, Outcome, State, MAX_HARTS};
 
 pub const EVENT: usize = 24;
 pub const TABLE: usize = 40;
@@ -126,12 +126,11 @@ fn perform(state: &mut State, memory: &mut Memory, body: &[u8], mut observe: imp
             1 => state.perform_step(memory, hart),
             2 => {
                 let size = bytes[2] as usize;
-                state.perform_device(memory, u64_at(bytes, 8), &bytes[16..16 + size]);
-                Outcome::Retired
+                Outcome::Retired { broke: state.perform_device(memory, u64_at(bytes, 8), &bytes[16..16 + size]) }
             }
             _ => {
                 state.perform_yield(hart);
-                Outcome::Retired
+                Outcome::Retired { broke: 0 }
             }
         };
         observe(n, bytes[0], hart, outcome);
@@ -161,8 +160,9 @@ fn put_decimal(out: &mut Vec<u8>, mut n: usize) {
     out.extend_from_slice(&digits[at..]);
 }
 
-fn put_hex(out: &mut Vec<u8>, value: u64) {
-    let digits: [u8; 16] = std::array::from_fn(|n| b"0123456789abcdef"[(value >> (60 - 4 * n) & 15) as usize]);
+/// The N lowest hex digits.
+fn put_hex<const N: usize>(out: &mut Vec<u8>, value: u64) {
+    let digits: [u8; N] = std::array::from_fn(|n| b"0123456789abcdef"[(value >> (4 * (N - 1 - n)) & 15) as usize]);
     out.extend_from_slice(&digits);
 }
 
@@ -209,15 +209,54 @@ fn put_line(out: &mut Vec<u8>, n: usize, kind: u8, hart: usize, outcome: Outcome
         _ => out.extend_from_slice(&[b' ', b'y', b'0' + hart as u8]),
     }
     match outcome {
-        Outcome::Retired => out.extend_from_slice(b" ok"),
-        Outcome::Sc { success: true } => out.extend_from_slice(b" sc 0"),
-        Outcome::Sc { success: false } => out.extend_from_slice(b" sc 1"),
+        Outcome::Retired { .. } => out.extend_from_slice(b" ok"),
+        Outcome::Sc { success: true, .. } => out.extend_from_slice(b" sc 0"),
+        Outcome::Sc { success: false, .. } => out.extend_from_slice(b" sc 1"),
         Outcome::Trap(trap) => {
             out.extend_from_slice(b" trap ");
             put_decimal(out, trap.cause as usize);
             out.push(b' ');
-            put_hex(out, trap.value);
+            put_hex::<16>(out, trap.value);
         }
     }
+    put_broke(out, outcome.broke());
     out.push(b'\n');
+}
+
+/// "An event line gets ` broke` and two lower-case hex digits where the set isn't empty, before the line end."
+#[inline]
+fn put_broke(out: &mut Vec<u8>, broke: HartMask) {
+    if broke != 0 {
+        out.extend_from_slice(b" broke ");
+        put_hex::<2>(out, broke.into());
+    }
+}
+
+#[cfg(test)]
+mod tests {
+    use super::*;
+    use crate::generate::builder::{event_bytes, file, DEVICE, STEP};
+
+    /// The example of document 01; "Line 3 in 01's example becomes `3 h1 sc 0 broke 01`".
+    #[test]
+    fn example() {
+        let mut harts = [0, 2u64].map(u64::to_le_bytes).concat();
+        for _ in 0..2 {
+            // x1 to x31 and pc.
+            harts.extend((1..=32).flat_map(|r| if r == 5 { 64u64 } else { 0 }.to_le_bytes()));
+        }
+        let mut memory = vec![0; 128];
+        memory[..8].copy_from_slice(&[0x1002_A32F, 0x1882_A3AFu32].map(u32::to_le_bytes).concat());
+        let step = |hart| event_bytes(STEP, hart, 0, 0, 0);
+        let events = [step(0), event_bytes(DEVICE, 0, 1, 72, 0), step(1), step(1), step(0)].concat();
+        let lines = "case 2 harts 128 bytes 5 events
+0 h0 ok
+1 d ok
+2 h1 ok
+3 h1 sc 0 broke 01
+4 h0 sc 1
+end 5
+";
+        assert_eq!(String::from_utf8(report(&file(&harts, &memory, &events))).unwrap(), lines);
+    }
 }

@@ -1,9 +1,11 @@
-//! A second implementation of document 01 and of requests 1 and 2 of document 02, written from the papers alone, to compare the proved one
+//! A second implementation of document 01 and of requests 1 to 3 of document 02, written from the papers alone, to compare the proved one
 //! with and to measure it against.
 //!
 //! The implementation is `word`, `machine`, `case`, `log` and `loops`; `layout` and `calls` put it behind the calls of include/floecavern.h.
-//! `floecavern` is the proved library itself. `generate` and `work` make inputs for both; `reached` counts what generated logs reach.
+//! `floecavern` is the proved library itself. `generate` and `work` make inputs for both; `reached` counts what generated logs reach,
+//! `broken` what the writes of generated events break.
 
+pub mod broken;
 pub mod calls;
 pub mod case;
 pub mod clock;

@@ -1,4 +1,5 @@
-//! Harts, memory, steps, device writes and yields.
+//! Harts, memory, steps, device writes and yields. What breaks a reservation is quoted from document 01, who is told of it from request 3 of
+//! document 02.
 
 use crate::word::{decode, Alu, Atomic, AtomicOp, Cond, Instr};
 
@@ -36,11 +37,26 @@ pub struct Trap {
     pub value: u64,
 }
 
+/// Harts as a number: "one bit each, bit 0 for hart 0".
+pub type HartMask = u8;
+
+/// `broke` is "the set of harts whose reservation it broke": empty for all but a write.
 #[derive(Clone, Copy, PartialEq, Eq, Debug)]
 pub enum Outcome {
-    Retired,
-    Sc { success: bool },
+    Retired { broke: HartMask },
+    Sc { success: bool, broke: HartMask },
     Trap(Trap),
+}
+
+impl Outcome {
+    /// A trap has written nothing.
+    #[inline]
+    pub fn broke(self) -> HartMask {
+        match self {
+            Outcome::Retired { broke } | Outcome::Sc { broke, .. } => broke,
+            Outcome::Trap(_) => 0,
+        }
+    }
 }
 
 /// Looks on at a step, and can stop it before anything has changed. Each watcher has a step compiled for it, so that one without a
@@ -314,8 +330,8 @@ impl State {
         Ok(self.perform_step(memory, hart))
     }
 
-    /// A device write of the low `size` bytes of `data`.
-    pub fn device(&mut self, memory: &mut Memory, addr: u64, size: usize, data: u64) -> Result<(), u8> {
+    /// A device write of the low `size` bytes of `data`: whose reservations it broke.
+    pub fn device(&mut self, memory: &mut Memory, addr: u64, size: usize, data: u64) -> Result<HartMask, u8> {
         self.check(memory)?;
         if !(1..=8).contains(&size) {
             return Err(4);
@@ -323,10 +339,10 @@ impl State {
         if !memory.contains(addr, size as u64) {
             return Err(5);
         }
-        self.perform_device(memory, addr, &data.to_le_bytes()[..size]);
-        Ok(())
+        Ok(self.perform_device(memory, addr, &data.to_le_bytes()[..size]))
     }
 
+    /// It breaks no reservation but its own hart's, which isn't told: "A yield sets none".
     pub fn yield_hart(&mut self, memory: &Memory, hart: usize) -> Result<(), u8> {
         self.check(memory)?;
         self.check_hart(hart)?;
@@ -339,34 +355,35 @@ impl State {
         self.check(memory)
     }
 
-    pub(crate) fn perform_device(&mut self, memory: &mut Memory, addr: u64, data: &[u8]) {
+    /// "a device write that touches a byte the LR read".
+    pub(crate) fn perform_device(&mut self, memory: &mut Memory, addr: u64, data: &[u8]) -> HartMask {
         let place = (addr - memory.base) as usize;
         memory.bytes[place..place + data.len()].copy_from_slice(data);
         let end = addr + data.len() as u64;
-        for hart in &mut self.harts[..self.count] {
-            if let Some(r) = hart.reservation {
-                if r.addr < end && addr < r.addr + r.width {
-                    hart.reservation = None;
-                }
-            }
-        }
+        self.break_those(|_, r| r.addr < end && addr < r.addr + r.width)
     }
 
     pub(crate) fn perform_yield(&mut self, hart: usize) {
         self.harts[hart].reservation = None;
     }
 
-    /// A write by a hart. It is aligned and so lies in one set.
-    fn break_others(&mut self, writer: usize, addr: u64) {
+    /// "a retired write by another hart that touches a byte of the set". It is aligned and so lies in one set. "The writing hart's own bit
+    /// is never set by its own write", as its own write breaks nothing of its own.
+    fn break_others(&mut self, writer: usize, addr: u64) -> HartMask {
+        self.break_those(|number, r| number != writer && r.addr / SET == addr / SET)
+    }
+
+    /// Breaks the reservations for which `broken` holds, of harts below the count.
+    #[inline]
+    fn break_those(&mut self, broken: impl Fn(usize, Reservation) -> bool) -> HartMask {
+        let mut broke = 0;
         for (number, hart) in self.harts[..self.count].iter_mut().enumerate() {
-            if number != writer {
-                if let Some(r) = hart.reservation {
-                    if r.addr / SET == addr / SET {
-                        hart.reservation = None;
-                    }
-                }
+            if hart.reservation.is_some_and(|r| broken(number, r)) {
+                hart.reservation = None;
+                broke |= 1 << number;
             }
         }
+        broke
     }
 
     #[inline]
@@ -388,7 +405,7 @@ impl State {
         let pc = hart.pc;
         let instr = memory.fetch(pc, watch)?;
         let mut next = pc.wrapping_add(4);
-        let mut outcome = Outcome::Retired;
+        let mut outcome = Outcome::Retired { broke: 0 };
         match instr {
             Instr::Lui { rd, imm } => hart.retire(watch, rd, imm)?,
             Instr::Auipc { rd, imm } => hart.retire(watch, rd, pc.wrapping_add(imm))?,
@@ -409,7 +426,7 @@ impl State {
                 let target = memory.target(addr, width)?;
                 watch.retires(0, 0)?;
                 write(target, width, hart.get(rs2));
-                self.break_others(number, addr);
+                outcome = Outcome::Retired { broke: self.break_others(number, addr) };
             }
             Instr::OpImm { op, rd, rs1, imm } => hart.retire(watch, rd, alu(op, hart.get(rs1), imm))?,
             Instr::Op { op, rd, rs1, rs2 } => hart.retire(watch, rd, alu(op, hart.get(rs1), hart.get(rs2)))?,
@@ -437,7 +454,7 @@ impl State {
         };
         let bytes = &mut memory.bytes[place..place + width as usize];
         if a.op == AtomicOp::Sc {
-            return Ok(Outcome::Sc { success: self.store_conditional(bytes, number, a, watch)? });
+            return self.store_conditional(bytes, number, a, watch);
         }
         let wrote = if a.width == 16 {
             watch.retires(a.rd, read(bytes, 8))?;
@@ -449,14 +466,11 @@ impl State {
             hart.set(a.rd, old);
             wrote
         };
-        if wrote {
-            self.break_others(number, addr);
-        }
-        Ok(Outcome::Retired)
+        Ok(Outcome::Retired { broke: if wrote { self.break_others(number, addr) } else { 0 } })
     }
 
-    /// An SC on its bytes, which are aligned and in memory; whether it stored.
-    fn store_conditional<W: Watch>(&mut self, bytes: &mut [u8], number: usize, a: Atomic, watch: &mut W) -> Result<bool, W::Stop> {
+    /// An SC on its bytes, which are aligned and in memory.
+    fn store_conditional<W: Watch>(&mut self, bytes: &mut [u8], number: usize, a: Atomic, watch: &mut W) -> Result<Outcome, W::Stop> {
         let hart = &mut self.harts[number];
         let addr = hart.get(a.rs1);
         let success = hart.reservation.is_some_and(|r| r.addr / SET == addr / SET);
@@ -464,11 +478,12 @@ impl State {
         hart.reservation = None;
         let value = hart.get(a.rs2);
         hart.set(a.rd, !success as u64);
+        let mut broke = 0;
         if success {
             write(bytes, a.width, value);
-            self.break_others(number, addr);
+            broke = self.break_others(number, addr);
         }
-        Ok(success)
+        Ok(Outcome::Sc { success, broke })
     }
 }
 

@@ -108,11 +108,12 @@ impl Met {
 /// Whether the hart's next step is an SC that stores.
 fn stores(state: &State, memory: &Memory, hart: usize) -> bool {
     let mut bytes = memory.bytes.to_vec();
-    state.clone().perform_step(&mut Memory { base: memory.base, bytes: &mut bytes }, hart) == Outcome::Sc { success: true }
+    let outcome = state.clone().perform_step(&mut Memory { base: memory.base, bytes: &mut bytes }, hart);
+    matches!(outcome, Outcome::Sc { success: true, .. })
 }
 
 /// Whether an AMOCAS finds what it compares with.
-fn equal(hart: &Hart, memory: &Memory, a: Atomic) -> bool {
+pub(crate) fn equal(hart: &Hart, memory: &Memory, a: Atomic) -> bool {
     let addr = hart.x[a.rs1 as usize];
     if !memory.contains(addr, a.width as u64) {
         return false;
@@ -336,7 +337,7 @@ fn traps() -> impl Iterator<Item = String> {
 }
 
 /// What can't be reached and wasn't is a dot.
-fn cell(possible: bool, count: Option<&u64>) -> String {
+pub(crate) fn cell(possible: bool, count: Option<&u64>) -> String {
     match (possible, count) {
         (_, Some(count)) => count.to_string(),
         (true, None) => "0".into(),

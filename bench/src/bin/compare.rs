@@ -2,6 +2,8 @@
 //! compare PROGRAM KEEP FILE..: the same for files.
 //! Stops at the first difference; the case and both outputs are then left in the folder KEEP.
 
+use bench::broken::Broken;
+use bench::case::read_case;
 use std::collections::BTreeMap;
 use std::fs::{self, File};
 use std::process::{Command, Stdio};
@@ -10,10 +12,14 @@ struct Tally {
     cases: u64,
     events: u64,
     lines: BTreeMap<String, u64>,
+    broken: Broken,
 }
 
 /// The kind of a line: its words without the numbers that vary.
 fn kind(line: &str) -> String {
+    if let Some((line, _)) = line.split_once(" broke ") {
+        return format!("{} broke", kind(line));
+    }
     let words: Vec<&str> = line.split(' ').collect();
     match words[..] {
         ["refused", number, _] => format!("refused {number}"),
@@ -48,6 +54,9 @@ fn compare(program: &str, keep: &str, name: &str, case: &[u8], tally: &mut Tally
         *tally.lines.entry(kind(line)).or_default() += 1;
         tally.events += 1;
     }
+    if let Ok(case) = read_case(case) {
+        tally.broken.count(&case.state, case.base, case.memory, case.events);
+    }
     Ok(())
 }
 
@@ -59,7 +68,7 @@ fn main() -> std::io::Result<()> {
     }
     let (program, keep) = (&arguments[1], &arguments[2]);
     fs::create_dir_all(keep)?;
-    let mut tally = Tally { cases: 0, events: 0, lines: BTreeMap::new() };
+    let mut tally = Tally { cases: 0, events: 0, lines: BTreeMap::new(), broken: Broken::default() };
     match (arguments[3].parse::<u64>(), arguments.get(4).map(|n| n.parse::<u64>())) {
         (Ok(first), Some(Ok(count))) => {
             println!("seeds {first} to {}", first + count - 1);
@@ -77,5 +86,6 @@ fn main() -> std::io::Result<()> {
     for (kind, count) in &tally.lines {
         println!("  {kind}: {count}");
     }
+    tally.broken.print(true);
     Ok(())
 }

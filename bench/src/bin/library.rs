@@ -4,10 +4,11 @@
 //! FIRST is the first seed. Stops at the first difference; what was given is then left in the folder KEEP. The file KEEP/current has the
 //! seed at work, should a call not come back.
 
+use bench::broken::Broken;
 use bench::calls::{self, Call, Machine, BAD_SIZE, REFUSED, TRAP};
 use bench::case::EVENT;
 use bench::generate::builder::low_bytes;
-use bench::generate::{case, log, loop_block, refused_call, run_call, scenario, Rng};
+use bench::generate::{case, log, loop_block, refused_call, run_call, scenario, Rng, Scenario};
 use bench::log::ROW;
 use bench::machine::{State, MAX_HARTS};
 use bench::reached::Reached;
@@ -28,6 +29,7 @@ struct Tally {
     runs: BTreeMap<&'static str, u64>,
     /// Machines by reservations held at the start.
     held: BTreeMap<usize, u64>,
+    broken: Broken,
     replays: Reached,
     /// Logs cut in two parts, both replayed as the whole.
     cut: u64,
@@ -112,6 +114,7 @@ impl Tally {
             answers: BTreeMap::new(),
             runs: BTreeMap::new(),
             held: BTreeMap::new(),
+            broken: Broken::default(),
             replays: Reached::new(&[1, 2, 12, 13]),
             cut: 0,
         }
@@ -132,10 +135,12 @@ impl Tally {
         }
     }
 
-    fn count_start(&mut self, machine: &Machine) {
+    fn count_given(&mut self, given: &Scenario) {
+        let machine = &given.machine;
         if let Some(state) = layout::read(&machine.state) {
             let held = state.harts.iter().take(state.count).filter(|h| h.reservation.is_some()).count();
             *self.held.entry(held).or_default() += 1;
+            self.broken.count(&state, machine.base, &machine.memory, &given.events);
         }
     }
 
@@ -144,6 +149,7 @@ impl Tally {
         for (held, number) in &self.held {
             println!("    {held}: {number}");
         }
+        self.broken.print(false);
         println!("  answers:");
         for ((call, answer), number) in &self.answers {
             // Those of replays come below.
@@ -176,7 +182,7 @@ fn compare_machine(seed: u64, tally: &mut Tally) -> Result<(), Difference> {
     let rng = &mut Rng::new(seed);
     let given = scenario(rng);
     let machine = &given.machine;
-    tally.count_start(machine);
+    tally.count_given(&given);
     let count = layout::read(&machine.state).map_or(1, |s| s.count.clamp(1, MAX_HARTS));
     let mut single = Pair::new(machine);
     for call in calls::of_events(&given.events) {

@@ -117,17 +117,21 @@ impl Builder {
         self.bytes = self.memory.clone();
     }
 
-    /// Reservations of some harts, most of them where a register points.
+    /// Reservations of some harts or of all, most of them where a register points or where the hart before has its own.
     fn reserve(&mut self, rng: &mut Rng) {
+        let (some, same) = (rng.pick(&[30, 60, 60, 100]), rng.pick(&[0, 30, 80]));
+        let mut before = None;
         for h in 0..self.state.count {
-            if rng.percent(40) {
+            if !rng.percent(some) {
                 continue;
             }
             let width = rng.pick(&[4, 8]);
             let pointer = self.state.harts[h].x[self.pointer(rng, h, 4) as usize];
             let any = self.base + rng.below(self.memory.len() as u64);
-            let addr = if self.inside(pointer, 1) && rng.percent(80) { pointer } else { any };
-            self.state.harts[h].reservation = Some(Reservation { addr: addr & !(width - 1), width });
+            let near = if self.inside(pointer, 1) && rng.percent(80) { pointer } else { any };
+            let addr = before.filter(|_| rng.percent(same)).unwrap_or(near) & !(width - 1);
+            self.state.harts[h].reservation = Some(Reservation { addr, width });
+            before = Some(addr);
         }
     }
 

@@ -2,11 +2,11 @@
 
 use super::builder::Builder;
 use super::damage::damaged_body;
-use super::makers::{contention, crowded, guided, program};
+use super::makers::{contention, crowded, gathered, guided, program};
 use super::Rng;
 use crate::calls::{Call, Machine};
 use crate::layout;
-use crate::machine::{State, MAX_HARTS};
+use crate::machine::MAX_HARTS;
 
 /// A machine with an events body. The body isn't refused unless the machine is.
 pub struct Scenario {
@@ -16,14 +16,15 @@ pub struct Scenario {
 
 pub fn scenario(rng: &mut Rng) -> Scenario {
     let maker = match rng.below(20) {
-        0..=5 => guided,
-        6..=8 => program,
-        9..=11 => contention,
+        0..=4 => guided,
+        5..=7 => program,
+        8..=10 => contention,
+        11..=13 => gathered,
         _ => crowded,
     };
     let b = Builder::for_state(rng);
     let b = maker(rng, b);
-    let mut machine = Machine { state: state_bytes(rng, &b.first), base: b.base, memory: b.memory };
+    let mut machine = Machine { state: state_bytes(rng, &b), base: b.base, memory: b.memory };
     let mut events = b.events;
     if rng.percent(15) {
         for _ in 0..1 + rng.below(2) {
@@ -35,13 +36,17 @@ pub fn scenario(rng: &mut Rng) -> Scenario {
     Scenario { machine, events }
 }
 
-/// The state as bytes, with rubbish where nothing is looked at.
-fn state_bytes(rng: &mut Rng, state: &State) -> Vec<u8> {
+/// The first state as bytes, with rubbish where nothing is looked at.
+fn state_bytes(rng: &mut Rng, b: &Builder) -> Vec<u8> {
+    let state = &b.first;
     let mut bytes = layout::bytes(state);
     for h in 0..MAX_HARTS {
         if h >= state.count {
             if rng.percent(70) {
                 put_rubbish(rng, &mut bytes, h);
+            }
+            if rng.percent(50) {
+                seem_to_hold(rng, &mut bytes, b, h);
             }
         } else if state.harts[h].reservation.is_none() {
             if rng.percent(30) {
@@ -61,6 +66,22 @@ fn put_rubbish(rng: &mut Rng, bytes: &mut [u8], hart: usize) {
     }
     for place in [layout::pc(hart), layout::held(hart), layout::addr(hart), layout::width(hart)] {
         layout::put(bytes, place, rng.value());
+    }
+}
+
+/// An unused hart with a reservation of good form, mostly one that a used hart holds or will hold, so that writes touch it.
+fn seem_to_hold(rng: &mut Rng, bytes: &mut [u8], b: &Builder, hart: usize) {
+    let width = rng.pick(&[4, 8]);
+    let used = rng.below(b.first.count as u64) as usize;
+    let held = rng.pick(&[&b.first, &b.state]).harts[used].reservation;
+    let any = b.base + rng.below(b.memory.len() as u64);
+    let addr = held.filter(|_| rng.percent(80)).map_or(any, |r| r.addr) & !(width - 1);
+    put_reservation(bytes, hart, addr, width);
+}
+
+fn put_reservation(bytes: &mut [u8], hart: usize, addr: u64, width: u64) {
+    for (place, value) in [(layout::held(hart), 1), (layout::addr(hart), addr), (layout::width(hart), width)] {
+        layout::put(bytes, place, value);
     }
 }
 
@@ -121,9 +142,7 @@ fn damage_reservation(rng: &mut Rng, m: &mut Machine, hart: usize) {
         2 => rng.pick(&[0, 4, 1 << 40, 1 << 63, u64::MAX - 3, u64::MAX - 7]),
         _ => rng.next() & !7,
     };
-    for (place, value) in [(layout::held(hart), 1), (layout::addr(hart), addr), (layout::width(hart), width)] {
-        layout::put(&mut m.state, place, value);
-    }
+    put_reservation(&mut m.state, hart, addr, width);
 }
 
 /// A call that 3, 4 or 5 refuses where 1 and 2 don't.

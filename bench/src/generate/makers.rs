@@ -3,7 +3,7 @@
 use super::builder::Builder;
 use super::words::{atomic, b_type, i_type, j_type, s_type, word, AMOS, ATOMICS, CAS, D, LR, NOP, Q, SC, W};
 use super::Rng;
-use crate::machine::Outcome;
+use crate::machine::{Outcome, MAX_HARTS};
 
 /// Random words, one after another, at the pc of random harts.
 pub fn guided(rng: &mut Rng, mut b: Builder) -> Builder {
@@ -186,4 +186,88 @@ fn crowded_word(rng: &mut Rng) -> u32 {
         }
         _ => s_type(rng.reg() & 3, address, rs2, rng.below(5) as i64 * 8 - 16),
     }
+}
+
+/// Rounds in which harts reserve at few addresses about the boundary of two sets, and then harts and devices write there: so one write
+/// breaks the reservations of many, each of them by another set, by the LR's bytes or not at all.
+pub fn gathered(rng: &mut Rng, mut b: Builder) -> Builder {
+    b.memory.resize(b.memory.len().max(256), 0);
+    if rng.percent(60) {
+        b.state.count = MAX_HARTS;
+    }
+    b.fill_registers(rng);
+    let boundary = b.base + rng.pick(&[128, b.memory.len() as u64 - 64]);
+    let place = boundary - 64 + 8 * rng.below(16);
+    for h in 0..b.state.count {
+        let hart = &mut b.state.harts[h];
+        hart.pc = b.base + 4 * rng.below(15);
+        let few = [place, place & !15, place ^ 4, boundary - 8, boundary, boundary - 64, boundary + 48, boundary - 64 + 4 * rng.below(32)];
+        hart.x[8..16].copy_from_slice(&few);
+    }
+    b.start(rng);
+    // A round has about 24 events.
+    let rounds = b.steps(rng, 300, 1800) / 24;
+    for _ in 0..rounds {
+        gather(rng, &mut b);
+        for _ in 0..1 + rng.below(3) {
+            write_or_not(rng, &mut b);
+        }
+    }
+    let (registers, words) = (rng.percent(20), rng.below(8));
+    b.show(rng, registers, words);
+    b
+}
+
+/// An LR of some harts or of all, at one address or at several.
+fn gather(rng: &mut Rng, b: &mut Builder) {
+    let (some, same) = (rng.pick(&[50, 90, 100]), rng.pick(&[0, 60, 100]));
+    for hart in 0..b.state.count {
+        if rng.percent(some) {
+            let address = if rng.percent(same) { 8 } else { few_pointer(rng) };
+            let word = atomic(LR, rng.pick(&[W, D]), rng.reg() & 3, rng.reg() & 7, address, 0);
+            perform_in_first_line(b, hart, word);
+        }
+    }
+}
+
+/// One of the registers that hold the few addresses.
+fn few_pointer(rng: &mut Rng) -> u32 {
+    8 + rng.below(8) as u32
+}
+
+/// A write of any kind; now and then one that fails or traps, or a yield.
+fn write_or_not(rng: &mut Rng, b: &mut Builder) {
+    let hart = rng.below(b.state.count as u64) as usize;
+    let (address, rs2, order) = (few_pointer(rng), rng.reg(), rng.reg() & 3);
+    let width = rng.pick(&[W, D]);
+    let word = match rng.below(20) {
+        0..=3 => s_type(rng.reg() & 3, address, rs2, rng.pick(&[0, 0, 8, -8, 64, -64])),
+        4..=7 => atomic(SC, width, order, rng.reg() & 7, address, rs2),
+        8..=10 => atomic(rng.pick(&AMOS), width, order, rng.reg() & 7, address, rs2),
+        11..=14 => return compare_with_loaded(rng, b, hart, address),
+        15 => return b.yield_hart(hart),
+        _ => return b.random_device(rng),
+    };
+    perform_in_first_line(b, hart, word);
+}
+
+/// AMOCAS of what the hart has loaded just before: a device write of equal bytes would break reservations itself. Unequal by chance or where
+/// the second half wasn't loaded.
+fn compare_with_loaded(rng: &mut Rng, b: &mut Builder, hart: usize, address: u32) {
+    let width = rng.pick(&[W, D, Q]);
+    if rng.percent(80) {
+        perform_in_first_line(b, hart, i_type(0x03, if width == W { W } else { D }, 6, address, 0));
+    }
+    if width == Q && rng.percent(90) {
+        perform_in_first_line(b, hart, i_type(0x03, D, 7, address, 8));
+    }
+    perform_in_first_line(b, hart, atomic(CAS, width, rng.reg() & 3, 6, address, rng.reg() & !1));
+}
+
+/// Performs a word within the first 64 bytes, where nobody reserves: from the last word there the hart jumps back before.
+fn perform_in_first_line(b: &mut Builder, hart: usize, word: u32) {
+    if b.state.harts[hart].pc == b.base + 60 {
+        b.perform(hart, j_type(0, -60));
+    }
+    b.perform(hart, word);
 }

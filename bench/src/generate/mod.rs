@@ -10,7 +10,7 @@ mod rng;
 pub mod words;
 
 use builder::Builder;
-use makers::{contention, guided, program};
+use makers::{contention, gathered, guided, program};
 
 use crate::case::read_case;
 use crate::machine::State;
@@ -25,9 +25,10 @@ pub fn case(seed: u64) -> Vec<u8> {
     let rng = &mut Rng::new(seed);
     let kind = rng.below(20);
     let maker = match kind {
-        0..=6 => guided,
-        7..=10 => program,
-        11..=13 => contention,
+        0..=5 => guided,
+        6..=9 => program,
+        10 | 11 => contention,
+        12 | 13 => gathered,
         14..=18 => return damage::damaged_file(rng),
         _ => return damage::file_at_limit(rng),
     };
