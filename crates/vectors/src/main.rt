@@ -34,7 +34,7 @@ fn run_case(i: u64) {
 
 fn main() {
     let mut i: u64 = 0;
-    while i < 884 {
+    while i < 992 {
         run_case(i);
         i += 1;
     }

@@ -5,10 +5,10 @@ use Rattle.vectors.proofs.main.Statement.{statement}
 use Rattle.vectors.proofs.main.Tie as tie
 
 abbrev Inv-loop : tie.InvT-loop
-Inv-loop i₀ i = i ≤ 884
+Inv-loop i₀ i = i ≤ 992
 
 abbrev μ-loop : tie.MeasureT-loop
-μ-loop i₀ i = 884 - i
+μ-loop i₀ i = 992 - i
 
 loop-holds : tie.Need-loop-holds Inv-loop μ-loop
 loop-holds c = omega arith
