@@ -50,7 +50,7 @@ class RoundTrip(unittest.TestCase):
             self.assertEqual(casefile.faults(case, output.decode()), [], name)
             text = '\n'.join(casetext.show(case, casefile.numbered(output.decode().split('\n'))))
             self.assertEqual(casetext.make(text), given, name)
-        self.assertEqual((good, refused), (725, 159))
+        self.assertEqual((good, refused), (833, 159))
 
     def test_any_bytes(self):
         registers = tuple((k * 0x0123456789ABCDEF) % (1 << 64) for k in range(1, 32))

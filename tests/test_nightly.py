@@ -534,6 +534,6 @@ class Nightly(NightlyCase):
     def test_the_program_over_all_outside_cases(self):
         status, out, _ = command(NIGHTLY, vectors(), '--expect')
         self.assertEqual(status, 0, out.decode())
-        for row in ('884  files', '56,609  .. performed, each with its line', '884  outputs equal to the expected ones',
-                    '1,066  writes that broke a reservation'):
+        for row in ('992  files', '64,031  .. performed, each with its line', '992  outputs equal to the expected ones',
+                    '1,283  writes that broke a reservation'):
             self.assertRegex(out.decode(), '(?m)^ +%s$' % row)

@@ -190,7 +190,7 @@ class Calls(Refuses):
             self.assertEqual(lines, expected.decode().splitlines()[1:-1], name)
             self.assertEqual((start.run_bytes(body), start), (len(body) // 24, one_by_one), name)
             cases, events, breaks = cases + 1, events + len(body) // 24, breaks + expected.count(b' broke ')
-        self.assertEqual((cases, events, breaks), (725, 56_609, 1_066))
+        self.assertEqual((cases, events, breaks), (833, 64_031, 1_283))
 
 
 def number(bytes_):

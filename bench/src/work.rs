@@ -58,6 +58,18 @@ impl Work {
     }
 }
 
+/// The work of long runs, with a name for each.
+pub fn long_runs(events: usize) -> [(&'static str, Work); 6] {
+    [
+        ("compute, 4 harts", compute(4, events)),
+        ("memory, 4 harts, 64 KiB", memory(4, 65_536, events)),
+        ("LR/SC on one line, 8 harts", contention(8, events)),
+        ("AMO and AMOCAS, 4 harts", amos(4, events)),
+        ("traps, 8 harts", traps(events)),
+        ("devices, yields, LR/SC", devices(8, events)),
+    ]
+}
+
 /// Register operations and branches.
 pub fn compute(harts: usize, events: usize) -> Work {
     let words = [

@@ -120,16 +120,8 @@ fn heading(title: &str) {
 fn long_runs(batches: usize) {
     heading(&format!("Long runs: one call of {LONG} events; million events a second"));
     println!("{:<28} {:>9} {:>9} {:>7}", "", "library", "bench", "ratio");
-    let works: [(&str, Work); 6] = [
-        ("compute, 4 harts", work::compute(4, LONG)),
-        ("memory, 4 harts, 64 KiB", work::memory(4, 65_536, LONG)),
-        ("LR/SC on one line, 8 harts", work::contention(8, LONG)),
-        ("AMO and AMOCAS, 4 harts", work::amos(4, LONG)),
-        ("traps, 8 harts", work::traps(LONG)),
-        ("devices, yields, LR/SC", work::devices(8, LONG)),
-    ];
     let mut worst: f64 = 0.0;
-    for (name, work) in works {
+    for (name, work) in work::long_runs(LONG) {
         let times = run(batches, work).each(LONG);
         println!("{name:<28} {:>9.1} {:>9.1} {:>7.2}", 1e3 / times.theirs, 1e3 / times.ours, times.ratio());
         worst = worst.max(times.ratio());

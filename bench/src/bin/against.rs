@@ -1,0 +1,127 @@
+//! against BATCHES OLD NEW: long runs and single calls by two versions of the library, given as shared objects, in one process and in turns.
+//! A ratio is the new one's time by the old one's.
+
+use bench::case::EVENT;
+use bench::clock::now;
+use bench::layout;
+use bench::work::{self, Work, BASE};
+use std::ffi::{c_char, c_int, c_void, CString};
+
+const LONG: usize = 1_000_000;
+const CALLS: usize = 20_000;
+
+type Run = unsafe extern "C" fn(*mut u8, usize, u64, *mut u8, usize, *const u8, usize, usize, *mut u8, usize) -> u64;
+type OfHart = unsafe extern "C" fn(*mut u8, usize, u64, *mut u8, usize, usize, *mut u8, usize) -> u64;
+type Device = unsafe extern "C" fn(*mut u8, usize, u64, *mut u8, usize, u64, usize, u64, *mut u8, usize) -> u64;
+
+extern "C" {
+    fn dlopen(file: *const c_char, flags: c_int) -> *mut c_void;
+    fn dlsym(library: *mut c_void, name: *const c_char) -> *mut c_void;
+}
+
+/// The functions of one version.
+#[derive(Clone, Copy)]
+struct Library {
+    run: Run,
+    step: OfHart,
+    yields: OfHart,
+    device: Device,
+}
+
+fn library(path: &str) -> Library {
+    const LAZY: c_int = 1;
+    let file = CString::new(path).expect("a path without a zero byte");
+    // SAFETY: the name is a C string; the library has no code that runs when it is loaded.
+    let opened = unsafe { dlopen(file.as_ptr(), LAZY) };
+    assert!(!opened.is_null(), "{path} can't be loaded");
+    let find = |name: &str| {
+        let symbol = CString::new(name).expect("no zero byte");
+        // SAFETY: the library is loaded, and the name is a C string.
+        let found = unsafe { dlsym(opened, symbol.as_ptr()) };
+        assert!(!found.is_null(), "{path} has no {name}");
+        found
+    };
+    // SAFETY: each function has the type that include/floecavern.h gives it, in every version.
+    unsafe {
+        Library {
+            run: std::mem::transmute::<*mut c_void, Run>(find("floecavern_run")),
+            step: std::mem::transmute::<*mut c_void, OfHart>(find("floecavern_step")),
+            yields: std::mem::transmute::<*mut c_void, OfHart>(find("floecavern_yield")),
+            device: std::mem::transmute::<*mut c_void, Device>(find("floecavern_device_write")),
+        }
+    }
+}
+
+/// A machine that one of the versions keeps.
+struct Kept {
+    state: Vec<u8>,
+    memory: Vec<u8>,
+}
+
+impl Kept {
+    fn of(work: &Work) -> Self {
+        Kept { state: layout::bytes(&work.state), memory: work.memory.clone() }
+    }
+}
+
+/// The least time of `each`, of the old version and of the new one, in turns. Both machines end alike.
+fn in_turns(batches: usize, work: &Work, libraries: [Library; 2], each: impl Fn(Library, &mut Kept)) -> [f64; 2] {
+    let (mut least, mut machines) = ([f64::INFINITY; 2], [Kept::of(work), Kept::of(work)]);
+    for _ in 0..batches {
+        for (n, machine) in machines.iter_mut().enumerate() {
+            let from = now();
+            each(libraries[n], machine);
+            least[n] = least[n].min((now() - from) as f64);
+        }
+    }
+    let [old, new] = machines;
+    assert!(old.state == new.state && old.memory == new.memory, "the two versions end differently");
+    least
+}
+
+fn run(library: Library, machine: &mut Kept, events: &[u8]) {
+    let (state, memory, mut ran) = (&mut machine.state, &mut machine.memory, [0; 16]);
+    let (number, base, out) = (events.len() / EVENT, BASE, ran.as_mut_ptr());
+    // SAFETY: every pointer comes from a slice of the length beside it, and no two of the slices overlap.
+    let answer = unsafe {
+        let (state, state_len, mem, mem_len) = (state.as_mut_ptr(), state.len(), memory.as_mut_ptr(), memory.len());
+        (library.run)(state, state_len, base, mem, mem_len, events.as_ptr(), events.len(), number, out, 16)
+    };
+    assert_eq!((answer, layout::get(&ran, 0)), (0, number as u64));
+}
+
+fn single(library: Library, machine: &mut Kept, kind: &str) {
+    let (state, memory, mut value) = (&mut machine.state, &mut machine.memory, [0; 8]);
+    for _ in 0..CALLS {
+        let (s, n, m, l, out) = (state.as_mut_ptr(), state.len(), memory.as_mut_ptr(), memory.len(), value.as_mut_ptr());
+        // SAFETY: as above.
+        let answer = unsafe {
+            match kind {
+                "step" => (library.step)(s, n, BASE, m, l, 1, out, 8),
+                "yield" => (library.yields)(s, n, BASE, m, l, 1, out, 8),
+                _ => (library.device)(s, n, BASE, m, l, BASE + 512, 8, 1, out, 8),
+            }
+        };
+        assert_eq!(answer, 0);
+    }
+}
+
+fn main() {
+    let arguments: Vec<String> = std::env::args().collect();
+    let [_, batches, old, new] = &arguments[..] else {
+        eprintln!("usage: against BATCHES OLD NEW");
+        std::process::exit(2);
+    };
+    let (batches, libraries) = (batches.parse().expect("BATCHES"), [library(old), library(new)]);
+    println!("Long runs: one call of {LONG} events; million events a second");
+    println!("{:<28} {:>9} {:>9} {:>7}", "", "old", "new", "ratio");
+    for (name, work) in work::long_runs(LONG) {
+        let [old, new] = in_turns(batches, &work, libraries, |library, machine| run(library, machine, &work.events));
+        println!("{name:<28} {:>9.1} {:>9.1} {:>7.3}", 1e3 * LONG as f64 / old, 1e3 * LONG as f64 / new, new / old);
+    }
+    println!("\nOne call, 8 harts, 4096 bytes: nanoseconds");
+    for kind in ["step", "device_write", "yield"] {
+        let [old, new] = in_turns(10 * batches, &work::idle(), libraries, |library, machine| single(library, machine, kind));
+        println!("{kind:<28} {:>9.1} {:>9.1} {:>7.3}", old / CALLS as f64, new / CALLS as f64, new / old);
+    }
+}
