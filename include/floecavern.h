@@ -177,7 +177,9 @@ FLOECAVERN_ASSERT(reservations_stand_at_2120, offsetof(floecavern_state, reserva
  * write breaks a hart's reservation if it touches a byte that the LR read. Both do also where they write the bytes that
  * were there. A step never sets the bit of its own hart, also where it drops that hart's reservation (an SC) or
  * replaces it (an LR). So value is 0 after a retired event that writes nothing: a load, an LR, an unequal AMOCAS,
- * FLOECAVERN_SC_FAILED, a yield. A run and a replay do not tell what their events broke.
+ * FLOECAVERN_SC_FAILED, a yield. Only bits below the count are ever set, so it is at most 255; what a hart at or above
+ * the count seems to hold is not looked at (crates/capi_means/proofs/Values.antt). A run and a replay do not tell what
+ * their events broke.
  *
  * A memory of a wrong length, as a wrong base, is refusal 1 and no bad size.
  *
@@ -381,9 +383,10 @@ FLOECAVERN_INLINE const char *floecavern_reason_text(uint64_t reason)
 
 /* What an event came to. cause and value are a trap's, refusal is a refusal's; they are 0 with every other kind.
  *
- * broke is the harts whose reservation the event broke, bit 0 for hart 0; 0 with a trap and a refusal. What counts is a
- * retired write of another hart that touches a byte of the set, and a device write that touches a byte that the LR
- * read; never an event of the hart itself. A yield, an LR and an SC that failed break none of another hart's. */
+ * broke is the harts whose reservation the event broke, bit 0 for hart 0; 0 with a trap and a refusal. A bit is set by a
+ * retired write of a hart other than the one that holds the reservation, if it touches a byte of the set, and by a
+ * device write that touches a byte that the LR read. It is 0 after all that writes nothing: a load, an LR, an unequal
+ * AMOCAS, an SC that failed, a yield. Of the 8 bytes of value above, a trap's are value here, a retired event's broke. */
 typedef struct {
     floecavern_kind kind;
     floecavern_cause cause;

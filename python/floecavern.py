@@ -14,7 +14,7 @@ FLOECAVERN_SO names a shared object at another place; a relative name counts fro
     machine.state.reservation(0)                                # Reservation(addr=64, width=4)
     floecavern.harts(machine.device_write(64, 1, 7).broke)      # (0,): hart 0's reservation is broken
 
-The names are those of include/floecavern.h and of rust/. What the model refuses is the exception Refused, and state and memory are as they
+The names are those of include/floecavern.h and of rust/ (whose `Answer` is the outcome here). What the model refuses is the exception Refused, and state and memory are as they
 were; a trap is an outcome. A value that isn't the model's at all is a TypeError or a ValueError before the library is called: a number that
 doesn't fit its bits, a memory that can't be written. One machine is for one thread at a time.
 """
@@ -146,7 +146,8 @@ class Outcome(NamedTuple):
     AMO, an equal AMOCAS, an SC that stored) breaks a reservation if it touches a byte of its set, the aligned 64 bytes around the LR's address;
     a device write if it touches a byte that the LR read; both also where they write the bytes that were there. A step never sets the bit of its
     own hart, also where it drops that hart's reservation (an SC) or replaces it (an LR). A yield, a trap and everything else that writes
-    nothing has 0. Two outcomes that differ in `broke` aren't equal: RETIRED, SC_STORED and SC_FAILED are those that broke none.
+    nothing has 0. Only bits below the count are ever set; what an unused hart seems to hold isn't looked at. Two outcomes that differ in `broke`
+    aren't equal: RETIRED, SC_STORED and SC_FAILED are those that broke none.
     """
     kind: Kind
     cause: Optional[Cause] = None

@@ -200,7 +200,8 @@ pub struct Answer {
     /// that stored) breaks a reservation if it touches a byte of its set, the aligned 64 bytes around the LR's address; a
     /// device write if it touches a byte that the LR read; both also where they write the bytes that were there. A step
     /// never has its own hart in it, also where it drops that hart's reservation (an SC) or replaces it (an LR). A yield, a
-    /// trap and everything else that writes nothing has none.
+    /// trap and everything else that writes nothing has none. Only harts below the count are ever in it; what an unused
+    /// hart seems to hold isn't looked at.
     pub broke: Harts,
 }
 

@@ -1,5 +1,4 @@
--- Who lost a reservation to an event: the bits of its answer, in words, for every machine and every event. Assumes nothing; where a state is asked to be
--- of the right shape, its type says so.
+-- Who lost a reservation to an event: the bits of its answer, in words, for every machine and every event. Assumes nothing.
 use mathlib.Core.Path.{_≡_, refl, sym, ap, subst, _∙_}
 use mathlib.Core.Logic.{_↔_, _≢_, _⊎_, inl, inr, ⊎-elim}
 use mathlib.Core.Bool.{Bool, true, false, cond, not}
@@ -8,13 +7,14 @@ use Prim.Native.Nat.{ℕ, _%_, _^_, _≤_, _<_}
 use native.Mathlib.Nat.{div-eq-of-lt}
 use native.Mathlib.Omega.{arith}
 use lib.Dec.{eqb, ltb}
-use lib.ListN.{length}
+use lib.ListN.{length, List·getD-eq-default}
 use lib.Pow.{pow-pos, pow-mono}
-use borrow.Author.Tests.{eqb-true, eqb-false, eq-eqb, ne-eqb, not-true}
+use borrow.Author.Tests.{eqb-true, eqb-false, eq-eqb, ne-eqb, ltb-true, not-true}
 use Rattle.word.proofs.TestLaws.{bool-cases, contrary, and-both}
 use Rattle.word.proofs.ChooseLaws.{cond-all}
+use Rattle.word.proofs.WordLaws.{split-lt}
 use Rattle.reserve.specs.Range.{touches, setOf}
-use Rattle.reserve.specs.Reserve.{reaches, breaksOf, ownOf, observeOf, brokenOf, observeAllOf}
+use Rattle.reserve.specs.Reserve.{slot, reaches, breaksOf, ownOf, observeOf, brokenOf, observeAllOf}
 use Rattle.reserve.specs.declared.Reservation.{Reservation}
 use Rattle.reserve.specs.declared.Reservation.the-variants.{None, Held}
 use Rattle.reserve.specs.declared.Slot.{Slot}
@@ -23,7 +23,6 @@ use Rattle.reserve.specs.declared.Notice.the-variants as N
 use Rattle.reserve.proofs.RangeLaws.{touches-exact}
 use Rattle.reserve.proofs.NoticeLaws.{BreaksNone, spared-broken, quiet-spares, reserved-spares, failed-spares, yield-spares}
 use Rattle.reserve.proofs.BrokenLaws.{broken-below, bit-exact}
-use Rattle.machine.specs.Rules.{Shaped}
 use Rattle.machine.specs.State.{refusalOf}
 use Rattle.machine.specs.declared.State.{State}
 use Rattle.machine.proofs.StateLaws.{refusal-0}
@@ -31,12 +30,12 @@ use Rattle.events.specs.declared.Event.{Event}
 use Rattle.events.specs.declared.Event.the-variants.{Step, Device, Yield}
 use Rattle.effect.specs.Effect.{noticeOf}
 use Rattle.model.specs.Act.{Act, refuse, fault, change, put, release, actNotice, retiredAs, outcomeOf, brokenAfter, apply}
-use Rattle.model.specs.Perform.{Machine, reservationOf, actOn, actOf, answerOf, outcomeAt, brokeAt, nextOf}
+use Rattle.model.specs.Perform.{Machine, reservationOf, stepOf, ofExec, actOn, actOf, answerOf, outcomeAt, brokeAt, nextOf}
 use Rattle.model.specs.Valid.{Valid}
 use Rattle.model.specs.Trace.{noticeAt}
 use Rattle.model.specs.Retired.{IsRetired, Traps, Refuses}
 use Rattle.model.specs.declared.Outcome.the-variants as O
-use Rattle.model.proofs.Frame.{res-next}
+use Rattle.model.proofs.Frame.{res-apply, unused-res}
 use Rattle.notices.specs.Happened.{Retires, RetiredLr, RetiredSc, StoredSc, FailedSc, PlainWrite, store, amo, amocas, amocasQ, HartWrites, DeviceWrites}
 use Rattle.notices.specs.Happened.{Yields, Silent}
 use Rattle.notices.specs.Notices.{ComesFrom}
@@ -89,6 +88,26 @@ yield-breaks-none base m g =
     cond-all none (eqb (refusalOf base (length (m .mem)) (m .state)) 0) _ _
     (cond-all none (ltb g (m .state .count)) _ _ (spared-broken 64 (N.Yield g) (yield-spares 64 g) (m .state .count) (m .state .res)) refl) refl
 
+-- a step that retires, and a yield that isn't refused, are of a used hart
+used-act : (s t : Bool) (k n : ℕ) (act : Act) → (Refuses (outcomeOf (cond s (cond t act (refuse k)) (refuse n))) → ⊥) → t ≡ true
+used-act true true k n act r = refl
+used-act true false k n act r = absurd (r (k, refl))
+used-act false t k n act r = absurd (r (n, refl))
+
+module _ (base : ℕ) (m : Machine) (h : ℕ) where
+  abbrev refusal : ℕ
+  refusal = refusalOf base (length (m .mem)) (m .state)
+
+  step-used : IsRetired (outcomeAt base m (Step h)) → h < m .state .count
+  unfolding answerOf actOf actOn
+  step-used r =
+      ltb-true h (m .state .count)
+      (used-act (eqb refusal 0) (ltb h (m .state .count)) 3 refusal (ofExec h (stepOf base (m .mem) (m .state) h)) (unrefused (outcomeAt base m (Step h)) r))
+
+  yield-used : (Refuses (outcomeAt base m (Yield h)) → ⊥) → h < m .state .count
+  unfolding answerOf actOf actOn
+  yield-used r = ltb-true h (m .state .count) (used-act (eqb refusal 0) (ltb h (m .state .count)) 3 refusal (release h) r)
+
 module _ (base : ℕ) (m : Machine) (e : Event) where
   broke-notice : brokeAt base m e ≡ brokenOf 64 (noticeAt base m e) (m .state .count) (m .state .res)
   unfolding answerOf
@@ -113,7 +132,7 @@ module _ (base : ℕ) (m : Machine) (e : Event) where
 
   -- ---- which events break none
 
-  -- 01: "Not: .. a load, an unequal AMOCAS, .. a trap"; a refusal leaves "the state as given"
+  -- 01: "Not: .. a load, .. unequal AMOCAS of another hart, a trap"; a refusal leaves "the state as given"
   pub silent-breaks-none : Silent base m e → brokeAt base m e ≡ 0
   silent-breaks-none s =
       either
@@ -203,7 +222,7 @@ module _ (base : ℕ) (m : Machine) (e : Event) where
         bit-zero : brokeAt base m e ≡ 0 → Bit k (brokeAt base m e) → ⊥
         bit-zero z b = no-bit k (subst (Bit k) z b)
 
-    -- 02 [3]: "The writing hart's own bit is never set by its own write.": nor by any other step or yield of its own
+    -- 02 [3]: "The writing hart's own bit is never set by its own write.": nor by any other step of its own; of a yield: yield-breaks-none
     pub own-bit-never : e ≡ Step k → Bit k (brokeAt base m e) → ⊥
     own-bit-never s b = go (broke-exact .0 b .reached)
       where
@@ -216,76 +235,101 @@ module _ (base : ℕ) (m : Machine) (e : Event) where
 
     -- ---- what is held afterwards
 
-    module _ (shaped : Shaped (m .state)) where
-      after : Valid base m → k < m .state .count
-          → reservationOf (nextOf base m e .state) k ≡ observeOf 64 k (noticeAt base m e) (reservationOf (m .state) k)
-      after v u = res-next base m e v shaped k u
+    module _ (a w : ℕ) (held : reservationOf (m .state) k ≡ Held a w) where
+      -- a place behind the last one would hold none
+      placed : k < length (m .state .res)
+      placed =
+          ⊎-elim (λ (l : k < length (m .state .res)). l)
+          (λ (l : length (m .state .res) ≤ k).
+          held-none (sym held ∙ ap (λ (s : Slot). s .reservation) (List·getD-eq-default (m .state .res) (slot None) l)))
+          (split-lt k (length (m .state .res)))
 
-      -- then it holds none
-      pub broke-holds-none : Bit k (brokeAt base m e) → HoldsNone base m e k
+      after : k < m .state .count → reservationOf (nextOf base m e .state) k ≡ observeOf 64 k (noticeAt base m e) (Held a w)
+      unfolding nextOf answerOf
+      after u = res-apply 64 (m .state) k (actOf base (m .mem) (m .state) e) u placed ∙ ap (observeOf 64 k (noticeAt base m e)) held
+
+      broken-none : k < m .state .count → breaksOf 64 k (noticeAt base m e) (Held a w) ≡ true → HoldsNone base m e k
       unfolding observeOf
-      broke-holds-none b =
-          let x = bit-breaks .0 b in
-          either (λ v. after v (x .0) ∙ rw (x .1)) (λ r s. absurd (unreached _ _ r (broke-exact .0 b .reached)))
+      broken-none u t = after u ∙ rw t
 
-      module _ (a w : ℕ) (held : reservationOf (m .state) k ≡ Held a w) where
-        -- what concerns hart g alone leaves the others'
-        by-hart : {P : Type 0} (g : ℕ) (r : Reservation) → cond (eqb g k) r (Held a w) ≡ None → (g ≡ k → r ≡ None → P) → P
-        by-hart g r q own =
-            bool-cases (eqb g k) (λ t. own (eqb-true g k t) (rw t at q)) (λ f. held-none (rw f at q))
+    -- then it holds none
+    pub broke-holds-none : Bit k (brokeAt base m e) → HoldsNone base m e k
+    broke-holds-none b =
+        let l = broke-exact .0 b in
+        broken-none (l .addr) (l .width) (l .held) (l .used)
+        (subst (λ (r : Reservation). breaksOf 64 k (noticeAt base m e) r ≡ true) (l .held) (bit-breaks .0 b .1))
 
-        own-ends : (n : Notice) → ComesFrom base m e n → ownOf k n (Held a w) ≡ None → Ended base m e k
-        unfolding ownOf
-        own-ends N.Quiet c q = held-none q
-        own-ends (N.LoadReserved g b v) c q = by-hart g (Held b v) q (λ s x. held-none x)
-        own-ends (N.ScStored g b n) c q =
-            by-hart g None q (λ s x. bySc (subst (RetiredSc base m e) s (record { sc = c .sc; retires = c .retires; operation = c .operation })))
-        own-ends (N.ScFailed g) c q =
-            by-hart g None q (λ s x. bySc (subst (RetiredSc base m e) s (record { sc = c .sc; retires = c .retires; operation = c .operation })))
-        own-ends (N.Write g b n) c q = held-none q
-        own-ends (N.DeviceWrite b n) c q = held-none q
-        own-ends (N.Yield g) c q = by-hart g None q (λ s x. byYield (subst (Yields base m e) s c))
+    module _ (a w : ℕ) (held : reservationOf (m .state) k ≡ Held a w) where
+      -- what concerns hart g alone leaves the others'
+      by-hart : {P : Type 0} (g : ℕ) (r : Reservation) → cond (eqb g k) r (Held a w) ≡ None → (g ≡ k → r ≡ None → P) → P
+      by-hart g r q own =
+          bool-cases (eqb g k) (λ t. own (eqb-true g k t) (rw t at q)) (λ f. held-none (rw f at q))
 
-        none-ends : Valid base m → k < m .state .count → HoldsNone base m e k → Ended base m e k
-        unfolding observeOf
-        none-ends v u o =
-            let n = noticeAt base m e in
-            let seen = sym (after v u ∙ ap (observeOf 64 k n) held) ∙ o in
-            bool-cases (breaksOf 64 k n (Held a w))
-            (λ t. byWrite (broke-exact .1 (breaks-loses v u (Held a w) held t)))
-            (λ f. own-ends n (notice-exact base m v e n .0 refl) (rw f at seen))
+      own-ends : (n : Notice) → ComesFrom base m e n → ownOf k n (Held a w) ≡ None → Ended base m e k
+      unfolding ownOf
+      own-ends N.Quiet c q = held-none q
+      own-ends (N.LoadReserved g b v) c q = by-hart g (Held b v) q (λ s x. held-none x)
+      own-ends (N.ScStored g b n) c q =
+          by-hart g None q (λ s x. bySc (subst (RetiredSc base m e) s (record { sc = c .sc; retires = c .retires; operation = c .operation })))
+      own-ends (N.ScFailed g) c q =
+          by-hart g None q (λ s x. bySc (subst (RetiredSc base m e) s (record { sc = c .sc; retires = c .retires; operation = c .operation })))
+      own-ends (N.Write g b n) c q = held-none q
+      own-ends (N.DeviceWrite b n) c q = held-none q
+      own-ends (N.Yield g) c q = by-hart g None q (λ s x. byYield (subst (Yields base m e) s c))
 
-        drops : Valid base m → k < m .state .count → (n : Notice) → noticeAt base m e ≡ n → ownOf k n (Held a w) ≡ None → HoldsNone base m e k
-        unfolding observeOf
-        drops v u n q o =
-            after v u ∙ ap (observeOf 64 k (noticeAt base m e)) held ∙ ap (λ (x : Notice). observeOf 64 k x (Held a w)) q
-            ∙ bool-cases (breaksOf 64 k n (Held a w)) (λ t. rw t) (λ f. rw f o)
+      none-ends : Valid base m → k < m .state .count → HoldsNone base m e k → Ended base m e k
+      unfolding observeOf
+      none-ends v u o =
+          let n = noticeAt base m e in
+          let seen = sym (after a w held u) ∙ o in
+          bool-cases (breaksOf 64 k n (Held a w))
+          (λ t. byWrite (broke-exact .1 (breaks-loses v u (Held a w) held t)))
+          (λ f. own-ends n (notice-exact base m v e n .0 refl) (rw f at seen))
 
-        ends-none : Valid base m → k < m .state .count → Ended base m e k → HoldsNone base m e k
-        unfolding ownOf
-        ends-none v u (bySc c) =
-            ⊎-elim
-            (λ (d : (b : ℕ) × (n : ℕ) × StoredSc base m e k b n).
-            let n = N.ScStored k (d .0) (d .1) in
-            drops v u n (notice-exact base m v e n .1 (d .2)) (rw (eq-eqb k k refl)))
-            (λ (d : FailedSc base m e k). drops v u (N.ScFailed k) (notice-exact base m v e (N.ScFailed k) .1 d) (rw (eq-eqb k k refl)))
-            (sc-either base m v e k c)
-        ends-none v u (byYield c) = drops v u (N.Yield k) (notice-exact base m v e (N.Yield k) .1 c) (rw (eq-eqb k k refl))
-        ends-none v u (byWrite b) = broke-holds-none b
+      drops : k < m .state .count → (n : Notice) → noticeAt base m e ≡ n → ownOf k n (Held a w) ≡ None → HoldsNone base m e k
+      unfolding observeOf
+      drops u n q o =
+          after a w held u ∙ ap (λ (x : Notice). observeOf 64 k x (Held a w)) q
+          ∙ bool-cases (breaksOf 64 k n (Held a w)) (λ t. rw t) (λ f. rw f o)
 
-        refused-ends : Refuses (outcomeAt base m e) → Ended base m e k → ⊥
-        refused-ends r (bySc c) = unrefused (outcomeAt base m e) (c .retires .retired) r
-        refused-ends r (byYield c) = c .taken r
-        refused-ends r (byWrite b) = unreached _ _ r (broke-exact .0 b .reached)
+      ends-none : Valid base m → k < m .state .count → Ended base m e k → HoldsNone base m e k
+      unfolding ownOf
+      ends-none v u (bySc c) =
+          ⊎-elim
+          (λ (d : (b : ℕ) × (n : ℕ) × StoredSc base m e k b n).
+          let n = N.ScStored k (d .0) (d .1) in
+          drops u n (notice-exact base m v e n .1 (d .2)) (rw (eq-eqb k k refl)))
+          (λ (d : FailedSc base m e k). drops u (N.ScFailed k) (notice-exact base m v e (N.ScFailed k) .1 d) (rw (eq-eqb k k refl)))
+          (sc-either base m v e k c)
+      ends-none v u (byYield c) = drops u (N.Yield k) (notice-exact base m v e (N.Yield k) .1 c) (rw (eq-eqb k k refl))
+      ends-none v u (byWrite b) = broke-holds-none b
 
-        -- A used hart that holds a reservation before an event holds none after exactly if it retired an SC, had a yield, or has its bit set.
-        pub ended-exact : k < m .state .count → HoldsNone base m e k ↔ Ended base m e k
-        ended-exact u =
-            either (λ v. (none-ends v u, ends-none v u))
-            (λ r s. (
-              λ o. held-none (sym held ∙ ap (λ (x : State). reservationOf x k) (sym s) ∙ o),
-              λ x. absurd (refused-ends r x),
-            ))
+      refused-ends : Refuses (outcomeAt base m e) → Ended base m e k → ⊥
+      refused-ends r (bySc c) = unrefused (outcomeAt base m e) (c .retires .retired) r
+      refused-ends r (byYield c) = c .taken r
+      refused-ends r (byWrite b) = unreached _ _ r (broke-exact .0 b .reached)
+
+      -- an unused hart's reservation stays
+      unused-ends : m .state .count ≤ k → HoldsNone base m e k → ⊥
+      unused-ends u o = held-none (sym held ∙ sym (ap (λ (s : Slot). s .reservation) (unused-res base m e k u)) ∙ o)
+
+      ended-used : Ended base m e k → k < m .state .count
+      ended-used (bySc c) = step-used base m k (subst (λ (d : Event). IsRetired (outcomeAt base m d)) (c .retires .theStep) (c .retires .retired))
+      ended-used (byYield c) = yield-used base m k (subst (λ (d : Event). Refuses (outcomeAt base m d) → ⊥) (c .theYield) (c .taken))
+      ended-used (byWrite b) = broke-exact .0 b .used
+
+      -- A hart that holds a reservation before an event holds none after exactly if it retired an SC, had a yield, or has its bit set.
+      pub ended-exact : HoldsNone base m e k ↔ Ended base m e k
+      ended-exact =
+          either
+          (λ v. (
+            λ o. none-ends v (⊎-elim (λ (u : k < m .state .count). u) (λ (u : m .state .count ≤ k). absurd (unused-ends u o)) (split-lt k (m .state .count))) o,
+            λ x. ends-none v (ended-used x) x,
+          ))
+          (λ r s. (
+            λ o. held-none (sym held ∙ ap (λ (x : State). reservationOf x k) (sym s) ∙ o),
+            λ x. absurd (refused-ends r x),
+          ))
 
   -- ---- the number
 
@@ -297,7 +341,7 @@ module _ (base : ℕ) (m : Machine) (e : Event) where
   pub broke-byte : brokeAt base m e < 256
   broke-byte = either (λ v. omega (arith, broke-below, pow-mono (v .1 .1))) (λ r s. omega (arith, refused-breaks-none r))
 
-  -- an outcome of ` ok` or ` sc 0` alone has a set that isn't empty
+  -- a set that isn't empty comes only with ` ok` or ` sc 0`
   pub broke-outcome : brokeAt base m e ≢ 0 → (outcomeAt base m e ≡ O.Retired) ⊎ (outcomeAt base m e ≡ O.ScStored)
   unfolding answerOf observeAllOf
   broke-outcome = act-outcome (actOf base (m .mem) (m .state) e)

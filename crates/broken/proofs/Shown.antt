@@ -10,13 +10,13 @@ use Rattle.text.proofs.NumberLaws.{length-hexFrom, hex-numeral}
 use Rattle.events.specs.declared.Event.{Event}
 use Rattle.model.specs.Perform.{Machine, outcomeAt, brokeAt, replyAt}
 use Rattle.lines.specs.Lines.{brokeText, lineOf}
-use Rattle.broken.specs.Shown.{Told, none, some, Line}
+use Rattle.broken.specs.Shown.{Suffix, none, some, Line}
 use Rattle.broken.proofs.Broken.{broke-byte}
 
 -- a set of 8 harts: the two digits are the whole of it
-text-told : (broke : ℕ) → broke < 256 → Told broke (brokeText broke)
+text-suffix : (broke : ℕ) → broke < 256 → Suffix broke (brokeText broke)
 unfolding brokeText
-text-told broke h =
+text-suffix broke h =
     bool-cases (eqb broke 0)
     (λ t. none (eqb-true broke 0 t) (rw t))
     (λ f. some (eqb-false broke 0 f) (hexFrom 2 broke) (rw f) (length-hexFrom 2 broke) (hex-numeral 2 broke h))
@@ -26,4 +26,4 @@ pub line-told : (base : ℕ) (m : Machine) (e : Event) (k : ℕ)
     → Line k e (outcomeAt base m e) (brokeAt base m e) (lineOf k e (replyAt base m e))
 unfolding lineOf
 line-told base m e k =
-    record { behind = brokeText (brokeAt base m e); told = text-told (brokeAt base m e) (broke-byte base m e); whole = refl }
+    record { suffix = brokeText (brokeAt base m e); tells = text-suffix (brokeAt base m e) (broke-byte base m e); whole = refl }

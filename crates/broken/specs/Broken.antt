@@ -1,6 +1,6 @@
 -- Who lost a reservation to an event (02 [3]), in terms of the event, the instruction that a hart's step performs, and the answer, and without tests.
 -- m is the machine that the event is put to.
--- RULES 5.
+-- RULES 5.1.
 use mathlib.Core.Path.{_≡_}
 use mathlib.Core.Logic.{_≢_}
 use Prim.Native.Nat.{ℕ, _/_, _%_, _^_, _<_}

@@ -13,12 +13,12 @@ use Rattle.model.specs.declared.Outcome.{Outcome}
 use Rattle.lines.specs.Lines.{whoOf, saidOf}
 
 -- what stands behind the outcome, where these harts lost their reservations: nothing if there are none, else the word and two digits that are the set
-pub data Told (broke : ℕ) (text : List ℕ) : Type 0 where
-  none : broke ≡ 0 → text ≡ [] → Told broke text
-  some : broke ≢ 0 → (digits : List ℕ) → text ≡ ascii " broke " ++ digits → length digits ≡ 2 → Numeral 16 broke digits → Told broke text
+pub data Suffix (broke : ℕ) (text : List ℕ) : Type 0 where
+  none : broke ≡ 0 → text ≡ [] → Suffix broke text
+  some : broke ≢ 0 → (digits : List ℕ) → text ≡ ascii " broke " ++ digits → length digits ≡ 2 → Numeral 16 broke digits → Suffix broke text
 
 -- the line of event number k, with this outcome: its number, who, what came of it, the harts that lost their reservations, a line feed
 pub record Line (k : ℕ) (e : Event) (o : Outcome) (broke : ℕ) (text : List ℕ) : Type 0 where
-  pub behind : List ℕ
-  pub told : Told broke behind
-  pub whole : text ≡ decimalOf k ++ (ascii " " ++ (whoOf e ++ (saidOf o ++ (behind ++ ascii "\n"))))
+  pub suffix : List ℕ
+  pub tells : Suffix broke suffix
+  pub whole : text ≡ decimalOf k ++ (ascii " " ++ (whoOf e ++ (saidOf o ++ (suffix ++ ascii "\n"))))

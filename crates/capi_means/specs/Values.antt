@@ -1,4 +1,4 @@
--- What a caller reads from the 8 bytes beside the answer to an event.
+-- What a caller reads from the 8 bytes beside the answer to a retired event (a trap's and a refusal's: capi/specs/Events: valueOf).
 use mathlib.Core.Logic.{_↔_}
 use mathlib.Core.List.{List}
 use Prim.Native.Nat.{ℕ, _<_}

@@ -30,8 +30,8 @@ saidOf ScFailed = ascii " sc 1"
 saidOf (Trap cause value) = ascii " trap " ++ (decimalOf cause ++ (ascii " " ++ hexOf value))
 saidOf (Refused number) = ascii " refused " ++ decimalOf number
 
--- 02 [3]: "An event line gets ` broke` and two lower-case hex digits where the set isn't empty, before the line end." Which lines have it is in
--- broken/proofs/Broken: only those of ` ok` and ` sc 0`
+-- 02 [3]: "An event line gets ` broke` and two lower-case hex digits where the set isn't empty, before the line end." Only lines
+-- of ` ok` and ` sc 0` have it (broken/proofs/Broken: broke-outcome).
 unfoldable pub brokeText : ℕ → List ℕ
 brokeText broke = cond (eqb broke 0) [] (ascii " broke " ++ hexFrom 2 broke)
 

@@ -1,5 +1,6 @@
--- What an event comes to: decided once, and then told and applied. Both the answer and what changes are read off the decision.
--- RULES 1.4, 2.3, 3.1 (what a refusal and a trap leave), 3.3, 5 (`brokenAfter`).
+-- What an event comes to: decided once, and then told and applied. The outcome, the harts whose reservation it broke and what changes are read off the
+-- decision.
+-- RULES 1.4, 2.3, 3.1 (what a refusal and a trap leave), 3.3, 5.1 (`brokenAfter`).
 use Prim.Native.Nat.{ℕ, _+_, _-_, _*_, _%_}
 use mathlib.Core.Bool.{cond}
 use mathlib.Core.List.{List}
@@ -30,7 +31,7 @@ actNotice (change h ws to t) = noticeOf h t
 actNotice (put a bs) = DeviceWrite a (length bs)
 actNotice (release h) = Yield h
 
--- the answer for a retired event
+-- the outcome of a retired event
 abbrev pub retiredAs : Notice → Outcome
 retiredAs Quiet = O.Retired
 retiredAs (LoadReserved g a w) = O.Retired
@@ -40,7 +41,7 @@ retiredAs (Write g b n) = O.Retired
 retiredAs (DeviceWrite b n) = O.Retired
 retiredAs (Yield g) = O.Retired
 
--- the answer, with 01's number or cause and value
+-- the outcome, with 01's number or cause and value
 abbrev pub outcomeOf : Act → Outcome
 outcomeOf (refuse number) = O.Refused number
 outcomeOf (fault cause value) = O.Trap cause value

@@ -25,7 +25,7 @@ pub record Advances (base : ℕ) (e : Event) (m : Machine) (r : Reply) (m′ : M
   pub broke : r .broke ≡ brokeAt base m e
   pub machine : m′ ≡ nextOf base m e
 
--- registers, pcs, reservations, those it broke and outcome after what a step of hart h came to
+-- registers, pcs, reservations, the harts whose reservation it broke and the outcome, after what a step of hart h came to
 unfoldable pub registersBy : ℕ → Done → List ℕ → List ℕ
 registersBy h (Retired e) x = setReg h (e .rd2) (e .value2) (setReg h (e .rd) (e .value) x)
 registersBy h (Trap cause value) x = x

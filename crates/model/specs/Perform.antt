@@ -1,5 +1,5 @@
 -- The machine: what each event does to a state and a memory at a base.
--- RULES 1.4; `fetchOf` 3.1; `deviceOf` 1.4, 2.1; the order of refusals 2.2; `runOf` 11.2.
+-- RULES 1.4; `fetchOf` 3.1; `deviceOf` 1.4, 2.1; the order of refusals 2.2; `answerOf` 1.4, 5.1; `runOf` 11.2.
 use Prim.Native.Nat.{ℕ}
 use mathlib.Core.Bool.{Bool, cond, _&&_}
 use mathlib.Core.List.{List, [], _∷_}

@@ -71,6 +71,16 @@ fn retired_as(n: Notice) -> Outcome
     }
 }
 
+// The reply to an event that broke no reservation.
+fn broke_none(o: Outcome) -> Reply
+    ensures { λ r. ⌜ (r .outcome ≡ o) × (r .broke ≡ 0) ⌝ }
+{
+    Reply {
+        outcome: o,
+        broke: 0,
+    }
+}
+
 // The reservations after a step, and its reply.
 fn settle(t: &mut [u64; 24], count: usize, d: Done) -> Reply
     requires { ⌜ count ≤ 8 ⌝ }
@@ -86,10 +96,7 @@ fn settle(t: &mut [u64; 24], count: usize, d: Done) -> Reply
                 broke,
             }
         }
-        Done::Trap { cause, value } => Reply {
-            outcome: Outcome::Trap { cause, value },
-            broke: 0,
-        },
+        Done::Trap { cause, value } => broke_none(Outcome::Trap { cause, value }),
     }
 }
 
@@ -117,16 +124,6 @@ fn step_hart(
     settle(t, count, d)
 }
 
-// The reply to an event that is refused: it breaks nothing.
-fn refused(number: u64) -> Reply
-    ensures { λ r. ⌜ (r .outcome ≡ Outcome.Refused number) × (r .broke ≡ 0) ⌝ }
-{
-    Reply {
-        outcome: Outcome::Refused { number },
-        broke: 0,
-    }
-}
-
 // A device write of the size lowest bytes of value.
 fn write_device(
     t: &mut [u64; 24],
@@ -144,13 +141,13 @@ fn write_device(
     ensures { λ _. ⌜ now (mem .exit) ≡ leaves base (now (mem .entry)) (deviceOf base (now (mem .entry)) addr size value) ⌝ }
 {
     if size == 0 {
-        return refused(4);
+        return broke_none(Outcome::Refused { number: 4 });
     }
     if 8 < size {
-        return refused(4);
+        return broke_none(Outcome::Refused { number: 4 });
     }
     if !reserve::inside(base, mem.len() as u64, addr, size as u64) {
-        return refused(5);
+        return broke_none(Outcome::Refused { number: 5 });
     }
     word::bytes::store_at(mem, (addr - base) as usize, size, value);
     Reply {
@@ -166,10 +163,7 @@ fn release_hart(t: &mut [u64; 24], count: usize, h: usize) -> Reply
     ensures { λ _. ⌜ slotsIn (now (t .exit)) ≡ slotsAfter 64 count (release h) (slotsIn (now (t .entry))) ⌝ }
 {
     packed::release(t, count, h);
-    Reply {
-        outcome: Outcome::Retired,
-        broke: 0,
-    }
+    broke_none(Outcome::Retired)
 }
 
 // An event.
@@ -193,7 +187,7 @@ pub fn advance(
             if hart < count {
                 return step_hart(x, pc, t, count, hart, base, mem);
             }
-            refused(3)
+            broke_none(Outcome::Refused { number: 3 })
         }
         Event::Device {
             addr,
@@ -204,7 +198,7 @@ pub fn advance(
             if hart < count {
                 return release_hart(t, count, hart);
             }
-            refused(3)
+            broke_none(Outcome::Refused { number: 3 })
         }
     }
 }

@@ -18,7 +18,8 @@ use Rattle.report.specs.Report.{caseLine, endLine}
 abbrev pub machineOf : List ℕ → ℕ → ℕ → Machine
 machineOf file m e = record { state = caseOf file .state; mem = part file m (e - m) }
 
--- the text is a line for each of the events, numbered from k on, each with an outcome that isn't a refusal: `ok`, `sc 0`, `sc 1` or a trap
+-- the text is a line for each of the events, numbered from k on, each with an outcome that isn't a refusal: `ok`, `sc 0`, `sc 1` or a trap; with or
+-- without a set of harts behind it (which one: broken/proofs/Shown)
 unfoldable pub UnrefusedLines : ℕ → List Event → List ℕ → Type 0
 UnrefusedLines k [] text = text ≡ []
 UnrefusedLines k (e ∷ es) text =

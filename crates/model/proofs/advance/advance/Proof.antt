@@ -29,8 +29,8 @@ returns c =
     let stepped = c .before .before .step-hart .ensures in
     rw (c .before .before .before .before .before .before .before .before .before .e .given .1) stepped
 
-refused-requires : tie.Need-refused-requires
-refused-requires c κs = search needs
+broke-none-requires : tie.Need-broke-none-requires
+broke-none-requires c κs = search needs
 
 enum-known-e-2 : tie.Need-enum-known-e-2
 enum-known-e-2 c = search needs
@@ -52,14 +52,14 @@ returns-2 c =
     let is : Acts start (release (yield .0 .0)) = rw (yield .1, lt-ltb _ _ (c .before .before .if2 .taken)) in
     advances _ _ (start .pre) _ is (c .release-hart .ensures .0 .0) (c .release-hart .ensures .0 .1) refl refl (c .release-hart .ensures .1) refl
 
-refused-requires-2 : tie.Need-refused-requires-2
-refused-requires-2 c κs = search needs
+broke-none-requires-2 : tie.Need-broke-none-requires-2
+broke-none-requires-2 c κs = search needs
 
 returns-3 : tie.Need-returns-3
 unfolding actOn leaves
 returns-3 c =
     let start = c .before .before .before .before .before .before in
-    let told = c .refused .ensures in
+    let told = c .broke-none .ensures in
     let is : Acts start (refuse 3) = rw (c .before .before .before .e .given .1, le-ltb _ _ (c .before .if1 .left)) in
     advances _ _ (start .pre) _ is (told .0) (told .1) refl refl refl refl
 
@@ -80,7 +80,7 @@ returns-5 : tie.Need-returns-5
 unfolding actOn leaves
 returns-5 c =
     let start = c .before .before .before .before .before .before in
-    let told = c .refused2 .ensures in
+    let told = c .broke-none2 .ensures in
     let is : Acts start (refuse 3) = rw (c .before .before .before .e3 .given .1, le-ltb _ _ (c .before .if2 .left)) in
     advances _ _ (start .pre) _ is (told .0) (told .1) refl refl refl refl
 
@@ -92,13 +92,13 @@ advance-spec =
     step-hart-requires
     same-length
     returns
-    refused-requires
+    broke-none-requires
     enum-known-e-2
     write-device-requires
     enum-known-e-3
     release-hart-requires
     returns-2
-    refused-requires-2
+    broke-none-requires-2
     returns-3
     same-length-2
     returns-4

@@ -17,6 +17,9 @@ retired-as-requires c κs = search needs
 enum-known-d-2 : tie.Need-enum-known-d-2
 enum-known-d-2 c = search needs
 
+broke-none-requires : tie.Need-broke-none-requires
+broke-none-requires c κs = search needs
+
 returns : tie.Need-returns
 unfolding outcomeBy brokenBy slotsBy
 returns c =
@@ -26,9 +29,9 @@ returns c =
 
 returns-2 : tie.Need-returns-2
 unfolding outcomeBy brokenBy slotsBy
-returns-2 c = rw (c .before .d2 .given .1) ((refl, refl), refl)
+returns-2 c = rw (c .before .before .d2 .given .1) (c .broke-none .ensures, refl)
 
 pub settle-spec : {M : Type 1} → statement M
 settle-spec =
     tie.close
-    (tie.spec enum-known-d observe-requires retired-as-requires enum-known-d-2 returns returns-2)
+    (tie.spec enum-known-d observe-requires retired-as-requires enum-known-d-2 broke-none-requires returns returns-2)

@@ -13,37 +13,37 @@ use borrow.Author.Needs.{needs}
 use Rattle.model.proofs.advance.write_device.Statement.{statement}
 use Rattle.model.proofs.advance.write_device.Tie as tie
 
-refused-requires : tie.Need-refused-requires
-refused-requires c κs = search needs
+broke-none-requires : tie.Need-broke-none-requires
+broke-none-requires c κs = search needs
 
 returns : tie.Need-returns
 unfolding deviceOf leaves
 returns c =
-    let told = c .refused .ensures in
+    let told = c .broke-none .ensures in
     rw (lt-leb 1 (c .before .before .before .args .size) (omega arith)) (told .0, (told .1, (refl, refl)))
 
-refused-requires-2 : tie.Need-refused-requires-2
-refused-requires-2 c κs = search needs
+broke-none-requires-2 : tie.Need-broke-none-requires-2
+broke-none-requires-2 c κs = search needs
 
 returns-2 : tie.Need-returns-2
 unfolding deviceOf leaves
 returns-2 c =
     let size = c .before .before .before .before .args .size in
-    let told = c .refused2 .ensures in
+    let told = c .broke-none2 .ensures in
     rw (le-leb 1 size (omega arith), lt-leb size 8 (c .before .if2 .taken)) (told .0, (told .1, (refl, refl)))
 
 inside-requires : tie.Need-inside-requires
 inside-requires c κs = search needs
 
-refused-requires-3 : tie.Need-refused-requires-3
-refused-requires-3 c κs = search needs
+broke-none-requires-3 : tie.Need-broke-none-requires-3
+broke-none-requires-3 c κs = search needs
 
 returns-3 : tie.Need-returns-3
 unfolding deviceOf leaves
 returns-3 c =
     let size = c .before .before .before .before .before .before .args .size in
     let outside = sym (c .before .before .inside .ensures) ∙ not-true _ (c .before .if3 .taken) in
-    let told = c .refused3 .ensures in
+    let told = c .broke-none3 .ensures in
     rw (le-leb 1 size (omega arith), le-leb size 8 (omega arith), outside) (told .0, (told .1, (refl, refl)))
 
 sub-store-at : tie.Need-sub-store-at
@@ -74,12 +74,12 @@ pub write-device-spec : {M : Type 1} → statement M
 write-device-spec =
     tie.close
     (tie.spec
-    refused-requires
+    broke-none-requires
     returns
-    refused-requires-2
+    broke-none-requires-2
     returns-2
     inside-requires
-    refused-requires-3
+    broke-none-requires-3
     returns-3
     sub-store-at
     store-at-requires
