@@ -14,9 +14,9 @@ FLOECAVERN_SO names a shared object at another place; a relative name counts fro
     machine.state.reservation(0)                                # Reservation(addr=64, width=4)
     floecavern.harts(machine.device_write(64, 1, 7).broke)      # (0,): hart 0's reservation is broken
 
-The names are those of include/floecavern.h and of rust/ (whose `Answer` is the outcome here). What the model refuses is the exception Refused, and state and memory are as they
-were; a trap is an outcome. A value that isn't the model's at all is a TypeError or a ValueError before the library is called: a number that
-doesn't fit its bits, a memory that can't be written. One machine is for one thread at a time.
+The names are those of include/floecavern.h and of rust/, whose `Answer` is the outcome here. What the model refuses is the exception Refused,
+and state and memory are as they were; a trap is an outcome. A value that isn't the model's at all is a TypeError or a ValueError before the
+library is called: a number that doesn't fit its bits, a memory that can't be written. One machine is for one thread at a time.
 """
 import ctypes
 import enum

@@ -42,6 +42,12 @@ class Nights(LogsCase):
         self.assertEqual((status, out.decode().splitlines()[2][:39]), (0, 'clean: 3 logs with 12 rows, 12 compared'))
         self.assertEqual(command(NIGHTLY, '--merge', *files[:2])[0], 1)
 
+    def test_the_page_of_a_part_gives_way_to_the_next(self):
+        self.two_parts('a')
+        for _ in range(2):
+            status, _, err = self.night('--part', '1/2', '--out', self.page)
+            self.assertEqual((status, data(self.page + '.txt').split(b'\n')[2][:25]), (0, b'partly clean: part 1 of 2'), err)
+
     def rewrite(self, file, change):
         record = json.loads(data(file))
         change(record)
