@@ -68,12 +68,12 @@ end 13
 '''
 # Of a night with this case twice and the example, in which hart 1's SC breaks hart 0's reservation.
 TABLE = '''Who broke whose reservations
-  h0 lost  h1 lost  h3 lost  in all  writer
-        0        2        0       2  h0
-        1        0        0       1  h1
-        2        2        2       6  h2
-        2        0        2       4  d
-        5        4        4      13  in all
+  writer  h0 lost  h1 lost  h3 lost  in all
+  h0            0        2        0       2
+  h1            1        0        0       1
+  h2            2        2        2       6
+  d             2        0        2       4
+  in all        5        4        4      13
 '''
 NOTHING_BROKEN = "pass\nout = re.sub(rb' broke [0-9a-f]{2}', b'', out)"
 
@@ -121,7 +121,7 @@ class Losses(NightlyCase):
         text = data(self.page + '.html').decode()
         rows = [line.split() for line in TABLE.replace(' lost', '_lost').replace('in all', 'in_all').splitlines()[1:]]
         shown = '\n'.join('<tr>%s</tr>' % ''.join(
-            '<%s class="%s">%s</%s>' % (tag, kind, cell.replace('_', ' '), tag) for kind, cell in zip(['n'] * 4 + ['name'], row))
+            '<%s class="%s">%s</%s>' % (tag, kind, cell.replace('_', ' '), tag) for kind, cell in zip(['name'] + ['n'] * 4, row))
             for tag, row in zip(['th'] + ['td'] * 5, rows))
         self.assertIn('<section class="losers"><h2>Who broke whose reservations</h2><table>%s</table></section>' % shown, text)
         self.assertIn('<tr><td class="n">7</td><td class="">writes that broke a reservation</td></tr>', text)
@@ -139,19 +139,19 @@ class Losses(NightlyCase):
         status, page, _ = self.night(edit=edit)
         self.assertEqual((status, page[4:7]), (1, [
             'Wrong: 2', "  2: event 3 (h2) has the line '3 h2 ok broke 0f': bit 2 is the stepping hart's own", '      contention.case']))
-        self.assertEqual(self.table(page), 'Who broke whose reservations\n  h0 lost  in all  writer\n        1       1  h1\n        1       1  in all\n')
+        self.assertEqual(self.table(page), 'Who broke whose reservations\n  writer  h0 lost  in all\n  h1            1       1\n  in all        1       1\n')
 
     def test_all_writers_and_losers(self):
         counts = {'broke %s %s' % (writer, loser): 1000 for writer in casefile.WRITERS for loser in casefile.HARTS if writer != loser}
         heads, rows = losses({'counts': counts})
-        self.assertEqual(heads, ['h%d lost' % hart for hart in range(8)] + ['in all', 'writer'])
-        self.assertEqual([row[-1] for row in rows], ['h%d' % hart for hart in range(8)] + ['d', 'in all'])
+        self.assertEqual(heads, ['writer'] + ['h%d lost' % hart for hart in range(8)] + ['in all'])
+        self.assertEqual([row[0] for row in rows], ['h%d' % hart for hart in range(8)] + ['d', 'in all'])
         for hart, row in enumerate(rows[:8]):
-            self.assertEqual(row[:-1], ['0' if hart == loser else '1,000' for loser in range(8)] + ['7,000'])
-        self.assertEqual((rows[8][:-1], rows[9][:-1]), (['1,000'] * 8 + ['8,000'], ['8,000'] * 8 + ['64,000']))
+            self.assertEqual(row[1:], ['0' if hart == loser else '1,000' for loser in range(8)] + ['7,000'])
+        self.assertEqual((rows[8][1:], rows[9][1:]), (['1,000'] * 8 + ['8,000'], ['8,000'] * 8 + ['64,000']))
         self.assertEqual(text_losses({'counts': counts})[3:5], [
-            '        0    1,000    1,000    1,000    1,000    1,000    1,000    1,000   7,000  h0',
-            '    1,000        0    1,000    1,000    1,000    1,000    1,000    1,000   7,000  h1'])
+            '  h0            0    1,000    1,000    1,000    1,000    1,000    1,000    1,000   7,000',
+            '  h1        1,000        0    1,000    1,000    1,000    1,000    1,000    1,000   7,000'])
 
     # counts
 

@@ -19,8 +19,8 @@ CHROMIUM = next(filter(None, map(shutil.which, ('chromium', 'chromium-browser', 
 
 def shown_width(path, width):
     """How far to the right a browser shows something of a page in a frame of this width, and how wide the frame is: a window can't be as narrow as
-    a telephone."""
-    script = ('<script>parent.document.title = "width " + Math.max(document.documentElement.scrollWidth, ...Array.from(document.querySelectorAll("main *"), '
+    a telephone. What is inside the table of losers can be scrolled to."""
+    script = ('<script>parent.document.title = "width " + Math.max(document.documentElement.scrollWidth, ...Array.from(document.querySelectorAll("main :not(.losers *)"), '
               'part => Math.floor(part.getBoundingClientRect().right))) + " of " + window.innerWidth</script></body>')
     page = html.escape(data(path).decode().replace('</body>', script))
     with tempfile.TemporaryDirectory() as folder:

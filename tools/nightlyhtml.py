@@ -33,8 +33,9 @@ summary { overflow-wrap: anywhere; cursor: pointer; } details { margin: .35rem 0
 .tables { display: flex; flex-wrap: wrap; gap: 0 1.5rem; align-items: start; } .tables div { flex: 1 1 auto; max-width: 100%; overflow-x: auto; }
 .tables div:last-child { flex-basis: 100%; } .tables th, .tables td { padding-right: .5rem; font-size: .85rem; } .tables th { font-size: .75rem; }
 .tables td.name { min-width: 0; overflow-wrap: normal; }
-.losers table { width: auto; } .losers th, .losers td { padding-right: .5rem; font-size: .85rem; overflow-wrap: anywhere; white-space: normal; width: auto; }
-.losers th { font-size: .75rem; } .losers td.name { min-width: 0; padding-right: 0; }
+.losers { overflow-x: auto; } .losers table { width: auto; }
+.losers th, .losers td { padding-right: .45rem; font-size: .8rem; overflow-wrap: normal; width: auto; }
+.losers th { font-size: .7rem; white-space: normal; } .losers td { white-space: nowrap; } .losers td.name { min-width: 0; }
 .about td:first-child { color: var(--soft); white-space: nowrap; width: 1%; }
 '''
 LISTED, OPEN = 500, 20        # names of a list in the HTML page (the text has all); up to so many stand open
@@ -144,9 +145,9 @@ def escaped(rows):
 
 
 def html_losses(record):
-    """Who broke whose reservations; where there is little room, its numbers break over lines, so that the columns of eight harts fit."""
+    """Who broke whose reservations. A number is never broken over lines, where it would be read as two; what doesn't fit is scrolled to."""
     heads, rows = losses(record)
-    return section('Who broke whose reservations', html_rows(heads, ['n'] * (len(heads) - 1) + ['name'], escaped(rows)) if rows else 'None.', 'losers')
+    return section('Who broke whose reservations', html_rows(heads, ['name'] + ['n'] * (len(heads) - 1), escaped(rows)) if rows else 'None.', 'losers')
 
 
 def html_tables(record, links):

@@ -123,7 +123,7 @@ def losses(record):
     losers = [loser for loser in HARTS if any(mine[loser] for mine in broke.values())]
     rows = [([mine[loser] for loser in losers], writer) for writer, mine in broke.items() if any(mine.values())]
     rows += [([sum(column) for column in zip(*(mine for mine, _ in rows))], 'in all')] if rows else []
-    return [loser + ' lost' for loser in losers] + ['in all', 'writer'], [[*map(number, mine), number(sum(mine)), name] for mine, name in rows]
+    return ['writer'] + [loser + ' lost' for loser in losers] + ['in all'], [[name, *map(number, mine), number(sum(mine))] for mine, name in rows]
 
 
 def refused(record):
@@ -165,11 +165,12 @@ def about(record):
 
 # ---- as text
 
-def text_table(heads, rows, left=()):
+def text_table(heads, rows, left=(), name_first=False):
+    """Lines of columns. Numbers stand to the right; `left` and the last column, or the first if the name is there, to the left."""
     rows = ([heads] if heads else []) + rows
     widths = [max(len(row[k]) for row in rows) for k in range(len(rows[0]))]
-    return [('  ' + '  '.join(cell.ljust(w) if k in left or k == len(row) - 1 else cell.rjust(w) for k, (cell, w) in enumerate(zip(row, widths)))).rstrip()
-            for row in rows]
+    named = {*left, 0 if name_first else len(widths) - 1}
+    return [('  ' + '  '.join(cell.ljust(w) if k in named else cell.rjust(w) for k, (cell, w) in enumerate(zip(row, widths)))).rstrip() for row in rows]
 
 
 def text_list(what, names):
@@ -213,7 +214,7 @@ def text_groups(record):
 
 def text_losses(record):
     heads, rows = losses(record)
-    return ['', 'Who broke whose reservations'] + (text_table(heads, rows) if rows else ['  none'])
+    return ['', 'Who broke whose reservations'] + (text_table(heads, rows, name_first=True) if rows else ['  none'])
 
 
 def text_page(record):
