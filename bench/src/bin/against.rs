@@ -64,18 +64,18 @@ impl Kept {
     }
 }
 
-/// The least time of `each`, of the old version and of the new one, in turns. Both machines end alike.
+/// The least time of `each`, of the old version and of the new one, in turns. The two machines change hands with every batch, so that
+/// neither version has the better place in memory for itself. They end alike.
 fn in_turns(batches: usize, work: &Work, libraries: [Library; 2], each: impl Fn(Library, &mut Kept)) -> [f64; 2] {
     let (mut least, mut machines) = ([f64::INFINITY; 2], [Kept::of(work), Kept::of(work)]);
-    for _ in 0..batches {
-        for (n, machine) in machines.iter_mut().enumerate() {
+    for batch in 0..batches {
+        for (n, library) in libraries.into_iter().enumerate() {
             let from = now();
-            each(libraries[n], machine);
+            each(library, &mut machines[(n + batch) % 2]);
             least[n] = least[n].min((now() - from) as f64);
         }
+        assert!(machines[0].state == machines[1].state && machines[0].memory == machines[1].memory, "the two versions end differently");
     }
-    let [old, new] = machines;
-    assert!(old.state == new.state && old.memory == new.memory, "the two versions end differently");
     least
 }
 

@@ -36,8 +36,7 @@ use Rattle.model.specs.Trace.{noticeAt}
 use Rattle.model.specs.Retired.{IsRetired, Traps, Refuses}
 use Rattle.model.specs.declared.Outcome.the-variants as O
 use Rattle.model.proofs.Frame.{res-apply, unused-res}
-use Rattle.notices.specs.Happened.{Retires, RetiredLr, RetiredSc, StoredSc, FailedSc, PlainWrite, store, amo, amocas, amocasQ, HartWrites, DeviceWrites}
-use Rattle.notices.specs.Happened.{Yields, Silent}
+use Rattle.notices.specs.Happened.{RetiredLr, RetiredSc, StoredSc, FailedSc, store, amo, amocas, amocasQ, HartWrites, Yields, Silent}
 use Rattle.notices.specs.Notices.{ComesFrom}
 use Rattle.notices.proofs.Notices.{notice-none}
 use Rattle.notices.proofs.Exact.{unrefused, notice-exact, sc-either}

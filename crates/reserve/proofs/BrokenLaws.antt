@@ -7,7 +7,7 @@ use Prim.Native.Nat.{ℕ, zero, suc, _+_, _*_, _-_, _/_, _%_, _^_, _≤_, _<_}
 use native.Mathlib.Nat.{pow-suc, div-eq-of-lt}
 use native.Mathlib.Omega.{arith}
 use lib.ListN.{getD}
-use lib.Pow.{pow-pos, pow-mono, high, low, field, mod-mod-pow}
+use lib.Pow.{pow-mono, high, low, field, mod-mod-pow}
 use Rattle.word.proofs.TestLaws.{bool-cases, contrary}
 use Rattle.word.proofs.WordLaws.{split-lt}
 use Rattle.reserve.specs.Reserve.{slot, breaksOf, brokenOf}
