@@ -1,7 +1,7 @@
 -- Who lost a reservation to an event: the bits of its answer, in words, for every machine and every event. Assumes nothing.
 use mathlib.Core.Path.{_≡_, refl, sym, ap, subst, _∙_}
 use mathlib.Core.Logic.{_↔_, _≢_, _⊎_, inl, inr, ⊎-elim}
-use mathlib.Core.Bool.{Bool, true, false, cond, not}
+use mathlib.Core.Bool.{true, false, cond, not}
 use mathlib.Core.List.{List}
 use Prim.Native.Nat.{ℕ, _%_, _^_, _≤_, _<_}
 use native.Mathlib.Nat.{div-eq-of-lt}
@@ -9,7 +9,7 @@ use native.Mathlib.Omega.{arith}
 use lib.Dec.{eqb, ltb}
 use lib.ListN.{length, List·getD-eq-default}
 use lib.Pow.{pow-pos, pow-mono}
-use borrow.Author.Tests.{eqb-true, eqb-false, eq-eqb, ne-eqb, ltb-true, not-true}
+use borrow.Author.Tests.{eqb-true, eqb-false, eq-eqb, ne-eqb, not-true}
 use Rattle.word.proofs.TestLaws.{bool-cases, contrary, and-both}
 use Rattle.word.proofs.ChooseLaws.{cond-all}
 use Rattle.word.proofs.WordLaws.{split-lt}
@@ -30,7 +30,7 @@ use Rattle.events.specs.declared.Event.{Event}
 use Rattle.events.specs.declared.Event.the-variants.{Step, Device, Yield}
 use Rattle.effect.specs.Effect.{noticeOf}
 use Rattle.model.specs.Act.{Act, refuse, fault, change, put, release, actNotice, retiredAs, outcomeOf, brokenAfter, apply}
-use Rattle.model.specs.Perform.{Machine, reservationOf, stepOf, ofExec, actOn, actOf, answerOf, outcomeAt, brokeAt, nextOf}
+use Rattle.model.specs.Perform.{Machine, reservationOf, actOn, actOf, answerOf, outcomeAt, brokeAt, nextOf}
 use Rattle.model.specs.Valid.{Valid}
 use Rattle.model.specs.Trace.{noticeAt}
 use Rattle.model.specs.Retired.{IsRetired, Traps, Refuses}
@@ -39,7 +39,7 @@ use Rattle.model.proofs.Frame.{res-apply, unused-res}
 use Rattle.notices.specs.Happened.{RetiredLr, RetiredSc, StoredSc, FailedSc, store, amo, amocas, amocasQ, HartWrites, Yields, Silent}
 use Rattle.notices.specs.Notices.{ComesFrom}
 use Rattle.notices.proofs.Notices.{notice-none}
-use Rattle.notices.proofs.Exact.{unrefused, notice-exact, sc-either}
+use Rattle.notices.proofs.Exact.{unrefused, fetched, yield-used, notice-exact, sc-either}
 use Rattle.broken.specs.Broken.{Bit, Reached, byHart, byDevice, Loses, Ended, bySc, byYield, byWrite, HoldsNone}
 
 -- ---- the bits are those that the event's notice breaks
@@ -86,26 +86,6 @@ yield-breaks-none base m g =
     let none : Act → Type 0 = λ act. brokenAfter 64 (m .state .count) act (m .state .res) ≡ 0 in
     cond-all none (eqb (refusalOf base (length (m .mem)) (m .state)) 0) _ _
     (cond-all none (ltb g (m .state .count)) _ _ (spared-broken 64 (N.Yield g) (yield-spares 64 g) (m .state .count) (m .state .res)) refl) refl
-
--- a step that retires, and a yield that isn't refused, are of a used hart
-used-act : (s t : Bool) (k n : ℕ) (act : Act) → (Refuses (outcomeOf (cond s (cond t act (refuse k)) (refuse n))) → ⊥) → t ≡ true
-used-act true true k n act r = refl
-used-act true false k n act r = absurd (r (k, refl))
-used-act false t k n act r = absurd (r (n, refl))
-
-module _ (base : ℕ) (m : Machine) (h : ℕ) where
-  abbrev refusal : ℕ
-  refusal = refusalOf base (length (m .mem)) (m .state)
-
-  step-used : IsRetired (outcomeAt base m (Step h)) → h < m .state .count
-  unfolding answerOf actOf actOn
-  step-used r =
-      ltb-true h (m .state .count)
-      (used-act (eqb refusal 0) (ltb h (m .state .count)) 3 refusal (ofExec h (stepOf base (m .mem) (m .state) h)) (unrefused (outcomeAt base m (Step h)) r))
-
-  yield-used : (Refuses (outcomeAt base m (Yield h)) → ⊥) → h < m .state .count
-  unfolding answerOf actOf actOn
-  yield-used r = ltb-true h (m .state .count) (used-act (eqb refusal 0) (ltb h (m .state .count)) 3 refusal (release h) r)
 
 module _ (base : ℕ) (m : Machine) (e : Event) where
   broke-notice : brokeAt base m e ≡ brokenOf 64 (noticeAt base m e) (m .state .count) (m .state .res)
@@ -312,10 +292,10 @@ module _ (base : ℕ) (m : Machine) (e : Event) where
       unused-ends : m .state .count ≤ k → HoldsNone base m e k → ⊥
       unused-ends u o = held-none (sym held ∙ sym (ap (λ (s : Slot). s .reservation) (unused-res base m e k u)) ∙ o)
 
-      ended-used : Ended base m e k → k < m .state .count
-      ended-used (bySc c) = step-used base m k (subst (λ (d : Event). IsRetired (outcomeAt base m d)) (c .retires .theStep) (c .retires .retired))
-      ended-used (byYield c) = yield-used base m k (subst (λ (d : Event). Refuses (outcomeAt base m d) → ⊥) (c .theYield) (c .taken))
-      ended-used (byWrite b) = broke-exact .0 b .used
+      ended-used : Valid base m → Ended base m e k → k < m .state .count
+      ended-used v (bySc c) = fetched base m v k (subst (λ (d : Event). IsRetired (outcomeAt base m d)) (c .retires .theStep) (c .retires .retired)) .0
+      ended-used v (byYield c) = yield-used base m v k (subst (λ (d : Event). Refuses (outcomeAt base m d) → ⊥) (c .theYield) (c .taken))
+      ended-used v (byWrite b) = broke-exact .0 b .used
 
       -- A hart that holds a reservation before an event holds none after exactly if it retired an SC, had a yield, or has its bit set.
       pub ended-exact : HoldsNone base m e k ↔ Ended base m e k
@@ -323,7 +303,7 @@ module _ (base : ℕ) (m : Machine) (e : Event) where
           either
           (λ v. (
             λ o. none-ends v (⊎-elim (λ (u : k < m .state .count). u) (λ (u : m .state .count ≤ k). absurd (unused-ends u o)) (split-lt k (m .state .count))) o,
-            λ x. ends-none v (ended-used x) x,
+            λ x. ends-none v (ended-used v x) x,
           ))
           (λ r s. (
             λ o. held-none (sym held ∙ ap (λ (x : State). reservationOf x k) (sym s) ∙ o),

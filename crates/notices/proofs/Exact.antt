@@ -87,7 +87,7 @@ module _ (base : ℕ) (m : Machine) (h : ℕ) (x : ℕ → ℕ) (o : Outcome) wh
 
 module _ (base : ℕ) (m : Machine) (v : Valid base m) where
   -- a step that retires is of a used hart, and its word lies in memory
-  fetched : (h : ℕ) → IsRetired (outcomeAt base m (Step h))
+  pub fetched : (h : ℕ) → IsRetired (outcomeAt base m (Step h))
       → (h < m .state .count) × Inside base (length (m .mem)) (getD (m .state .pc) h 0) 4
   unfolding answerOf actOn fetchOf
   fetched h l =
@@ -102,6 +102,15 @@ module _ (base : ℕ) (m : Machine) (v : Valid base m) where
       go true p true q x l = (ltb-true h (m .state .count) p, inside-of base (length (m .mem)) (getD (m .state .pc) h 0) 4 q)
       go true p false q x l = absurd l
       go false p t q x l = absurd l
+
+  -- a yield that isn't refused is of a used hart
+  pub yield-used : (g : ℕ) → (Refuses (outcomeAt base m (Yield g)) → ⊥) → g < m .state .count
+  unfolding answerOf actOn
+  yield-used g taken = go (ltb g (m .state .count)) refl (rw (act-valid base m v (Yield g)) at taken)
+    where
+      go : (t : Bool) → ltb g (m .state .count) ≡ t → (Refuses (outcomeOf (cond t (release g) (refuse 3))) → ⊥) → g < m .state .count
+      go true p d = ltb-true g (m .state .count) p
+      go false p d = absurd (d (3, refl))
 
   module _ (e : Event) where
     -- ---- what is known of a retired step
@@ -153,15 +162,9 @@ module _ (base : ℕ) (m : Machine) (v : Valid base m) where
         ∙ notice-device base m v b n (d .value) (subst (λ (c : Event). Refuses (outcomeAt base m c) → ⊥) (d .theDevice) (d .taken))
 
     tells-yield : (g : ℕ) → Yields base m e g → noticeAt base m e ≡ N.Yield g
-    unfolding answerOf actOn
     tells-yield g y =
-        let taken = subst (λ (c : Event). Refuses (outcomeAt base m c) → ⊥) (y .theYield) (y .taken) in
         ap (noticeAt base m) (y .theYield)
-        ∙ notice-yield base m v g (go (ltb g (m .state .count)) refl (rw (act-valid base m v (Yield g)) at taken))
-      where
-        go : (t : Bool) → ltb g (m .state .count) ≡ t → (Refuses (outcomeOf (cond t (release g) (refuse 3))) → ⊥) → g < m .state .count
-        go true p d = ltb-true g (m .state .count) p
-        go false p d = absurd (d (3, refl))
+        ∙ notice-yield base m v g (yield-used g (subst (λ (c : Event). Refuses (outcomeAt base m c) → ⊥) (y .theYield) (y .taken)))
 
     tells : (n : Notice) → ComesFrom base m e n → noticeAt base m e ≡ n
     tells N.Quiet c = tells-silent c
