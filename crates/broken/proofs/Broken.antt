@@ -140,6 +140,14 @@ module _ (base : ℕ) (m : Machine) (e : Event) where
   -- ---- bit by bit
 
   module _ (k : ℕ) where
+    held-breaks : (a w : ℕ) → Valid base m → Reached base m e k a w → breaksOf 64 k (noticeAt base m e) (Held a w) ≡ true
+    unfolding breaksOf
+    held-breaks a w v (byHart g b n d (inl c) t) =
+        rw (notice-exact base m v e (N.Write g b n) .1 c, ne-eqb g k d, touches-exact b n (setOf 64 a) 64 .1 t)
+    held-breaks a w v (byHart g b n d (inr c) t) =
+        rw (notice-exact base m v e (N.ScStored g b n) .1 c, ne-eqb g k d, touches-exact b n (setOf 64 a) 64 .1 t)
+    held-breaks a w v (byDevice b n c t) = rw (notice-exact base m v e (N.DeviceWrite b n) .1 c, touches-exact b n a w .1 t)
+
     breaks-held : (n : Notice) → ComesFrom base m e n → (a w : ℕ) → reaches 64 k n a w ≡ true → Reached base m e k a w
     breaks-held N.Quiet c a w t = contrary t refl
     breaks-held (N.LoadReserved g b v) c a w t = contrary t refl
@@ -152,14 +160,6 @@ module _ (base : ℕ) (m : Machine) (e : Event) where
         byHart g b n (eqb-false g k (not-true _ (both .0))) (inl c) (touches-exact b n (setOf 64 a) 64 .0 (both .1))
     breaks-held (N.DeviceWrite b n) c a w t = byDevice b n c (touches-exact b n a w .0 t)
     breaks-held (N.Yield g) c a w t = contrary t refl
-
-    held-breaks : (a w : ℕ) → Valid base m → Reached base m e k a w → breaksOf 64 k (noticeAt base m e) (Held a w) ≡ true
-    unfolding breaksOf
-    held-breaks a w v (byHart g b n d (inl c) t) =
-        rw (notice-exact base m v e (N.Write g b n) .1 c, ne-eqb g k d, touches-exact b n (setOf 64 a) 64 .1 t)
-    held-breaks a w v (byHart g b n d (inr c) t) =
-        rw (notice-exact base m v e (N.ScStored g b n) .1 c, ne-eqb g k d, touches-exact b n (setOf 64 a) 64 .1 t)
-    held-breaks a w v (byDevice b n c t) = rw (notice-exact base m v e (N.DeviceWrite b n) .1 c, touches-exact b n a w .1 t)
 
     -- a refused event is no write
     unreached : (a w : ℕ) → Refuses (outcomeAt base m e) → Reached base m e k a w → ⊥
