@@ -3,7 +3,7 @@
 //!
 //! The implementation is `word`, `machine`, `case`, `log` and `loops`; `layout` and `calls` put it behind the calls of include/floecavern.h.
 //! `floecavern` is the proved library itself. `generate` and `work` make inputs for both; `reached` counts what generated logs reach,
-//! `broken` what the writes of generated events break.
+//! `broken` what the writes of generated events break. `shared` opens two versions of the library side by side.
 
 pub mod broken;
 pub mod calls;
@@ -16,6 +16,7 @@ pub mod log;
 pub mod loops;
 pub mod machine;
 pub mod reached;
+pub mod shared;
 pub mod word;
 pub mod work;
 

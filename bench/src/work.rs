@@ -59,7 +59,7 @@ impl Work {
 }
 
 /// The work of long runs, with a name for each.
-pub fn long_runs(events: usize) -> [(&'static str, Work); 6] {
+pub fn long_runs(events: usize) -> [(&'static str, Work); 8] {
     [
         ("compute, 4 harts", compute(4, events)),
         ("memory, 4 harts, 64 KiB", memory(4, 65_536, events)),
@@ -67,6 +67,8 @@ pub fn long_runs(events: usize) -> [(&'static str, Work); 6] {
         ("AMO and AMOCAS, 4 harts", amos(4, events)),
         ("traps, 8 harts", traps(events)),
         ("devices, yields, LR/SC", devices(8, events)),
+        ("stores beside sets, 8 harts", stores(8, 65_536, events)),
+        ("device writes, 8 harts", device_writes(8, 65_536, events)),
     ]
 }
 
@@ -173,6 +175,48 @@ pub fn devices(harts: usize, events: usize) -> Work {
             _ => event_bytes(YIELD, hart as u8, 0, 0, 0),
         };
         work.events.extend(event);
+    }
+    work
+}
+
+/// Harts that each reserve a line and then store four times, over and over. The stores go through all of memory, so that few of them touch
+/// another hart's set, but each is held against all of them.
+pub fn stores(harts: usize, length: usize, events: usize) -> Work {
+    let words = [
+        atomic(LR, D, 0, 6, 5, 0),
+        s_type(3, 8, 6, 0),
+        s_type(3, 8, 6, 8),
+        s_type(3, 8, 6, 16),
+        s_type(3, 8, 6, 24),
+        i_type(0x13, 0, 8, 8, 72),
+        b_type(6, 8, 9, -24),
+        i_type(0x13, 0, 8, 10, 0),
+        j_type(0, -32),
+    ];
+    let mut work = Work::new(harts, length, &words);
+    let part = (length / harts) as u64;
+    work.set(5, |h| BASE + part * h as u64 + part / 2);
+    work.set(8, |h| BASE + 64 + part * h as u64);
+    work.set(9, |_| BASE + length as u64 - 32);
+    work.set(10, |_| BASE + 64);
+    work.in_turn(events)
+}
+
+/// Nine of ten events are device writes anywhere behind the words, the others LRs, so that most writes are held against a reservation of every
+/// hart.
+pub fn device_writes(harts: usize, length: usize, events: usize) -> Work {
+    let mut work = Work::new(harts, length, &[atomic(LR, D, 0, 6, 5, 0), atomic(LR, W, 0, 6, 5, 0), j_type(0, -8)]);
+    let part = (length / harts) as u64;
+    work.set(5, |h| BASE + part * h as u64 + part / 2);
+    let rng = &mut Rng::new(1);
+    for _ in 0..events {
+        if rng.percent(10) {
+            work.step(rng.below(harts as u64) as usize);
+            continue;
+        }
+        let size = 1 + rng.below(8) as usize;
+        let at = BASE + 64 + rng.below((length - 64 - size) as u64 + 1);
+        work.events.extend(event_bytes(DEVICE, 0, size as u8, at, low_bytes(rng.next(), size)));
     }
     work
 }

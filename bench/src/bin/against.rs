@@ -1,11 +1,13 @@
-//! against BATCHES OLD NEW: long runs and single calls by two versions of the library, given as shared objects, in one process and in turns.
-//! A ratio is the new one's time by the old one's.
+//! against BATCHES OLD.. NEW..: long runs and single calls by two versions of the library, in one process and in turns. Each version is given as
+//! as many shared objects as the other, which differ in where its code lies: that alone makes up to a quarter of a single call's time, so the
+//! least counts. A ratio is the new version's time by the old one's.
 
 use bench::case::EVENT;
 use bench::clock::now;
 use bench::layout;
+use bench::shared::{arguments, Shared};
 use bench::work::{self, Work, BASE};
-use std::ffi::{c_char, c_int, c_void, CString};
+use std::ffi::c_void;
 
 const LONG: usize = 1_000_000;
 const CALLS: usize = 20_000;
@@ -13,11 +15,6 @@ const CALLS: usize = 20_000;
 type Run = unsafe extern "C" fn(*mut u8, usize, u64, *mut u8, usize, *const u8, usize, usize, *mut u8, usize) -> u64;
 type OfHart = unsafe extern "C" fn(*mut u8, usize, u64, *mut u8, usize, usize, *mut u8, usize) -> u64;
 type Device = unsafe extern "C" fn(*mut u8, usize, u64, *mut u8, usize, u64, usize, u64, *mut u8, usize) -> u64;
-
-extern "C" {
-    fn dlopen(file: *const c_char, flags: c_int) -> *mut c_void;
-    fn dlsym(library: *mut c_void, name: *const c_char) -> *mut c_void;
-}
 
 /// The functions of one version.
 #[derive(Clone, Copy)]
@@ -28,26 +25,14 @@ struct Library {
     device: Device,
 }
 
-fn library(path: &str) -> Library {
-    const LAZY: c_int = 1;
-    let file = CString::new(path).expect("a path without a zero byte");
-    // SAFETY: the name is a C string; the library has no code that runs when it is loaded.
-    let opened = unsafe { dlopen(file.as_ptr(), LAZY) };
-    assert!(!opened.is_null(), "{path} can't be loaded");
-    let find = |name: &str| {
-        let symbol = CString::new(name).expect("no zero byte");
-        // SAFETY: the library is loaded, and the name is a C string.
-        let found = unsafe { dlsym(opened, symbol.as_ptr()) };
-        assert!(!found.is_null(), "{path} has no {name}");
-        found
-    };
+fn library(shared: Shared) -> Library {
     // SAFETY: each function has the type that include/floecavern.h gives it, in every version.
     unsafe {
         Library {
-            run: std::mem::transmute::<*mut c_void, Run>(find("floecavern_run")),
-            step: std::mem::transmute::<*mut c_void, OfHart>(find("floecavern_step")),
-            yields: std::mem::transmute::<*mut c_void, OfHart>(find("floecavern_yield")),
-            device: std::mem::transmute::<*mut c_void, Device>(find("floecavern_device_write")),
+            run: std::mem::transmute::<*mut c_void, Run>(shared.symbol("floecavern_run")),
+            step: std::mem::transmute::<*mut c_void, OfHart>(shared.symbol("floecavern_step")),
+            yields: std::mem::transmute::<*mut c_void, OfHart>(shared.symbol("floecavern_yield")),
+            device: std::mem::transmute::<*mut c_void, Device>(shared.symbol("floecavern_device_write")),
         }
     }
 }
@@ -66,15 +51,17 @@ impl Kept {
 
 /// The least time of `each`, of the old version and of the new one, in turns. The two machines change hands with every batch, so that
 /// neither version has the better place in memory for itself. They end alike.
-fn in_turns(batches: usize, work: &Work, libraries: [Library; 2], each: impl Fn(Library, &mut Kept)) -> [f64; 2] {
+fn in_turns(batches: usize, work: &Work, places: &[[Library; 2]], each: impl Fn(Library, &mut Kept)) -> [f64; 2] {
     let (mut least, mut machines) = ([f64::INFINITY; 2], [Kept::of(work), Kept::of(work)]);
     for batch in 0..batches {
-        for (n, library) in libraries.into_iter().enumerate() {
-            let from = now();
-            each(library, &mut machines[(n + batch) % 2]);
-            least[n] = least[n].min((now() - from) as f64);
+        for libraries in places {
+            for (n, library) in libraries.iter().enumerate() {
+                let from = now();
+                each(*library, &mut machines[(n + batch) % 2]);
+                least[n] = least[n].min((now() - from) as f64);
+            }
+            assert!(machines[0].state == machines[1].state && machines[0].memory == machines[1].memory, "the two versions end differently");
         }
-        assert!(machines[0].state == machines[1].state && machines[0].memory == machines[1].memory, "the two versions end differently");
     }
     least
 }
@@ -107,21 +94,16 @@ fn single(library: Library, machine: &mut Kept, kind: &str) {
 }
 
 fn main() {
-    let arguments: Vec<String> = std::env::args().collect();
-    let [_, batches, old, new] = &arguments[..] else {
-        eprintln!("usage: against BATCHES OLD NEW");
-        std::process::exit(2);
-    };
-    let (batches, libraries) = (batches.parse().expect("BATCHES"), [library(old), library(new)]);
+    let (batches, places) = arguments(library);
     println!("Long runs: one call of {LONG} events; million events a second");
     println!("{:<28} {:>9} {:>9} {:>7}", "", "old", "new", "ratio");
     for (name, work) in work::long_runs(LONG) {
-        let [old, new] = in_turns(batches, &work, libraries, |library, machine| run(library, machine, &work.events));
+        let [old, new] = in_turns(batches, &work, &places, |library, machine| run(library, machine, &work.events));
         println!("{name:<28} {:>9.1} {:>9.1} {:>7.3}", 1e3 * LONG as f64 / old, 1e3 * LONG as f64 / new, new / old);
     }
     println!("\nOne call, 8 harts, 4096 bytes: nanoseconds");
     for kind in ["step", "device_write", "yield"] {
-        let [old, new] = in_turns(10 * batches, &work::idle(), libraries, |library, machine| single(library, machine, kind));
+        let [old, new] = in_turns(10 * batches, &work::idle(), &places, |library, machine| single(library, machine, kind));
         println!("{kind:<28} {:>9.1} {:>9.1} {:>7.3}", old / CALLS as f64, new / CALLS as f64, new / old);
     }
 }
