@@ -8,15 +8,20 @@ import unittest
 from common import ROOT
 
 SOURCE = '''// Bytes.
+use word::num;
 ghost use mathlib.Core.Path.{_≡_};
+ghost use Rattle.bytes.specs.Fits.{fitsOf, otherOf};
 
 // What a byte is.
+#[derive]
 pub enum Kind {
     Low,
     High { by: u8 },
 }
 
 pub const MOST: u64 = 255;
+
+type Byte = u8;
 
 // Whether a number is a byte.
 pub fn fits(n: u64) -> bool
@@ -29,6 +34,7 @@ pub fn fits(n: u64) -> bool
     n <= MOST
 }
 
+#[inline]
 #[no_mangle]
 pub extern "C" fn plain(n: u64) -> u64 {
     n
@@ -42,6 +48,10 @@ fn tell() {
 '''
 SPECS = '''-- Bytes.
 use Prim.Native.Nat.{ℕ}
+use lib.Dec.{
+  ltb,
+  leb,
+}
 
 -- a byte
 abbrev pub fitsOf : ℕ → Bool
@@ -57,6 +67,7 @@ use Prim.Native.Nat.{ℕ}
 module _ (n : ℕ) (some : 0 < n) where
   -- in words
   pub fits-exact : (fitsOf n ≡ true)
+      -- both ways
       ↔ (n < 256)
   unfolding fitsOf
   fits-exact = search needs
@@ -71,7 +82,14 @@ pub record Held : Type 0 where
 abbrev pub Twice : ℕ → ℕ
 Twice n = n + n
 
-pub last-law : (n : ℕ) → n ≤ n
+abbrev Half : ℕ → ℕ
+Half n = n / 2
+
+infixr 30 _to_
+record Pair : Type 0 where
+  one : ℕ
+
+pub last-law : (n : ℕ) → n ≤ Half n
 last-law n = omega arith
 '''
 OWN = '''use Rattle.bytes.proofs.fits.Tie as tie
@@ -80,7 +98,7 @@ pub fits-spec : {M : Type 1} → statement M
 fits-spec = tie.close tie.spec
 '''
 FILES = {'src/lib.rt': SOURCE, 'specs/Fits.antt': SPECS, 'proofs/FitsLaws.antt': PROOFS, 'proofs/fits/Proof.antt': OWN}
-STAYED = ['contracts: 3 of 3', 'types: 2 of 2', 'definitions: 2 of 2', 'statements: 4 of 4']
+STAYED = ['contracts: 3 of 3', 'types: 3 of 3', 'definitions: 2 of 2', 'statements: 7 of 7']
 
 
 class Promises(unittest.TestCase):
@@ -130,6 +148,9 @@ class Promises(unittest.TestCase):
             ('src/lib.rt', '// What a byte is.', '// A byte.'),
             ('src/lib.rt', '        r\n        ≡ fitsOf n\n', '        r ≡ fitsOf n\n'),
             ('src/lib.rt', 'Low,\n', 'Low, // the low ones\n'),
+            ('src/lib.rt', 'use word::num;', 'use bits::num;'),
+            ('src/lib.rt', 'otherOf', 'thirdOf'),
+            ('specs/Fits.antt', '  leb,\n', ''),
             ('specs/Fits.antt', '-- a byte', '-- bytes'),
             ('proofs/FitsLaws.antt', 'fits-exact = search needs', 'fits-exact = omega arith'),
             ('proofs/FitsLaws.antt', 'last-law n = omega arith', 'last-law n = search needs'),
@@ -147,6 +168,12 @@ class Promises(unittest.TestCase):
             ('src/lib.rt', 'fits(n: u64) -> bool', 'fits(n: u32) -> bool', 'fits'),
             ('src/lib.rt', 'plain(n: u64) -> u64 {', 'plain(n: u64) -> u64\n    requires { ⌜ n < 9 ⌝ }\n{', 'plain'),
             ('src/lib.rt', '#[no_mangle]\n', '', 'plain'),
+            ('src/lib.rt', '#[inline]\n', '', 'plain'),
+            ('src/lib.rt', '#[derive]\n', '', 'enum Kind'),
+            ('src/lib.rt', 'Byte = u8', 'Byte = u16', 'type Byte'),
+            ('src/lib.rt', 'specs.specs.Fits', 'specs.specs.Other', 'fits'),
+            ('src/lib.rt', 'mathlib.Core.Path', 'mathlib.Core.Same', 'fits'),
+            ('specs/Fits.antt', 'lib.Dec', 'lib.Other', 'fitsOf'),
             ('src/lib.rt', 'fn tell() {', 'pub fn tell() {', 'tell'),
             ('src/lib.rt', 'by: u8', 'by: u16', 'enum Kind'),
             ('src/lib.rt', 'u64 = 255', 'u64 = 256', 'const MOST'),
@@ -157,7 +184,10 @@ class Promises(unittest.TestCase):
             ('proofs/FitsLaws.antt', ' (some : 0 < n)', '', 'fits-exact'),
             ('proofs/FitsLaws.antt', '  pub high : ℕ', '  pub high : Bool', 'Held'),
             ('proofs/FitsLaws.antt', 'Twice n = n + n', 'Twice n = 2 * n', 'Twice'),
-            ('proofs/FitsLaws.antt', 'pub last-law : (n : ℕ) → n ≤ n', 'pub last-law : (n : ℕ) → n ≡ n', 'last-law'),
+            ('proofs/FitsLaws.antt', 'Half n = n / 2', 'Half n = n / 3', 'Half'),
+            ('proofs/FitsLaws.antt', 'infixr 30', 'infixr 31', '_to_'),
+            ('proofs/FitsLaws.antt', '  one : ℕ', '  one : Bool', 'Pair'),
+            ('proofs/FitsLaws.antt', '→ n ≤ Half n', '→ n ≤ n', 'last-law'),
         ]:
             with self.subTest(new=new):
                 self.assertEqual(self.told(path, old, new), ['changed crates/bytes/%s: %s' % (path, name)])

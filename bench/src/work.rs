@@ -202,8 +202,8 @@ pub fn stores(harts: usize, length: usize, events: usize) -> Work {
     work.in_turn(events)
 }
 
-/// Nine of ten events are device writes anywhere behind the words, the others LRs, so that most writes are held against a reservation of every
-/// hart.
+/// Nine of ten events are device writes anywhere behind the words, the others steps of a loop of two LRs, so that most writes are held against a
+/// reservation of every hart.
 pub fn device_writes(harts: usize, length: usize, events: usize) -> Work {
     let mut work = Work::new(harts, length, &[atomic(LR, D, 0, 6, 5, 0), atomic(LR, W, 0, 6, 5, 0), j_type(0, -8)]);
     let part = (length / harts) as u64;

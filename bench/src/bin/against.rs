@@ -49,15 +49,15 @@ impl Kept {
     }
 }
 
-/// The least time of `each`, of the old version and of the new one, in turns. The two machines change hands with every batch, so that
-/// neither version has the better place in memory for itself. They end alike.
+/// The least time of `each`, of the old version and of the new one, in turns. The two machines change hands with every batch, and
+/// the versions' order with every other, so that neither has the better place in memory or in time for itself. They end alike.
 fn in_turns(batches: usize, work: &Work, places: &[[Library; 2]], each: impl Fn(Library, &mut Kept)) -> [f64; 2] {
     let (mut least, mut machines) = ([f64::INFINITY; 2], [Kept::of(work), Kept::of(work)]);
     for batch in 0..batches {
         for libraries in places {
-            for (n, library) in libraries.iter().enumerate() {
+            for n in if batch % 4 < 2 { [0, 1] } else { [1, 0] } {
                 let from = now();
-                each(*library, &mut machines[(n + batch) % 2]);
+                each(libraries[n], &mut machines[(n + batch) % 2]);
                 least[n] = least[n].min((now() - from) as f64);
             }
             assert!(machines[0].state == machines[1].state && machines[0].memory == machines[1].memory, "the two versions end differently");

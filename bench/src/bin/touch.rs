@@ -1,6 +1,6 @@
 //! touch BATCHES OLD.. NEW..: the test of touching ranges by itself, over many pairs of ranges, by two versions of it, in one process and in turns.
-//! Each version is given as as many shared objects as the other, which differ in where its code lies; the least counts. A ratio is the new
-//! version's time by the old one's.
+//! Each version is given as as many shared objects as the other, which differ in where its code lies; the batches take them in turn, and the least
+//! counts. A ratio is the new version's time by the old one's.
 
 use bench::clock::now;
 use bench::generate::Rng;
@@ -8,59 +8,70 @@ use bench::shared::{arguments, Shared};
 use std::ffi::c_void;
 
 const PAIRS: usize = 16_384;
-const TOP: u64 = u64::MAX;
-/// A set in the middle of a memory.
+const TOPMOST: u64 = u64::MAX;
+/// A set in the middle of a memory of 64 KiB.
 const SET: u64 = 0x8000_8000;
+const MEMORY: u64 = SET - 32_768;
 
 type Touching = unsafe extern "C" fn(*const u64, usize) -> u64;
 
-/// The first byte and the number of bytes of two ranges: a write, and what a reservation is lost by.
+/// The first byte and the number of bytes of two ranges: a write, and the set or the bytes that an LR read.
 type Pair = [u64; 4];
+
+/// The pair of a number, or a random one.
+type Maker = fn(u64, &mut Rng) -> Pair;
 
 fn touching(shared: Shared) -> Touching {
     // SAFETY: the function has this type in every version: bench/touch.
     unsafe { std::mem::transmute::<*mut c_void, Touching>(shared.symbol("bench_touch")) }
 }
 
-/// Pairs as they come in runs, and at the edges. Each has a name, and a maker.
-const INPUTS: [(&str, fn(&mut Rng) -> Pair); 9] = [
-    ("stores around a set", |rng| [SET - 64 + 8 * rng.below(24), 8, SET, 64]),
-    ("stores anywhere in 64 KiB", |rng| [SET - 32_768 + 8 * rng.below(8192), 8, SET, 64]),
-    ("stores below the set", |rng| [SET - 32_768 + 8 * rng.below(4096), 8, SET, 64]),
-    ("stores above the set", |rng| [SET + 64 + 8 * rng.below(4088), 8, SET, 64]),
-    ("stores into the set", |rng| [SET + 8 * rng.below(8), 8, SET, 64]),
-    ("device writes around an LR", |rng| [SET - 12 + rng.below(24), 1 + rng.below(8), SET, 4 + 4 * rng.below(2)]),
-    ("one of them often empty", |rng| [SET - 64 + 8 * rng.below(24), 8 * rng.below(2), SET, 64 * rng.below(2)]),
-    ("at the topmost bytes", |rng| [TOP - rng.below(64), 1 + rng.below(64), TOP - rng.below(64), 1 + rng.below(64)]),
-    ("any numbers", |rng| [rng.next(), rng.next(), rng.next(), rng.next()]),
+const INPUTS: [(&str, Maker); 10] = [
+    ("random stores around a set", |_, rng| [SET - 64 + 8 * rng.below(24), 8, SET, 64]),
+    ("random stores in 64 KiB", |_, rng| [MEMORY + 8 * rng.below(8192), 8, SET, 64]),
+    ("random device writes at an LR", |_, rng| [SET - 12 + rng.below(24), 1 + rng.below(8), SET, 4 + 4 * rng.below(2)]),
+    ("stores that walk over 64 KiB", |n, _| [MEMORY + 8 * (n % 8192), 8, SET, 64]),
+    ("all stores into the set", |_, rng| [SET + 8 * rng.below(8), 8, SET, 64]),
+    ("all stores below the set", |_, rng| [SET - 8 - 8 * rng.below(4096), 8, SET, 64]),
+    ("all stores above the set", |_, rng| [SET + 64 + 8 * rng.below(4088), 8, SET, 64]),
+    ("one of them often empty", |_, rng| [SET - 64 + 8 * rng.below(24), 8 * rng.below(2), SET, 64 * rng.below(2)]),
+    ("at the topmost bytes", |_, rng| [TOPMOST - rng.below(64), 1 + rng.below(64), TOPMOST - rng.below(64), 1 + rng.below(64)]),
+    ("any numbers", |_, rng| [rng.next(), rng.next(), rng.next(), rng.next()]),
 ];
 
-fn share(pair: &Pair) -> bool {
+fn share_a_byte(pair: &Pair) -> bool {
     let [b, n, c, m] = pair.map(u128::from);
     b.max(c) < (b + n).min(c + m)
 }
 
+/// The least times of both versions, for all pairs, and how many of the pairs touched in all batches.
+fn times(batches: usize, places: &[[Touching; 2]], make: Maker) -> ([f64; 2], usize) {
+    let (mut least, mut found, rng) = ([f64::INFINITY; 2], 0, &mut Rng::new(1));
+    for batch in 0..batches {
+        // Others in every batch, and each batch at one place, since a processor learns which way the tests of the same pairs go.
+        let pairs: Vec<Pair> = (0..PAIRS as u64).map(|n| make(n, rng)).collect();
+        let (numbers, touch) = (pairs.concat(), pairs.iter().filter(|pair| share_a_byte(pair)).count());
+        let versions = places[batch / 2 % places.len()];
+        // Each version is the first to meet the pairs in every other batch.
+        for n in [batch % 2, 1 - batch % 2] {
+            let from = now();
+            // SAFETY: the pointer comes from a slice of the length beside it.
+            let answer = unsafe { versions[n](numbers.as_ptr(), numbers.len()) };
+            least[n] = least[n].min((now() - from) as f64);
+            assert_eq!(answer, touch as u64);
+        }
+        found += touch;
+    }
+    (least, found)
+}
+
 fn main() {
     let (batches, places) = arguments(touching);
-    println!("The test of touching ranges, {PAIRS} pairs in turn, other ones in every batch: nanoseconds a pair");
-    println!("{:<28} {:>9} {:>9} {:>7} {:>8}", "", "old", "new", "ratio", "touch");
+    println!("The test of touching ranges, {PAIRS} pairs in turn, others in every batch: nanoseconds a pair");
+    println!("{:<29} {:>9} {:>9} {:>7} {:>8}", "", "old", "new", "ratio", "touch");
     for (name, make) in INPUTS {
-        let (mut least, mut found, rng) = ([f64::INFINITY; 2], 0, &mut Rng::new(1));
-        for batch in 0..batches {
-            // New ones, since a processor would learn which way the old ones go.
-            let pairs: Vec<Pair> = (0..PAIRS).map(|_| make(rng)).collect();
-            let (numbers, touch) = (pairs.concat(), pairs.iter().filter(|pair| share(pair)).count());
-            // A place in each batch, since a processor would learn from one place to the next, too.
-            for (time, version) in least.iter_mut().zip(places[batch % places.len()]) {
-                let from = now();
-                // SAFETY: the pointer comes from a slice of the length beside it.
-                let answer = unsafe { version(numbers.as_ptr(), numbers.len()) };
-                *time = time.min((now() - from) as f64);
-                assert_eq!(answer, touch as u64, "{name}");
-            }
-            found += touch;
-        }
-        let ([old, new], share) = (least.map(|time| time / PAIRS as f64), 100.0 * found as f64 / (PAIRS * batches) as f64);
-        println!("{name:<28} {old:>9.2} {new:>9.2} {:>7.3} {share:>7.1}%", new / old);
+        let (least, found) = times(batches, &places, make);
+        let ([old, new], percent) = (least.map(|time| time / PAIRS as f64), 100.0 * found as f64 / (PAIRS * batches) as f64);
+        println!("{name:<29} {old:>9.2} {new:>9.2} {:>7.3} {percent:>7.1}%", new / old);
     }
 }

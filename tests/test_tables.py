@@ -1,0 +1,39 @@
+"""The tables that programs are run on are those that the tools make."""
+import os
+import shutil
+import subprocess
+import tempfile
+import unittest
+
+from common import ROOT, data
+
+
+class Tables(unittest.TestCase):
+    def same(self, tool, crate):
+        """The tool run in a folder of its own writes what stands in the repository."""
+        top = tempfile.mkdtemp()
+        self.addCleanup(shutil.rmtree, top)
+        os.makedirs(os.path.join(top, 'crates', crate))
+        os.mkdir(top + '/tools')
+        shutil.copy(os.path.join(ROOT, 'tools', tool), top + '/tools')
+        subprocess.run([os.path.join(top, 'tools', tool)], check=True, stdout=subprocess.DEVNULL)
+        for name in ['stdin', 'stdout']:
+            made, kept = (data(os.path.join(folder, 'crates', crate, name)) for folder in [top, ROOT])
+            self.assertTrue(made == kept, '%s/%s' % (crate, name))
+
+    def test_touch_table(self):
+        self.same('touch-table', 'touch_table')
+
+    def test_event_table(self):
+        self.same('event-table', 'event_table')
+
+    @unittest.skipUnless(shutil.which('riscv64-linux-gnu-as') and shutil.which('riscv64-linux-gnu-objdump'), 'needs binutils-riscv64-linux-gnu')
+    def test_decode_table(self):
+        version = subprocess.run(['riscv64-linux-gnu-objdump', '--version'], stdout=subprocess.PIPE, encoding='utf-8').stdout.split('\n')[0]
+        if not version.endswith(' 2.40'):
+            self.skipTest('the table is made with binutils 2.40; here is ' + version)
+        self.same('decode-table', 'decode_table')
+
+
+if __name__ == '__main__':
+    unittest.main()
