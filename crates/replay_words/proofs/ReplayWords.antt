@@ -7,7 +7,7 @@ use native.Mathlib.Omega.{arith}
 use lib.Dec.{eqb}
 use lib.ListN.{length}
 use borrow.Author.Tests.{eq-eqb, ne-eqb, eqb-true, eqb-false}
-use Rattle.word.proofs.TestLaws.{bool-cases}
+use Rattle.word.proofs.TestLaws.{bool-cases, not-zero}
 use Rattle.word.proofs.WordLaws.{split-lt}
 use Rattle.machine.specs.State.{memoryOk, stateOk, refusalOf}
 use Rattle.machine.specs.Rules.{MemoryRules, StateRules}
@@ -123,9 +123,6 @@ module _ (base : ℕ) (mem : List ℕ) (s : State) (log : List ℕ) where
           (λ z. let some : 0 < length log = not-zero (length log) (eqb-false (length log) 0 z) in
           inl (record { memory = p .0; state = p .1; whole = eqb-true (length log % 48) 0 w; some = some })))
           (λ w. inr (12, cut refl (p .0) (p .1) (eqb-false (length log % 48) 0 w)))
-        where
-          not-zero : (k : ℕ) → (k ≡ 0 → ⊥) → 0 < k
-          not-zero k n = omega (arith, n)
 
   -- ---- the claims
 
