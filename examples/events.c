@@ -94,6 +94,23 @@ static void words(void)
            machine.state.x[1][7], word);
 }
 
+/* Hart 1 stores at 72 while hart 0 holds the 4 bytes at 64, with sets of so many bytes. A state can be begun by itself, with
+ * the initialiser: a state of zeros is refused, since its set size is 0. */
+static void store_beside(const char *what, uint64_t set_size)
+{
+    static const uint32_t word = 0x0082a023; /* sw x8,0(x5) */
+    floecavern_state state = FLOECAVERN_STATE_INIT;
+    state.count = 2;
+    state.set_size = set_size;
+    state.x[1][5] = 72;
+    state.reservation[0].held = 1;
+    state.reservation[0].addr = 64;
+    state.reservation[0].width = 4;
+    machine.state = state;
+    floecavern_machine_put_words(&machine, 0, &word, 1);
+    step(what, 1);
+}
+
 /* Writes what is still held back. Where not all could be written (a full disk, say), says so; the exit status. */
 static int written(void)
 {
@@ -128,6 +145,11 @@ int main(void)
     step("h0 lr.w", 0);
     step("h1 lr.w", 1);
     device_write("a byte at 67", 67, 1, 0xff);
+
+    store_beside("h1 sw at 72, sets of 64 bytes", FLOECAVERN_SET_SIZE);
+    store_beside("h1 sw at 72, sets of 16 bytes", 16);
+    store_beside("h1 sw at 72, sets of 8 bytes", 8);
+    store_beside("h1 sw at 72, sets of 12 bytes", 12);
 
     floecavern_event events[] = {floecavern_event_step(0), floecavern_event_device_write(72, 1, 0xff),
                                  floecavern_event_step(1), floecavern_event_step(1), floecavern_event_step(0)};

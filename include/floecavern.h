@@ -26,10 +26,12 @@
 #include <stdint.h>
 #include <string.h>
 
-/* The version of this interface: of this header, of rust/ and of python/ alike. */
-#define FLOECAVERN_VERSION "0.5.0"
+/* The version of this interface: of this header, of rust/ and of python/ alike. The library has to be of the same one: a
+ * state may have another size in another version, and a state of a wrong size is answered FLOECAVERN_BAD_SIZE. The typed
+ * form makes of that a refusal whose text is "no refusal of the model", first of all in floecavern_machine_start. */
+#define FLOECAVERN_VERSION "0.6.0"
 #define FLOECAVERN_VERSION_MAJOR 0
-#define FLOECAVERN_VERSION_MINOR 5
+#define FLOECAVERN_VERSION_MINOR 6
 #define FLOECAVERN_VERSION_PATCH 0
 
 /* A condition that must hold where this is compiled: name is an identifier that no other assertion has. */
@@ -62,7 +64,8 @@ extern "C" {
  *   kind 1        harts: base (8 bytes), count of harts (4), zero (4); of each hart x1 to x31 and pc (8 bytes each)
  *   kind 2        memory: its bytes
  *   kind 3        events: 24 bytes each, as for floecavern_run
- * The bodies follow one another without a gap from 40 to the end of the file. No hart starts with a reservation.
+ * The bodies follow one another without a gap from 40 to the end of the file. No hart starts with a reservation, and a
+ * reservation's set has FLOECAVERN_SET_SIZE bytes.
  *
  * Refusals, in the order they are tried, and the place, counted from the file's first byte: 7 the length is not 40 to
  * 65536 (0); 8 the table is wrong (its first wrong field; 36 if the last body does not end the file); 9 the harts body:
@@ -107,7 +110,7 @@ uint64_t floecavern_check_loop(const uint8_t *words, size_t words_len);
 
 /* ---- A machine of one's own ---- */
 
-/* The state of the machine: 2312 bytes. A function that takes a state takes these bytes, as (uint8_t *)&state and
+/* The state of the machine: 2320 bytes. A function that takes a state takes these bytes, as (uint8_t *)&state and
  * sizeof state; every number has 8 bytes, the lowest first, as x86-64 keeps them.
  *
  *   offset   field
@@ -117,8 +120,11 @@ uint64_t floecavern_check_loop(const uint8_t *words, size_t words_len);
  *     2120   reservation: that of hart h at 2120 + 24 * h, three numbers: held, addr and width. held 0: the hart has no
  *            reservation, and addr and width mean nothing; any other number: it has the one that an LR of width bytes
  *            (4 or 8) at addr made
+ *     2312   set_size: how many bytes the set of a reservation has, of every hart: a power of two from 8 to 4096
  *
- * A start without reservations is a state of zeros with count, registers and pcs filled in. */
+ * A start without reservations is FLOECAVERN_STATE_INIT, or what floecavern_state_start writes, with count, registers and
+ * pcs filled in. A state of zeros is no start: its set size is 0, and so it is refused by 1. A later version may have more
+ * fields, behind these; a state that is begun by one of the two has their defaults too. */
 typedef struct {
     uint64_t held;
     uint64_t addr;
@@ -130,17 +136,26 @@ typedef struct {
     uint64_t x[8][32];
     uint64_t pc[8];
     floecavern_reservation reservation[8];
+    uint64_t set_size;
 } floecavern_state;
 
-#define FLOECAVERN_STATE_SIZE 2312
+#define FLOECAVERN_STATE_SIZE 2320
 
-FLOECAVERN_ASSERT(a_state_is_2312_bytes, sizeof(floecavern_state) == FLOECAVERN_STATE_SIZE);
+/* The set size that a state has by default, and that the machine of a case file always has. */
+#define FLOECAVERN_SET_SIZE 64
+
+/* A state with the defaults, to begin one with: floecavern_state state = FLOECAVERN_STATE_INIT; It has no harts yet: a
+ * count of 0, which is refused by 2. */
+#define FLOECAVERN_STATE_INIT {0, {{0}}, {0}, {{0, 0, 0}}, FLOECAVERN_SET_SIZE}
+
+FLOECAVERN_ASSERT(a_state_is_2320_bytes, sizeof(floecavern_state) == FLOECAVERN_STATE_SIZE);
 FLOECAVERN_ASSERT(x_stands_at_8, offsetof(floecavern_state, x) == 8);
 FLOECAVERN_ASSERT(pc_stands_at_2056, offsetof(floecavern_state, pc) == 2056);
 FLOECAVERN_ASSERT(reservations_stand_at_2120, offsetof(floecavern_state, reservation) == 2120);
+FLOECAVERN_ASSERT(set_size_stands_at_2312, offsetof(floecavern_state, set_size) == 2312);
 
-/* The memory is the caller's bytes: mem_len of them, 64 to 1048576 and a multiple of 64, at the address base, a multiple
- * of 64 and at most 2^40.
+/* The memory is the caller's bytes: mem_len of them, 64 to 1048576, at the address base, at most 2^40. Both are multiples
+ * of 64, and of the state's set_size where that is larger.
  *
  * What an event is answered:
  *
@@ -149,7 +164,7 @@ FLOECAVERN_ASSERT(reservations_stand_at_2120, offsetof(floecavern_state, reserva
  *   FLOECAVERN_SC_FAILED (2)    a step that retired an SC, which failed
  *   256 + cause                 the step trapped: FLOECAVERN_IS_TRAP, FLOECAVERN_CAUSE
  *   512 + number                it is refused: FLOECAVERN_IS_REFUSAL, FLOECAVERN_NUMBER
- *   FLOECAVERN_BAD_SIZE         state_len is not 2312 or value_len is not 8
+ *   FLOECAVERN_BAD_SIZE         state_len is not 2320 or value_len is not 8
  *
  * Causes, and the value with each: 0 a jump or taken branch to a target that is not a multiple of 4 (the target); 1 the
  * word at pc is not wholly in memory (pc); 2 the word is no instruction of the model (the word); 3 EBREAK (0); 4 a
@@ -157,31 +172,31 @@ FLOECAVERN_ASSERT(reservations_stand_at_2120, offsetof(floecavern_state, reserva
  * 7 an aligned store, SC, AMO or AMOCAS not wholly in memory, SC also without a reservation, AMOCAS also where it would
  * not write (the address); 8 ECALL (0). A trap changes nothing: an SC that traps leaves its hart's reservation.
  *
- * Refusals, in the order they are tried: 1 the length of memory or the base breaks the rules above; 2 so does the state:
- * its count; or, of a hart below the count, x0 is not 0, pc is not a multiple of 4, or the reservation's width is not 4
- * or 8, its address not aligned to that, or its bytes not in memory; 3 the hart is not below the count; 4 a device write
- * of 0 or more than 8 bytes; 5 one not wholly in memory; 11, of a run alone: its events; 12 and 13, of a replay alone: its
- * log.
+ * Refusals, in the order they are tried: 1 the set size breaks the rules above, or else the length of memory or the base
+ * does; 2 so does the rest of the state: its count; or, of a hart below the count, x0 is not 0, pc is not a multiple of
+ * 4, or the reservation's width is not 4 or 8, its address not aligned to that, or its bytes not in memory; 3 the hart is
+ * not below the count; 4 a device write of 0 or more than 8 bytes; 5 one not wholly in memory; 11, of a run alone: its
+ * events; 12 and 13, of a replay alone: its log.
  *
  * What is written. value gets 8 bytes, the lowest first: of a retired event, answers 0 to 2, the harts whose
  * reservation it broke, bit 0 for hart 0, so 0 where it broke none; of a trap, the trap's value; of a refusal, 0. A
  * retired event changes state and memory as the model says: of the state, the registers and the pcs, and each used
  * hart's reservation, of which it writes held 1, addr and width, or three zeros, also where it is as before. The count
- * never changes, and no byte of a hart at or above it. An answer of 256 or more to an event or a run leaves every byte
- * of state and memory as it was; FLOECAVERN_BAD_SIZE leaves value too. After each call the bytes mean the state that
- * the model's answer has, so calls one after another perform events one after another
+ * and the set size never change, and no byte of a hart at or above the count. An answer of 256 or more to an event or a
+ * run leaves every byte of state and memory as it was; FLOECAVERN_BAD_SIZE leaves value too. After each call the bytes
+ * mean the state that the model's answer has, so calls one after another perform events one after another
  * (crates/capi_means/proofs/Means.antt).
  *
  * Whose reservation is broken. A retired write of a hart (a store, an AMO, an equal AMOCAS, an SC that stored) breaks a
- * reservation of another hart if it touches a byte of its set, the aligned 64 bytes around the LR's address. A device
- * write breaks a hart's reservation if it touches a byte that the LR read. Both do also where they write the bytes that
- * were there. A step never sets the bit of its own hart, also where it drops that hart's reservation (an SC) or
- * replaces it (an LR). So value is 0 after a retired event that writes nothing: a load, an LR, an unequal AMOCAS,
- * FLOECAVERN_SC_FAILED, a yield. Only bits below the count are ever set, so it is at most 255; what a hart at or above
- * the count seems to hold is not looked at (crates/capi_means/proofs/Values.antt). A run and a replay do not tell what
- * their events broke.
+ * reservation of another hart if it touches a byte of its set, the aligned set_size bytes around the LR's address. A
+ * device write breaks a hart's reservation if it touches a byte that the LR read, whatever the set size. Both do also
+ * where they write the bytes that were there. A step never sets the bit of its own hart, also where it drops that hart's
+ * reservation (an SC) or replaces it (an LR). So value is 0 after a retired event that writes nothing: a load, an LR, an
+ * unequal AMOCAS, FLOECAVERN_SC_FAILED, a yield. Only bits below the count are ever set, so it is at most 255; what a
+ * hart at or above the count seems to hold is not looked at (crates/capi_means/proofs/Values.antt). A run and a replay do
+ * not tell what their events broke.
  *
- * A memory of a wrong length, as a wrong base, is refusal 1 and no bad size.
+ * A memory of a wrong length, as a wrong base or set size, is refusal 1 and no bad size.
  *
  * The macros below are for answers to events, runs and replays, not for those of floecavern_check_loop; some use r twice. */
 typedef enum {
@@ -224,9 +239,9 @@ uint64_t floecavern_yield(uint8_t *state, size_t state_len, uint64_t base, uint8
  *   512 + number               the run is refused, and state and memory are as they were: 1 or 2 as above; 11 if events
  *                              is no multiple of 24 bytes (place 0) or an event's kind, hart, size, address or zeros are
  *                              wrong (the place of the first such event), also beyond the budget
- *   FLOECAVERN_BAD_SIZE        state_len is not 2312 or ran_len is not 16: nothing is written
+ *   FLOECAVERN_BAD_SIZE        state_len is not 2320 or ran_len is not 16: nothing is written
  *
- * To perform n events costs less by one run than by n calls: each call reads the 2312 bytes and writes them. */
+ * To perform n events costs less by one run than by n calls: each call reads the 2320 bytes and writes them. */
 uint64_t floecavern_run(uint8_t *state, size_t state_len, uint64_t base, uint8_t *mem, size_t mem_len,
                         const uint8_t *events, size_t events_len, size_t budget, uint8_t *ran, size_t ran_len);
 
@@ -251,7 +266,7 @@ uint64_t floecavern_run(uint8_t *state, size_t state_len, uint64_t base, uint8_t
  *   FLOECAVERN_STOP_VALUE (5)    its value is not what rd holds after the step (the row's value, what rd holds)
  *   512 + number                 the replay is refused, and state and memory are as they were: 1 or 2 as above; 12 the
  *                                log is no multiple of 48 bytes; 13 it has no rows (0, 0, behind 0 rows)
- *   FLOECAVERN_BAD_SIZE          state_len is not 2312 or told_len is not 24: nothing is written
+ *   FLOECAVERN_BAD_SIZE          state_len is not 2320 or told_len is not 24: nothing is written
  *
  * A stop, also one by a trap, is no refusal: state and memory are then written as after exactly the rows before it, and
  * with FLOECAVERN_STOP_AGREED as after all of them. What the bytes mean afterwards is the state that the model's replay
@@ -276,8 +291,8 @@ typedef enum {
 /* ---- The typed form ----
  *
  * Inline functions over the seven above. Sizes are right by type; a NULL or a length that no buffer can have is refused
- * by the model's own number, as each function says. What is asked is that machine, text, event, outcome and bytes are
- * not NULL, that a length is that of the buffer before it, and that a machine, its memory and a text overlap no other
+ * by the model's own number, as each function says. What is asked is that state, machine, text, event, outcome and bytes
+ * are not NULL, that a length is that of the buffer before it, and that a machine, its memory and a text overlap no other
  * argument. */
 #if defined(__GNUC__)
 #define FLOECAVERN_INLINE static __inline__
@@ -350,7 +365,7 @@ FLOECAVERN_INLINE const char *floecavern_refusal_text(uint64_t refusal)
 {
     switch (refusal) {
     case 0: return "not refused";
-    case 1: return "the memory's length or base is wrong";
+    case 1: return "the set size or the memory's length or base is wrong";
     case 2: return "the state is wrong";
     case 3: return "the hart is not below the count";
     case 4: return "a device write of 0 or more than 8 bytes";
@@ -490,6 +505,14 @@ FLOECAVERN_INLINE void floecavern_event_encode(const floecavern_event *event, ui
     memcpy(bytes, event, sizeof *event);
 }
 
+/* Begins a state: count harts with pc 0, registers 0 and no reservations; all else as in FLOECAVERN_STATE_INIT. */
+FLOECAVERN_INLINE void floecavern_state_start(floecavern_state *state, uint64_t count)
+{
+    static const floecavern_state defaults = FLOECAVERN_STATE_INIT;
+    *state = defaults;
+    state->count = count;
+}
+
 /* A machine: its state, and where its memory is, mem_len bytes of the caller's at the address base. All of it may be
  * read and written between calls. A mem of NULL is a memory of 0 bytes, which is refused by 1. */
 typedef struct {
@@ -519,7 +542,8 @@ FLOECAVERN_INLINE uint64_t floecavern_number(const uint8_t *bytes)
     return number;
 }
 
-/* The outcome that an answer and its value are. The sizes are right, so that the answer is no FLOECAVERN_BAD_SIZE. */
+/* The outcome that an answer and its value are. The sizes are right by type, so that FLOECAVERN_BAD_SIZE is the answer of
+ * a library of another version: a refusal that is none of the model's, and value is not written. */
 FLOECAVERN_INLINE floecavern_outcome floecavern_outcome_of(uint64_t answer, const uint8_t *value)
 {
     floecavern_outcome outcome;
@@ -528,7 +552,7 @@ FLOECAVERN_INLINE floecavern_outcome floecavern_outcome_of(uint64_t answer, cons
         outcome.kind = FLOECAVERN_TRAP;
         outcome.cause = (floecavern_cause)FLOECAVERN_CAUSE(answer);
         outcome.value = floecavern_number(value);
-    } else if (FLOECAVERN_IS_REFUSAL(answer)) {
+    } else if (answer >= FLOECAVERN_REFUSED) {
         outcome.kind = FLOECAVERN_REFUSED;
         outcome.refusal = (floecavern_refusal)FLOECAVERN_NUMBER(answer);
     } else {
@@ -576,7 +600,7 @@ FLOECAVERN_INLINE floecavern_ran floecavern_machine_run_bytes(floecavern_machine
                                                               size_t budget)
 {
     static const uint8_t none[1] = {0};
-    uint8_t numbers[16];
+    uint8_t numbers[16] = {0};
     floecavern_ran ran;
     uint64_t answer;
     if (body == NULL) {
@@ -608,7 +632,7 @@ FLOECAVERN_INLINE floecavern_ran floecavern_machine_run(floecavern_machine *mach
 FLOECAVERN_INLINE floecavern_replayed floecavern_machine_replay(floecavern_machine *machine, const uint8_t *log, size_t len)
 {
     static const uint8_t none[1] = {0};
-    uint8_t told[24];
+    uint8_t told[24] = {0};
     floecavern_replayed replayed;
     uint64_t answer;
     if (log == NULL) {
@@ -624,7 +648,7 @@ FLOECAVERN_INLINE floecavern_replayed floecavern_machine_replay(floecavern_machi
         replayed.kind = FLOECAVERN_STOP_TRAP;
         replayed.cause = (floecavern_cause)FLOECAVERN_CAUSE(answer);
         replayed.value = floecavern_number(told + 16);
-    } else if (FLOECAVERN_IS_REFUSAL(answer)) {
+    } else if (answer >= FLOECAVERN_REFUSED) {
         replayed.kind = FLOECAVERN_STOP_REFUSED;
         replayed.refusal = (floecavern_refusal)FLOECAVERN_NUMBER(answer);
     } else {
@@ -635,15 +659,20 @@ FLOECAVERN_INLINE floecavern_replayed floecavern_machine_replay(floecavern_machi
     return replayed;
 }
 
-/* Starts a machine: count harts with their pc at base, registers 0 and no reservations. The memory is left as it is.
- * Answers FLOECAVERN_REFUSAL_NONE, or 1 or 2: the machine is then filled in all the same, and every call of it is
- * refused by that number. It asks by a run of no events, which changes nothing of such a machine. */
+/* Starts a machine: count harts with their pc at base, registers 0 and no reservations, and the set size
+ * FLOECAVERN_SET_SIZE. The memory is left as it is. Answers FLOECAVERN_REFUSAL_NONE, or 1 or 2: the machine is then filled
+ * in all the same, and every call of it is refused by that number. It asks by a run of no events, which changes nothing
+ * of such a machine.
+ *
+ * For another set size, set machine->state.set_size after the start: where a memory fits that size, the start takes it
+ * too. If it does not fit, every call from then on is refused by 1; floecavern_machine_run(machine, NULL, 0, 0).refusal
+ * asks for that. */
 FLOECAVERN_INLINE floecavern_refusal floecavern_machine_start(floecavern_machine *machine, uint64_t count, uint64_t base,
                                                               uint8_t *mem, size_t mem_len)
 {
     size_t hart;
     memset(machine, 0, sizeof *machine);
-    machine->state.count = count;
+    floecavern_state_start(&machine->state, count);
     machine->base = base;
     machine->mem = mem;
     machine->mem_len = mem_len;

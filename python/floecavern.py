@@ -14,6 +14,8 @@ FLOECAVERN_SO names a shared object at another place; a relative name counts fro
     machine.state.reservation(0)                                # Reservation(addr=64, width=4)
     floecavern.harts(machine.device_write(64, 1, 7).broke)      # (0,): hart 0's reservation is broken
 
+The set of a reservation has 64 bytes, SET_SIZE, or as many as Machine(2, 0, 128, set_size=16) says.
+
 The names are those of include/floecavern.h and of rust/, whose `Answer` is the outcome here. What the model refuses is the exception Refused,
 and state and memory are as they were; a trap is an outcome. A value that isn't the model's at all is a TypeError or a ValueError before the
 library is called: a number that doesn't fit its bits, a memory that can't be written. One machine is for one thread at a time.
@@ -27,12 +29,13 @@ import struct
 from dataclasses import dataclass
 from typing import NamedTuple, Optional
 
-__version__ = '0.5.0'
+__version__ = '0.6.0'
 
 BUILD = 'cc -shared -o target/libfloecavern.so -Wl,--whole-archive target/staticlib/libcapi.a -Wl,--no-whole-archive'
 ROOT = os.path.dirname(os.path.dirname(os.path.abspath(__file__)))
 
-STATE_SIZE, EVENT_SIZE, ROW_SIZE, REPORT_ROOM, MAX_HARTS, MAX_MEMORY = 2312, 24, 48, 262_144, 8, 1_048_576
+STATE_SIZE, EVENT_SIZE, ROW_SIZE, REPORT_ROOM, MAX_HARTS, MAX_MEMORY = 2320, 24, 48, 262_144, 8, 1_048_576
+SET_SIZE = 64  # the set size that a state has by default, and that the machine of a case file always has
 
 _BAD_SIZE, _TRAP, _REFUSED, _ALL = 2**64 - 1, 256, 512, 2**64 - 1
 
@@ -94,7 +97,7 @@ class Cause(_Numbered):
 
 class Refusal(_Numbered):
     """Why a call is refused: 1 to 5 an event, 6 a block, 7 to 11 a case file, 1, 2 and 11 a run, 1, 2, 12 and 13 a replay."""
-    MEMORY = 1, "the memory's length or base is wrong"
+    MEMORY = 1, "the set size or the memory's length or base is wrong"
     STATE = 2, 'the state is wrong'
     HART = 3, 'the hart is not below the count'
     DEVICE_SIZE = 4, 'a device write of 0 or more than 8 bytes'
@@ -143,11 +146,11 @@ class Outcome(NamedTuple):
     """The answer to an event that isn't refused. Of a trap it has the cause and the value; nothing has changed then.
 
     `broke` is the harts whose reservation the event broke, bit 0 for hart 0; `harts` lists them. A retired write of another hart (a store, an
-    AMO, an equal AMOCAS, an SC that stored) breaks a reservation if it touches a byte of its set, the aligned 64 bytes around the LR's address;
-    a device write if it touches a byte that the LR read; both also where they write the bytes that were there. A step never sets the bit of its
-    own hart, also where it drops that hart's reservation (an SC) or replaces it (an LR). A yield, a trap and everything else that writes
-    nothing has 0. Only bits below the count are ever set; what an unused hart seems to hold isn't looked at. Two outcomes that differ in `broke`
-    aren't equal: RETIRED, SC_STORED and SC_FAILED are those that broke none.
+    AMO, an equal AMOCAS, an SC that stored) breaks a reservation if it touches a byte of its set, the aligned bytes around the LR's address, as
+    many as the state's `set_size`; a device write if it touches a byte that the LR read; both also where they write the bytes that were there. A
+    step never sets the bit of its own hart, also where it drops that hart's reservation (an SC) or replaces it (an LR). A yield, a trap and
+    everything else that writes nothing has 0. Only bits below the count are ever set; what an unused hart seems to hold isn't looked at. Two
+    outcomes that differ in `broke` aren't equal: RETIRED, SC_STORED and SC_FAILED are those that broke none.
     """
     kind: Kind
     cause: Optional[Cause] = None
@@ -221,20 +224,22 @@ class Reservation(NamedTuple):
 
 
 class State:
-    """The state: of harts 0 to count - 1, 1 to 8 of them, the registers x[hart][register], pc[hart] and the reservation.
+    """The state: of harts 0 to count - 1, 1 to 8 of them, the registers x[hart][register], pc[hart] and the reservation; and for all of them
+    set_size, how many bytes the set of a reservation has: a power of two from 8 to 4,096. No call changes the size.
 
     Two states are equal if all of this is, of unused harts too. How a reservation is written down in bytes doesn't count.
     """
     __slots__ = '_bytes', '_numbers', '_x', '_pc'
     __hash__ = None
 
-    def __init__(self, count):
+    def __init__(self, count, *, set_size=SET_SIZE):
+        """Registers and pcs are 0, and there are no reservations. What isn't allowed is refused when it is used: a set size by 1, a count by 2."""
         self._bytes = bytearray(STATE_SIZE)
         # Numbers of 64 bits over the bytes: assigning one that doesn't fit is an error, of Python's own.
         self._numbers = memoryview(self._bytes).cast('Q')
         self._x = tuple(self._numbers[1 + 32 * h:33 + 32 * h] for h in range(MAX_HARTS))
         self._pc = self._numbers[257:265]
-        self.count = count
+        self.count, self.set_size = count, set_size
 
     @property
     def count(self):
@@ -243,6 +248,14 @@ class State:
     @count.setter
     def count(self, count):
         self._numbers[0] = _number('count', count)
+
+    @property
+    def set_size(self):
+        return self._numbers[289]
+
+    @set_size.setter
+    def set_size(self, set_size):
+        self._numbers[289] = _number('set_size', set_size)
 
     @property
     def x(self):
@@ -272,12 +285,12 @@ class State:
             self._numbers[n] = number
 
     def to_bytes(self):
-        """Its 2312 bytes, as the header says: every number 8 bytes, the lowest first."""
+        """Its 2320 bytes, as the header says: every number 8 bytes, the lowest first."""
         return bytes(self._bytes)
 
     @classmethod
     def from_bytes(cls, data):
-        """The state that has these 2312 bytes: any bytes are one."""
+        """The state that has these 2320 bytes: any bytes are one."""
         data = _read(data)
         if len(data) != STATE_SIZE:
             raise ValueError('%d bytes: a state has %d' % (len(data), STATE_SIZE))
@@ -286,7 +299,7 @@ class State:
         return state
 
     def _meaning(self):
-        return self._numbers[:265].tolist(), [self.reservation(h) for h in range(MAX_HARTS)]
+        return self._numbers[:265].tolist(), [self.reservation(h) for h in range(MAX_HARTS)], self.set_size
 
     def __eq__(self, other):
         return self._meaning() == other._meaning() if isinstance(other, State) else NotImplemented
@@ -295,7 +308,8 @@ class State:
         return State.from_bytes, (self.to_bytes(),)
 
     def __repr__(self):
-        return '<State of %d harts, pcs %s>' % (self.count, ' '.join('%#x' % pc for pc in self.pc[:min(self.count, MAX_HARTS)]))
+        pcs = ' '.join('%#x' % pc for pc in self.pc[:min(self.count, MAX_HARTS)])
+        return '<State of %d harts, sets of %d bytes, pcs %s>' % (self.count, self.set_size, pcs)
 
 
 @dataclass(frozen=True)
@@ -377,7 +391,9 @@ def _call(name, told, state, base, mem, *arguments):
     numbers = (ctypes.c_uint64 * told)()
     answer = getattr(_library(), 'floecavern_' + name)(
         (ctypes.c_uint8 * STATE_SIZE).from_buffer(state._bytes), STATE_SIZE, base, lent, length, *arguments, numbers, 8 * told)
-    assert answer != _BAD_SIZE, 'the sizes are right'
+    if answer == _BAD_SIZE:  # the sizes are right, so the shared object is of another version, in which a state has another size
+        raise OSError('the shared object takes no state of %d bytes: it is of another version. In the repository, after `rt staticlib capi`: %s'
+                      % (STATE_SIZE, BUILD))
     return answer, list(numbers)
 
 
@@ -471,9 +487,10 @@ class Machine:
     __slots__ = 'state', 'base', 'mem'
     __hash__ = None
 
-    def __init__(self, harts, base, length):
-        """`harts` harts with their pc at `base`, registers 0 and no reservations; `length` bytes of memory, all 0. Refusals 1 and 2."""
-        state, base = State(harts), _number('base', base)
+    def __init__(self, harts, base, length, *, set_size=SET_SIZE):
+        """`harts` harts with their pc at `base`, registers 0 and no reservations; `length` bytes of memory, all 0; sets of `set_size` bytes.
+        Refusals 1 and 2: 1 also if the size isn't a power of two from 8 to 4,096, or if the length or the base isn't a multiple of it."""
+        state, base = State(harts, set_size=set_size), _number('base', base)
         for hart in range(min(state.count, MAX_HARTS)):
             state.pc[hart] = base
         # Before so much is allocated.

@@ -31,35 +31,40 @@ h1 sc.w: sc failed
 h0 lr.w: retired
 h1 lr.w: retired
 a byte at 67: retired broke 03 (h0 h1)
+h1 sw at 72, sets of 64 bytes: retired broke 01 (h0)
+h1 sw at 72, sets of 16 bytes: retired broke 01 (h0)
+h1 sw at 72, sets of 8 bytes: retired
+h1 sw at 72, sets of 12 bytes: refused 1 (the set size or the memory's length or base is wrong)
 a run of 5 events: performed 5
 x7 of the harts: 1 0; the word at 64: 12345678
 with a budget of 2: performed 2
 with an event of hart 7: refused 11 at 96 (an event or the length of the events is wrong)
 '''
 
-# Every function that writes, with each buffer a byte short, a byte long and empty (too small, for a report), and a block that isn't whole words:
-# nothing is written.
+# Every function that writes, with each buffer a byte short, a byte long and empty (too small, for a report), a state without set_size, as programs of
+# version 0.5 have it, and a block that isn't whole words: nothing is written.
 SIZES = '''
 #include <stdlib.h>
 #include <string.h>
 #include "floecavern.h"
-static uint8_t state[2313], mem[128], out[25], was_state[2313], was_mem[128], was_out[25];
+static uint8_t state[2321], mem[128], out[25], was_state[2321], was_mem[128], was_out[25];
 static void check(uint64_t r)
 {
-    if (r != FLOECAVERN_BAD_SIZE || memcmp(state, was_state, 2313) || memcmp(mem, was_mem, 128) || memcmp(out, was_out, 25))
+    if (r != FLOECAVERN_BAD_SIZE || memcmp(state, was_state, 2321) || memcmp(mem, was_mem, 128) || memcmp(out, was_out, 25))
         abort();
 }
 int main(void)
 {
-    for (int i = 0; i < 2313; i++)
-        was_state[i] = state[i] = i == 0 ? 1 : 0;
+    size_t old = offsetof(floecavern_state, set_size);
+    was_state[0] = state[0] = 1;
+    was_state[old] = state[old] = 64;
     mem[0] = was_mem[0] = 0x13; /* addi x0,x0,0 is 0x00000013 */
     memset(out, 0xa5, 25);
     memset(was_out, 0xa5, 25);
     static const uint8_t event[24] = {1};
     static const char row[] = "0 0000000000000000 00000013 00 0000000000000000\\n";
-    size_t sizes[][4] = {{2311, 8, 16, 24}, {2313, 8, 16, 24}, {0, 8, 16, 24}, {2312, 7, 15, 23}, {2312, 9, 17, 25}, {2312, 0, 0, 0}};
-    for (int i = 0; i < 6; i++) {
+    size_t sizes[][4] = {{2319, 8, 16, 24}, {2321, 8, 16, 24}, {old, 8, 16, 24}, {0, 8, 16, 24}, {2320, 7, 15, 23}, {2320, 9, 17, 25}, {2320, 0, 0, 0}};
+    for (int i = 0; i < 7; i++) {
         size_t n = sizes[i][0], v = sizes[i][1], r = sizes[i][2], t = sizes[i][3];
         check(floecavern_step(state, n, 0, mem, 128, 0, out, v));
         check(floecavern_device_write(state, n, 0, mem, 128, 64, 1, 1, out, v));
@@ -77,10 +82,10 @@ int main(void)
     for (size_t n = 1; n < 8; n++)
         if ((floecavern_check_loop(event, n) == FLOECAVERN_BAD_SIZE) != (n % 4 != 0))
             abort();
-    if (floecavern_replay(state, 2312, 0, mem, 128, (const uint8_t *)row, 48, out, 24) != FLOECAVERN_STOP_AGREED || out[0] != 1 || out[1] != 0)
+    if (floecavern_replay(state, 2320, 0, mem, 128, (const uint8_t *)row, 48, out, 24) != FLOECAVERN_STOP_AGREED || out[0] != 1 || out[1] != 0)
         abort();
     state[2056] = 0;
-    return floecavern_step(state, 2312, 0, mem, 128, 0, out, 8) == FLOECAVERN_RETIRED ? 0 : 1;
+    return floecavern_step(state, 2320, 0, mem, 128, 0, out, 8) == FLOECAVERN_RETIRED ? 0 : 1;
 }
 '''
 
@@ -218,6 +223,100 @@ static void breaks(void)
     CHECK(floecavern_broke(&o, 63) == 1 && floecavern_broke(&o, 64) == 0 && floecavern_broke(&o, SIZE_MAX) == 0);
 }
 
+/* Harts 0 and 1 hold the 4 bytes at lr, with sets of so many bytes; hart 1 has the word at its pc. */
+static void reserved(uint64_t set_size, uint64_t lr, uint32_t word, uint64_t x5)
+{
+    static uint8_t large[8192];
+    size_t h;
+    memset(large, 0, sizeof large);
+    CHECK(floecavern_machine_start(&machine, 2, 8192, large, sizeof large) == FLOECAVERN_REFUSAL_NONE);
+    CHECK(machine.state.set_size == 64);
+    machine.state.set_size = set_size;
+    CHECK(floecavern_machine_run(&machine, NULL, 0, 0).refusal == FLOECAVERN_REFUSAL_NONE);
+    CHECK(floecavern_machine_put_words(&machine, 8192, &word, 1) == FLOECAVERN_REFUSAL_NONE);
+    for (h = 0; h < 2; h++) {
+        machine.state.reservation[h].held = 1;
+        machine.state.reservation[h].addr = lr;
+        machine.state.reservation[h].width = 4;
+    }
+    machine.state.x[1][5] = x5;
+}
+
+/* Every size that is allowed. Two addresses that differ in one bit alone are in one set if the bit is worth less than the size. */
+static void sets(void)
+{
+    uint64_t size, bit, lr = 8192 + 0x6a8;
+    for (size = 8; size <= 4096; size *= 2)
+        for (bit = 4; bit <= 4096; bit *= 2) {
+            int in = bit < size;
+            reserved(size, lr, SW, lr ^ bit);
+            CHECK(broke(floecavern_machine_step(&machine, 1), FLOECAVERN_RETIRED, in ? 1 : 0, in ? 2 : 3));
+            reserved(size, lr, SC, lr ^ bit);
+            CHECK(broke(floecavern_machine_step(&machine, 1), in ? FLOECAVERN_SC_STORED : FLOECAVERN_SC_FAILED, in ? 1 : 0, in ? 0 : 1));
+            reserved(size, lr, LR, lr ^ bit);
+            CHECK(broke(floecavern_machine_step(&machine, 1), FLOECAVERN_RETIRED, 0, 3));
+            CHECK(broke(floecavern_machine_device_write(&machine, lr ^ bit, 4, 0), FLOECAVERN_RETIRED, 2, 1));
+            CHECK(machine.state.set_size == size);
+        }
+}
+
+static int fits(uint64_t set_size, uint64_t base, size_t len)
+{
+    static uint8_t large[8192];
+    floecavern_machine_start(&machine, 1, base, large, len);
+    machine.state.set_size = set_size;
+    return floecavern_machine_run(&machine, NULL, 0, 0).refusal == FLOECAVERN_REFUSAL_NONE;
+}
+
+static void wrong_sets(void)
+{
+    static const uint64_t wrong[] = {0, 1, 2, 4, 7, 9, 12, 24, 63, 65, 96, 4095, 4097, 6144, 8192, (uint64_t)1 << 63, UINT64_MAX};
+    static const char row[] = "0 0000000000001000 1002a32f 06 0000000000000000\n";
+    floecavern_event event = floecavern_event_step(0);
+    size_t i, count;
+    for (i = 0; i < sizeof wrong / sizeof *wrong; i++)
+        for (count = 0; count < 3; count++) { /* 1 is tried before 2 */
+            start();
+            machine.state.set_size = wrong[i];
+            machine.state.count = count;
+            was = machine;
+            CHECK(refused(floecavern_machine_step(&machine, 0), FLOECAVERN_REFUSAL_MEMORY));
+            CHECK(refused(floecavern_machine_yield_hart(&machine, 9), FLOECAVERN_REFUSAL_MEMORY));
+            CHECK(refused(floecavern_machine_device_write(&machine, 0, 0, 0), FLOECAVERN_REFUSAL_MEMORY));
+            CHECK(floecavern_machine_run(&machine, &event, 1, 1).refusal == FLOECAVERN_REFUSAL_MEMORY);
+            CHECK(floecavern_machine_replay(&machine, (const uint8_t *)row, 48).refusal == FLOECAVERN_REFUSAL_MEMORY);
+            CHECK(memcmp(&machine, &was, sizeof was) == 0);
+        }
+    CHECK(fits(8, 64, 64) && fits(16, 64, 64) && fits(64, 64, 64) && !fits(8, 8, 64) && !fits(8, 64, 72));
+    CHECK(fits(128, 128, 128) && !fits(128, 64, 128) && !fits(128, 128, 64) && !fits(128, 128, 192));
+    CHECK(fits(4096, 4096, 4096) && fits(4096, 0, 8192) && !fits(4096, 0, 64) && !fits(4096, 64, 4096) && !fits(4096, 0, 4160));
+    CHECK(fits(4096, (uint64_t)1 << 40, 4096) && !fits(4096, ((uint64_t)1 << 40) + 4096, 4096));
+}
+
+/* How a state is begun, and how not. */
+static void states(void)
+{
+    static const uint32_t nop = 0x13; /* addi x0,x0,0 */
+    floecavern_state first = FLOECAVERN_STATE_INIT, second, zeros;
+    uint8_t value[8];
+    memset(&second, 0xa5, sizeof second);
+    floecavern_state_start(&second, 8);
+    CHECK(second.count == 8 && second.set_size == FLOECAVERN_SET_SIZE && first.count == 0);
+    first.count = 8;
+    CHECK(memcmp(&first, &second, sizeof first) == 0);
+    memset(&zeros, 0, sizeof zeros);
+    zeros.count = 8;
+    first.set_size = 0;
+    CHECK(memcmp(&first, &zeros, sizeof first) == 0); /* only the set size has another default than 0 */
+    memset(mem, 0, sizeof mem);
+    memcpy(mem, &nop, sizeof nop);
+    CHECK(floecavern_step((uint8_t *)&zeros, sizeof zeros, 0, mem, sizeof mem, 7, value, 8) == 512 + FLOECAVERN_REFUSAL_MEMORY);
+    CHECK(memcmp(&first, &zeros, sizeof first) == 0);
+    CHECK(floecavern_step((uint8_t *)&second, sizeof second, 0, mem, sizeof mem, 7, value, 8) == FLOECAVERN_RETIRED && second.pc[7] == 4);
+    floecavern_state_start(&second, 0);
+    CHECK(floecavern_step((uint8_t *)&second, sizeof second, 0, mem, sizeof mem, 0, value, 8) == 512 + FLOECAVERN_REFUSAL_STATE);
+}
+
 static void starts(void)
 {
     CHECK(floecavern_machine_start(&machine, 2, 0, NULL, 128) == FLOECAVERN_REFUSAL_MEMORY);
@@ -340,7 +439,7 @@ static void others(void)
     refused = floecavern_report_text(NULL, 40, &text);
     CHECK(refused.refusal == FLOECAVERN_REFUSAL_FILE_LENGTH && refused.place == 0);
     CHECK(text.len == 12 && memcmp(text.bytes, "refused 7 0\n", 12) == 0);
-    CHECK(FLOECAVERN_VERSION_MAJOR == 0 && FLOECAVERN_VERSION_MINOR == 5 && FLOECAVERN_VERSION_PATCH == 0);
+    CHECK(FLOECAVERN_VERSION_MAJOR == 0 && FLOECAVERN_VERSION_MINOR == 6 && FLOECAVERN_VERSION_PATCH == 0);
 }
 
 int main(int argc, char **argv)
@@ -351,6 +450,9 @@ int main(int argc, char **argv)
     uint64_t i;
     outcomes();
     breaks();
+    sets();
+    wrong_sets();
+    states();
     starts();
     runs();
     replays();
@@ -369,9 +471,46 @@ int main(int argc, char **argv)
 }
 """
 
+# A stand-in for a library whose states have another size: it writes nothing, and the typed form tells it as a refusal that the model doesn't have.
+OTHER_VERSION = r"""
+#include <stdio.h>
+#include "floecavern.h"
+#pragma GCC diagnostic ignored "-Wunused-parameter"
+#define STATE uint8_t *state, size_t state_len, uint64_t base, uint8_t *mem, size_t mem_len
+#define OUT uint8_t *out, size_t out_len
+uint64_t floecavern_step(STATE, size_t hart, OUT) { return FLOECAVERN_BAD_SIZE; }
+uint64_t floecavern_device_write(STATE, uint64_t addr, size_t size, uint64_t data, OUT) { return FLOECAVERN_BAD_SIZE; }
+uint64_t floecavern_yield(STATE, size_t hart, OUT) { return FLOECAVERN_BAD_SIZE; }
+uint64_t floecavern_run(STATE, const uint8_t *events, size_t len, size_t budget, OUT) { return FLOECAVERN_BAD_SIZE; }
+uint64_t floecavern_replay(STATE, const uint8_t *log, size_t len, OUT) { return FLOECAVERN_BAD_SIZE; }
+
+static void refused(floecavern_outcome o)
+{
+    printf("%d %d %d %d %s\n", o.kind == FLOECAVERN_REFUSED, (int)o.cause, (int)o.value, (int)o.broke, floecavern_refusal_text(o.refusal));
+}
+
+int main(void)
+{
+    static uint8_t mem[64];
+    floecavern_machine m;
+    floecavern_event event = floecavern_event_step(0);
+    floecavern_ran ran;
+    floecavern_replayed replayed;
+    printf("%s\n", floecavern_refusal_text(floecavern_machine_start(&m, 1, 0, mem, sizeof mem)));
+    refused(floecavern_machine_step(&m, 0));
+    refused(floecavern_machine_yield_hart(&m, 0));
+    refused(floecavern_machine_device_write(&m, 0, 1, 0));
+    ran = floecavern_machine_run(&m, &event, 1, 1);
+    printf("%d %d %s\n", (int)ran.performed, (int)ran.place, floecavern_refusal_text(ran.refusal));
+    replayed = floecavern_machine_replay(&m, mem, 48);
+    printf("%d %d %s\n", replayed.kind == FLOECAVERN_STOP_REFUSED, (int)replayed.rows, floecavern_refusal_text(replayed.refusal));
+    return 0;
+}
+"""
+
 CAUSES = ['instruction address misaligned', 'instruction access fault', 'illegal instruction', 'breakpoint', 'load address misaligned', 'load access fault',
           'store/AMO address misaligned', 'store/AMO access fault', 'environment call', 'no cause of the model']
-REFUSALS = ['not refused', "the memory's length or base is wrong", 'the state is wrong', 'the hart is not below the count',
+REFUSALS = ['not refused', "the set size or the memory's length or base is wrong", 'the state is wrong', 'the hart is not below the count',
             'a device write of 0 or more than 8 bytes', 'a device write not wholly in memory', 'a block of fewer than 2 or more than 16 words',
             "the file's length is not 40 to 65536", 'the table of contents is wrong', 'the harts body is wrong', "the memory body's length is wrong",
             'an event or the length of the events is wrong', "the log's length is not a multiple of 48", 'the log has no rows', 'no refusal of the model']
@@ -394,7 +533,7 @@ enum { SIZE = 1 << 18 };
 static uint8_t stack[SIZE] __attribute__((aligned(4096)));
 static uint8_t file[65536], out[FLOECAVERN_REPORT_ROOM], mem[65536], value[8], ran[16], told[24], events[24 * 1000];
 static size_t len;
-static floecavern_state state;
+static floecavern_state state = FLOECAVERN_STATE_INIT;
 static void *nothing(void *p) { return p; }
 static void *report(void *p) { floecavern_report(file, len, out, sizeof out); return p; }
 static void *loop(void *p) { floecavern_check_loop(mem, 64); return p; }
@@ -453,7 +592,7 @@ class Library(unittest.TestCase):
     def output(self, source, *args, given=b'', compiler=CC, language='c', standard='c11'):
         """What a program prints, compiled with every warning an error."""
         program = os.path.join(self.folder, 'program')
-        made = subprocess.run([compiler, '-x', language, '-std=' + standard, '-Wall', '-Wextra', '-pedantic', '-Werror',
+        made = subprocess.run([compiler, '-x', language, '-std=' + standard, '-Wall', '-Wextra', '-pedantic', '-Wmissing-field-initializers', '-Werror',
                                '-I' + os.path.join(ROOT, 'include'), source, '-x', 'none', LIBRARY, '-pthread', '-o', program], capture_output=True)
         self.assertEqual((made.returncode, made.stderr.decode()), (0, ''))
         done = subprocess.run([program, *args], input=given, capture_output=True)
@@ -511,6 +650,13 @@ class Library(unittest.TestCase):
                     with self.subTest(compiler=compiler, standard=standard):
                         printed = self.output(source, EXAMPLE, compiler=compiler, language=language, standard=standard)
                         self.assertEqual(printed.decode(), TEXTS)
+
+    def test_other_version(self):
+        none = 'no refusal of the model\n'
+        for compiler, language, standard in [(CC, 'c', 'c89'), (CC, 'c', 'c17'), (CXX, 'c++', 'c++17')]:
+            if compiler is not None:
+                printed = self.output(self.written('other.c', OTHER_VERSION), compiler=compiler, language=language, standard=standard)
+                self.assertEqual(printed.decode(), none + 3 * ('1 0 0 0 ' + none) + '0 0 ' + none + '1 0 ' + none)
 
     def built(self, name):
         program = os.path.join(self.folder, name)

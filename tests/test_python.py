@@ -10,6 +10,7 @@ import sys
 import tempfile
 import textwrap
 import unittest
+import unittest.mock
 from array import array
 
 from common import EXAMPLE, EXAMPLE_LINES, ROOT, data, vector_pairs
@@ -161,6 +162,7 @@ class Calls(Refuses):
                                              (1, 0, 2**20 + 64, Refusal.MEMORY), (1, 0, 2**64 - 1, Refusal.MEMORY)]:
             self.refuses(refusal, Machine, harts, base, length)
         self.refuses(Refusal.STATE, Machine.from_parts, State(0), 0, bytearray(64))
+        self.refuses(Refusal.MEMORY, Machine.from_parts, State(1, set_size=0), 0, bytearray(64))
         m = machine(1, 4096)
         before = copy.deepcopy(m)
         for addr in [0, 4092, 4349, 4352, 2**64 - 1]:
@@ -324,6 +326,91 @@ class Broke(Refuses):
             self.assertRaises(error, harts, bad)
 
 
+class Sets(Refuses):
+    """The size of a reservation's set: which are allowed, and what they change."""
+    SIZES = [8, 16, 32, 64, 128, 256, 512, 1024, 2048, 4096]
+    WRONG = [0, 1, 2, 4, 7, 9, 12, 24, 63, 65, 96, 4095, 4097, 8192, 2**63, 2**64 - 1]
+    SW = 0x0082a023  # sw x8,0(x5)
+
+    def reserved(self, set_size, lr, word, x5):
+        """Two harts that hold the 4 bytes at `lr`, with the word at their pc."""
+        m = Machine(2, 8192, 8192, set_size=set_size)
+        m.put_words(8192, [word])
+        for hart in range(2):
+            m.state.x[hart][5] = x5
+            m.state.set_reservation(hart, Reservation(lr, 4))
+        return m
+
+    def test_default(self):
+        self.assertEqual((floecavern.SET_SIZE, State(1).set_size, Machine(1, 0, 64).state.set_size), (64, 64, 64))
+        self.assertEqual(State(2).to_bytes(), b'\x02' + bytes(2311) + b'\x40' + bytes(7))
+        self.assertEqual((State(1, set_size=64), State(1, set_size=16).set_size), (State(1), 16))
+        self.assertNotEqual(State(1, set_size=16), State(1))
+        self.assertEqual(repr(State(2, set_size=16)), '<State of 2 harts, sets of 16 bytes, pcs 0x0 0x0>')
+        # By its name alone: a later version may have more of them.
+        self.assertRaises(TypeError, State, 1, 64)
+        self.assertRaises(TypeError, Machine, 1, 0, 64, 64)
+
+    def test_wrong_sizes(self):
+        """Refusal 1, before 2, of every call; of a state of zeros too."""
+        for size in self.WRONG:
+            self.refuses(Refusal.MEMORY, lambda: Machine(1, 0, 64, set_size=size))
+            for count in [0, 1, 9]:
+                m = machine()
+                m.state.count, m.state.set_size = count, size
+                self.refuses_unchanged(Refusal.MEMORY, m, step, 0)
+                self.refuses_unchanged(Refusal.MEMORY, m, yield_hart, 9)
+                self.refuses_unchanged(Refusal.MEMORY, m, device_write, 0, 0, 0)
+                self.refuses_unchanged(Refusal.MEMORY, m, run, [], place=0)
+                self.refuses_unchanged(Refusal.MEMORY, m, replay, b'')
+        zeros = State.from_bytes(b'\x01' + bytes(2319))
+        self.refuses(Refusal.MEMORY, step, zeros, 0, bytearray(64), 0)
+        self.assertEqual(str(Refused(1)), "refusal 1: the set size or the memory's length or base is wrong")
+
+    def test_memories(self):
+        """Length and base are multiples of the larger of 64 and the size."""
+        for size in self.SIZES:
+            most = max(64, size)
+            for base, length in [(0, most), (most, most), (3 * most, 2 * most), (2**40, 2**20)]:
+                self.assertEqual(Machine(1, base, length, set_size=size).state.set_size, size)
+            for base, length in [(0, most // 2), (0, 3 * most // 2), (0, 0), (0, size // 2), (most // 2, most), (size // 2, most), (2**40 + most, most)]:
+                self.refuses(Refusal.MEMORY, lambda: Machine(1, base, length, set_size=size))
+
+    def test_store_beside(self):
+        """A store of hart 1 at 72, and hart 0's LR at 64."""
+        for size, broke in [(8, 0), (16, 1), (64, 1), (4096, 1)]:
+            m = Machine(2, 0, 4096, set_size=size)
+            m.put_words(0, [LR, self.SW])
+            m.state.x[0][5], m.state.x[1][5], m.state.pc[1] = 64, 72, 4
+            self.assertEqual((m.step(0), m.step(1), held(m)), (RETIRED, RETIRED._replace(broke=broke), 1 - broke))
+            self.assertEqual(m.state.set_size, size)
+
+    def test_every_size(self):
+        """Two addresses that differ in one bit alone are in one set if the bit is worth less than the size."""
+        lr = 8192 + 0x6a8
+        for size in self.SIZES:
+            for bit in [2**n for n in range(2, 13)]:
+                within = int(bit < size)
+                m = self.reserved(size, lr, self.SW, lr ^ bit)
+                self.assertEqual((m.step(1), held(m)), (RETIRED._replace(broke=within), 0b10 if within else 0b11), (size, bit))
+                m = self.reserved(size, lr, SC, lr ^ bit)
+                expected = (SC_STORED._replace(broke=1), 0b00) if within else (SC_FAILED, 0b01)
+                self.assertEqual((m.step(1), held(m)), expected, (size, bit))
+                # A device write goes by the bytes that the LR read, whatever the size.
+                m = self.reserved(size, lr, LR, lr)
+                self.assertEqual((m.device_write(lr ^ bit, 4, 0), m.device_write(lr + 3, 1, 0)), (RETIRED, RETIRED._replace(broke=0b11)))
+
+    def test_runs_and_replays(self):
+        for size, value in [(8, 0), (16, 1)]:
+            m = Machine(2, 0, 128, set_size=size)
+            m.put_words(0, [LR, SC, self.SW])
+            m.state.x[0][5], m.state.x[1][5], m.state.pc[1] = 64, 72, 8
+            replayed = copy.deepcopy(m)
+            self.assertEqual((m.run([Event.step(0), Event.step(1), Event.step(0)]), m.state.x[0][7], m.state.set_size), (3, value, size))
+            log = '0 %016x %08x 06 %016x\n1 %016x %08x 00 %016x\n0 %016x %08x 07 %016x\n' % (0, LR, 0, 8, self.SW, 0, 4, SC, value)
+            self.assertEqual((replayed.replay(log.encode()), replayed), (Replayed(3, Stop(StopKind.AGREED)), m))
+
+
 class Values(Refuses):
     """What isn't the model's at all is an error before the library is called."""
 
@@ -342,13 +429,16 @@ class Values(Refuses):
             self.unchanged(error, device_write, 64, 1, bad)
             self.assertRaises(error, step, State(1), bad, bytearray(64), 0)
             self.assertRaises(error, State, bad)
+            self.assertRaises(error, State, 1, set_size=bad)
             self.assertRaises(error, Machine, 1, bad, 64)
             self.assertRaises(error, Machine, 1, 0, bad)
+            self.assertRaises(error, Machine, 1, 0, 64, set_size=bad)
             self.assertRaises(error, check_loop, [LR, bad])
             for make in [Event.step, Event.yield_hart, lambda n: Event.device_write(n, 1, 0), lambda n: Event.device_write(64, 1, n)]:
                 self.assertRaises(error, make, bad)
             state = State(1)
             for assign in [lambda: state.x[0].__setitem__(5, bad), lambda: state.pc.__setitem__(0, bad), lambda: setattr(state, 'count', bad),
+                           lambda: setattr(state, 'set_size', bad),
                            lambda: state.set_reservation(0, (bad, 4)), lambda: state.set_reservation(0, (64, bad))]:
                 self.assertRaises(error, assign)
             self.assertEqual(state, State(1))
@@ -379,7 +469,7 @@ class Values(Refuses):
             self.assertRaises(TypeError, step, State(1), 0, mem, 0)
         state = State(1)
         self.assertRaises(ValueError, step, state, 0, state.x[0], 0)
-        self.assertRaises(TypeError, step, bytearray(2312), 0, bytearray(64), 0)
+        self.assertRaises(TypeError, step, bytearray(2320), 0, bytearray(64), 0)
         for bad in [24, 'text', None]:
             self.assertRaises(TypeError, report, bad)
             self.unchanged(TypeError, run_bytes, bad)
@@ -409,16 +499,17 @@ class Values(Refuses):
         self.assertEqual(m.bytes(128, 9), b'\xff' * 8 + b'\x80')
 
     def test_states(self):
-        given = bytes(i % 251 for i in range(2312))
+        given = bytes(i % 251 for i in range(2320))
         state = State.from_bytes(given)
         self.assertEqual(state.to_bytes(), given)
-        self.assertEqual((state.count, state.x[7][31], state.pc[7]), tuple(number(given[at:at + 8]) for at in [0, 2048, 2112]))
-        self.assertEqual(state.reservation(7), Reservation(number(given[2296:2304]), number(given[2304:])))
+        self.assertEqual((state.count, state.x[7][31], state.pc[7], state.set_size), tuple(number(given[at:at + 8]) for at in [0, 2048, 2112, 2312]))
+        self.assertEqual(state.reservation(7), Reservation(number(given[2296:2304]), number(given[2304:2312])))
         self.assertEqual(State.from_bytes(given[:2288] + bytes([given[2288] ^ 1]) + given[2289:]), state)
-        self.assertNotEqual(State.from_bytes(given[:-1] + b'\x01'), state)
+        for at in [2296, 2311, 2312, 2319]:
+            self.assertNotEqual(State.from_bytes(given[:at] + bytes([given[at] ^ 1]) + given[at + 1:]), state)
         self.assertEqual((pickle.loads(pickle.dumps(state)), copy.deepcopy(state)), (state, state))
         state.set_reservation(7, None)
-        self.assertEqual(state.to_bytes()[2288:], bytes(24))
+        self.assertEqual(state.to_bytes()[2288:], bytes(24) + given[2312:])
         for bad in [given[:-1], given + b'\0', b'']:
             self.assertRaises(ValueError, State.from_bytes, bad)
         self.assertRaises(IndexError, state.reservation, 8)
@@ -452,8 +543,10 @@ class Interface(unittest.TestCase):
         self.assertEqual(str(Refused(11, 96)), 'refusal 11 at 96: an event or the length of the events is wrong')
         self.assertEqual(str(pickle.loads(pickle.dumps(Refused(3)))), 'refusal 3: the hart is not below the count')
 
-    def test_version_and_command(self):
+    def test_version_sizes_and_command(self):
         self.assertIn('#define FLOECAVERN_VERSION "%s"\n' % floecavern.__version__, self.header())
+        for name in ['STATE_SIZE', 'EVENT_SIZE', 'ROW_SIZE', 'REPORT_ROOM', 'SET_SIZE']:
+            self.assertIn('#define FLOECAVERN_%s %d\n' % (name, getattr(floecavern, name)), self.header())
         for path in [os.path.join('docs', 'USING.md'), os.path.join('python', 'floecavern.py')]:
             self.assertIn('    ' + floecavern.BUILD + '\n', data(os.path.join(ROOT, path)).decode())
 
@@ -473,6 +566,15 @@ class Interface(unittest.TestCase):
             code = 'import floecavern; print(floecavern.report_text(b""), end="")'
             done = subprocess.run([sys.executable, '-c', code], env=env, cwd=cwd, capture_output=True, text=True)
             self.assertEqual((done.stdout, done.stderr), ('refused 7 0\n', ''))
+
+    def test_other_version(self):
+        """A shared object that takes no state of this size, as one that wasn't made again, is told; the state is as it was."""
+        with unittest.mock.patch.object(floecavern, 'STATE_SIZE', floecavern.STATE_SIZE + 8):
+            state = State(1)
+            before = state.to_bytes()
+            for call in [lambda: step(state, 0, bytearray(64), 0), lambda: run(state, 0, bytearray(64), []), lambda: Machine(1, 0, 64)]:
+                self.assertRaisesRegex(OSError, 'takes no state of 2328 bytes: it is of another version', call)
+            self.assertEqual(state.to_bytes(), before)
 
     def test_missing(self):
         env = dict(os.environ, FLOECAVERN_SO='/nowhere/libfloecavern.so', PYTHONPATH=os.path.join(ROOT, 'python'))

@@ -9,13 +9,16 @@ from common import ROOT, data
 
 
 class Tables(unittest.TestCase):
-    def same(self, tool, crate):
-        """The tool run in a folder of its own writes what stands in the repository."""
+    def same(self, tool, crate, reads=()):
+        """The tool run in a folder of its own, with the files that it reads, writes what stands in the repository."""
         top = tempfile.mkdtemp()
         self.addCleanup(shutil.rmtree, top)
         os.makedirs(os.path.join(top, 'crates', crate))
         os.mkdir(top + '/tools')
         shutil.copy(os.path.join(ROOT, 'tools', tool), top + '/tools')
+        for name in reads:
+            os.makedirs(os.path.dirname(os.path.join(top, name)), exist_ok=True)
+            shutil.copy(os.path.join(ROOT, name), os.path.join(top, name))
         subprocess.run([os.path.join(top, 'tools', tool)], check=True, stdout=subprocess.DEVNULL)
         for name in ['stdin', 'stdout']:
             made, kept = (data(os.path.join(folder, 'crates', crate, name)) for folder in [top, ROOT])
@@ -25,7 +28,7 @@ class Tables(unittest.TestCase):
         self.same('touch-table', 'touch_table')
 
     def test_event_table(self):
-        self.same('event-table', 'event_table')
+        self.same('event-table', 'event_table', ['tests/vectors05.py', 'tests/vectors/05-sizes.jsonl'])
 
     @unittest.skipUnless(shutil.which('riscv64-linux-gnu-as') and shutil.which('riscv64-linux-gnu-objdump'), 'needs binutils-riscv64-linux-gnu')
     def test_decode_table(self):

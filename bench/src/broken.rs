@@ -7,7 +7,7 @@ use crate::reached::{cell, equal};
 use crate::word::{decode, AtomicOp, Instr};
 
 #[derive(Clone, Copy, PartialEq, Eq)]
-enum Writer {
+pub(crate) enum Writer {
     Store,
     Sc,
     Amo,
@@ -19,11 +19,11 @@ const WRITERS: [(Writer, &str); 5] =
     [(Writer::Store, "store"), (Writer::Sc, "sc"), (Writer::Amo, "amo"), (Writer::Cas, "amocas"), (Writer::Device, "device")];
 
 /// A write that an event makes unless it traps or is an SC that fails. A device has no hart.
-struct Write {
-    writer: Writer,
-    hart: Option<usize>,
-    addr: u64,
-    size: u64,
+pub(crate) struct Write {
+    pub(crate) writer: Writer,
+    pub(crate) hart: Option<usize>,
+    pub(crate) addr: u64,
+    pub(crate) size: u64,
 }
 
 impl Write {
@@ -55,33 +55,54 @@ impl Write {
     }
 
     /// Whether it touches one of the bytes from `first` on.
-    fn touches(&self, first: u64, size: u64) -> bool {
+    pub(crate) fn touches(&self, first: u64, size: u64) -> bool {
         self.addr < first.saturating_add(size) && first < self.addr + self.size
     }
 
-    fn touches_set(&self, r: Reservation) -> bool {
-        self.touches(r.addr / 64 * 64, 64)
+    pub(crate) fn touches_read(&self, r: Reservation) -> bool {
+        self.touches(r.addr, r.width)
+    }
+
+    pub(crate) fn touches_set(&self, r: Reservation, set_size: u64) -> bool {
+        self.touches(r.addr - r.addr % set_size, set_size)
     }
 
     /// Whether it touches what a reservation of another hart is lost by.
-    fn touches_guarded(&self, r: Reservation) -> bool {
+    fn touches_guarded(&self, r: Reservation, set_size: u64) -> bool {
         match self.writer {
-            Writer::Device => self.touches(r.addr, r.width),
-            _ => self.touches_set(r),
+            Writer::Device => self.touches_read(r),
+            _ => self.touches_set(r, set_size),
         }
     }
 }
 
-/// Performs an event: whose reservations it broke, if it isn't refused, doesn't trap and isn't an SC that fails.
-fn perform(call: &Call, state: &mut State, memory: &mut Memory) -> Option<HartMask> {
+/// Performs an event: what it came to, if it isn't refused.
+fn perform(call: &Call, state: &mut State, memory: &mut Memory) -> Option<Outcome> {
     match *call {
-        Call::Step { hart } => match state.step(memory, hart).ok()? {
-            Outcome::Trap(_) | Outcome::Sc { success: false, .. } => None,
-            outcome => Some(outcome.broke()),
-        },
-        Call::DeviceWrite { addr, size, data } => state.device(memory, addr, size, data).ok(),
-        Call::Yield { hart } => state.yield_hart(memory, hart).ok().map(|()| 0),
+        Call::Step { hart } => state.step(memory, hart).ok(),
+        Call::DeviceWrite { addr, size, data } => state.device(memory, addr, size, data).ok().map(|broke| Outcome::Retired { broke }),
+        Call::Yield { hart } => state.yield_hart(memory, hart).ok().map(|()| Outcome::Retired { broke: 0 }),
         Call::Run { .. } | Call::Replay { .. } => None,
+    }
+}
+
+/// The reservations of all harts, also of unused ones.
+pub(crate) type Held = [Option<Reservation>; MAX_HARTS];
+
+/// Performs events one after another, and hands on each that would write, with the reservations before it and what it came to: also an SC
+/// that fails and a trap.
+pub(crate) fn each_write(state: &State, base: u64, memory: &[u8], events: &[u8], mut observe: impl FnMut(&Write, &Held, Outcome)) {
+    let (mut state, mut bytes) = (state.clone(), memory.to_vec());
+    let memory = &mut Memory { base, bytes: &mut bytes };
+    if state.accepted(memory).is_err() {
+        return;
+    }
+    for call in of_events(events) {
+        let held = state.harts.map(|hart| hart.reservation);
+        let write = Write::of(&call, &state, memory);
+        if let (Some(outcome), Some(write)) = (perform(&call, &mut state, memory), write) {
+            observe(&write, &held, outcome);
+        }
     }
 }
 
@@ -106,31 +127,24 @@ pub struct Broken([Counts; 5]);
 impl Broken {
     /// Counts the writes of events, one after another.
     pub fn count(&mut self, state: &State, base: u64, memory: &[u8], events: &[u8]) {
-        let (mut state, mut bytes) = (state.clone(), memory.to_vec());
-        let memory = &mut Memory { base, bytes: &mut bytes };
-        if state.accepted(memory).is_err() {
-            return;
-        }
-        for call in of_events(events) {
-            let held = state.harts.map(|hart| hart.reservation);
-            let write = Write::of(&call, &state, memory);
-            if let (Some(broke), Some(write)) = (perform(&call, &mut state, memory), write) {
-                self.add(&write, broke, &held[..state.count], &held[state.count..]);
-            }
-        }
+        each_write(state, base, memory, events, |write, held, outcome| match outcome {
+            Outcome::Trap(_) | Outcome::Sc { success: false, .. } => {}
+            outcome => self.add(write, outcome.broke(), held, state),
+        });
     }
 
-    /// `held` and `unused` are the reservations before the write.
-    fn add(&mut self, write: &Write, broke: HartMask, held: &[Option<Reservation>], unused: &[Option<Reservation>]) {
+    /// `held` are the reservations before the write; of the state its count and its set size are looked at.
+    fn add(&mut self, write: &Write, broke: HartMask, held: &Held, state: &State) {
+        let (set_size, (held, unused)) = (state.set_size, held.split_at(state.count));
         let counts = &mut self.0[write.writer as usize];
         counts.by_number[broke.count_ones() as usize] += 1;
         for (hart, count) in counts.by_hart.iter_mut().enumerate() {
             *count += (broke >> hart & 1) as u64;
         }
-        counts.own += write.hart.and_then(|hart| held[hart]).is_some_and(|r| write.touches_set(r)) as u64;
-        let beside = |r: &Reservation| write.touches_set(*r) && !write.touches(r.addr, r.width);
+        counts.own += write.hart.and_then(|hart| held[hart]).is_some_and(|r| write.touches_set(r, set_size)) as u64;
+        let beside = |r: &Reservation| write.touches_set(*r, set_size) && !write.touches_read(*r);
         counts.beside += held.iter().flatten().any(beside) as u64;
-        let seems_held = |r: &Reservation| (r.width == 4 || r.width == 8) && write.touches_guarded(*r);
+        let seems_held = |r: &Reservation| (r.width == 4 || r.width == 8) && write.touches_guarded(*r, set_size);
         counts.unused += unused.iter().flatten().any(seems_held) as u64;
     }
 

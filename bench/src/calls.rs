@@ -161,6 +161,22 @@ mod tests {
         (0..before.harts.len()).filter(gone).map(|h| 1 << h).sum()
     }
 
+    /// The set size has the 8 bytes from 2312 on, the lowest first; a state of any other length is no state, that of earlier versions too.
+    #[test]
+    fn state_lengths() {
+        let state = State { set_size: 4096, ..State::default() };
+        let bytes = layout::bytes(&state);
+        assert_eq!((bytes.len(), &bytes[2312..]), (2320, &[0, 16, 0, 0, 0, 0, 0, 0][..]));
+        assert_eq!(layout::read(&bytes), Some(state));
+        for length in [0, 2304, 2311, 2312, 2319, 2321, 2328] {
+            let mut machine = Machine { state: bytes.clone(), base: 0, memory: vec![0; 4096] };
+            machine.state.resize(length, 0);
+            let (given, mut told) = (machine.clone(), [0xA5; 8]);
+            assert_eq!(perform(&mut machine, &Call::Yield { hart: 0 }, &mut told), BAD_SIZE);
+            assert_eq!((machine, told), (given, [0xA5; 8]));
+        }
+    }
+
     /// A hart that doesn't step or yield itself loses its reservation by a write alone: so what a retired event tells is what is gone,
     /// without the event's own hart.
     #[test]
@@ -180,6 +196,7 @@ mod tests {
                     _ => 0,
                 };
                 let value = layout::get(&told, 0);
+                assert_eq!(before.set_size, after.set_size);
                 match answer {
                     0..TRAP => {
                         assert_eq!(value, lost(&before, &after) & !own, "seed {seed}, {call:?}");

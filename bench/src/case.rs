@@ -1,6 +1,6 @@
 //! The case file, a run of its events, and the program's lines.
 
-use crate::machine::{base_allowed, length_allowed, HartMask, Memory, Outcome, State, MAX_HARTS};
+use crate::machine::{base_allowed, length_allowed, HartMask, Memory, Outcome, State, DEFAULT_SET, MAX_HARTS};
 
 pub const EVENT: usize = 24;
 pub const TABLE: usize = 40;
@@ -24,7 +24,7 @@ fn u64_at(bytes: &[u8], place: usize) -> u64 {
     u64::from_le_bytes(bytes[place..place + 8].try_into().unwrap())
 }
 
-/// A read case: the parts of the file and the state at the start.
+/// A read case: the parts of the file and the state at the start. A file says no set size, so its sets have the default's.
 pub struct Case<'a> {
     pub state: State,
     pub base: u64,
@@ -67,7 +67,7 @@ fn read_harts(body: &[u8]) -> Option<(State, u64)> {
         return None;
     }
     let (base, count, zero) = (u64_at(body, 0), u32_at(body, 8) as usize, u32_at(body, 12));
-    if !base_allowed(base) || !(1..=MAX_HARTS).contains(&count) || zero != 0 || body.len() != 16 + 256 * count {
+    if !base_allowed(base, DEFAULT_SET) || !(1..=MAX_HARTS).contains(&count) || zero != 0 || body.len() != 16 + 256 * count {
         return None;
     }
     let mut state = State { count, ..State::default() };
@@ -111,7 +111,7 @@ pub fn read_case(file: &[u8]) -> Result<Case<'_>, Refusal> {
     let Some((state, base)) = read_harts(harts) else {
         return refuse(9, bodies[0].0);
     };
-    if !length_allowed(memory.len()) {
+    if !length_allowed(memory.len(), DEFAULT_SET) {
         return refuse(10, bodies[1].0);
     }
     check_events(events, state.count, base, memory.len()).map_err(|r| Refusal { number: 11, place: bodies[2].0 + r.place })?;

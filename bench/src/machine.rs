@@ -1,10 +1,13 @@
 //! Harts, memory, steps, device writes and yields. What breaks a reservation is quoted from document 01, who is told of it from request 3 of
-//! document 02.
+//! document 02, the size of the sets from request 5.
 
 use crate::word::{decode, Alu, Atomic, AtomicOp, Cond, Instr};
 
 pub const MAX_HARTS: usize = 8;
-const SET: u64 = 64;
+/// "a power of two from 8 to 4,096, the same for all harts, default 64".
+pub const SMALLEST_SET: u64 = 8;
+pub const LARGEST_SET: u64 = 4096;
+pub const DEFAULT_SET: u64 = 64;
 
 #[derive(Clone, Copy, PartialEq, Eq, Debug)]
 pub struct Reservation {
@@ -23,6 +26,8 @@ pub struct Hart {
 pub struct State {
     pub count: usize,
     pub harts: [Hart; MAX_HARTS],
+    /// How many bytes the set of every reservation has. Any number may be given; what is performed has an allowed one.
+    pub set_size: u64,
 }
 
 /// The lent memory.
@@ -88,18 +93,35 @@ impl Watch for Unwatched {
     }
 }
 
-pub fn base_allowed(base: u64) -> bool {
-    base.is_multiple_of(64) && base <= 1 << 40
+pub fn set_size_allowed(size: u64) -> bool {
+    (SMALLEST_SET..=LARGEST_SET).contains(&size) && size.is_power_of_two()
 }
 
-pub fn length_allowed(len: usize) -> bool {
-    (64..=1 << 20).contains(&len) && len.is_multiple_of(64)
+/// "Memory base and length are now multiples of the larger of 64 and the size."
+pub fn memory_unit(set_size: u64) -> u64 {
+    set_size.max(64)
+}
+
+/// For sets of an allowed size, as `length_allowed`.
+pub fn base_allowed(base: u64, set_size: u64) -> bool {
+    aligned(base, memory_unit(set_size)) && base <= 1 << 40
+}
+
+pub fn length_allowed(len: usize, set_size: u64) -> bool {
+    (64..=1 << 20).contains(&len) && aligned(len as u64, memory_unit(set_size))
 }
 
 /// `width` is a power of two.
 #[inline]
 fn aligned(addr: u64, width: u64) -> bool {
     addr & (width - 1) == 0
+}
+
+/// Whether two addresses lie in the same one of the aligned blocks of `size` bytes, a power of two: then they differ in the bits below the
+/// size alone.
+#[inline]
+fn in_one_block(a: u64, b: u64, size: u64) -> bool {
+    (a ^ b) < size
 }
 
 impl Memory<'_> {
@@ -155,8 +177,9 @@ impl Memory<'_> {
         }
     }
 
-    fn check(&self) -> Result<(), u8> {
-        if base_allowed(self.base) && length_allowed(self.bytes.len()) {
+    /// "a size not allowed is 1, tried before base and length".
+    fn check(&self, set_size: u64) -> Result<(), u8> {
+        if set_size_allowed(set_size) && base_allowed(self.base, set_size) && length_allowed(self.bytes.len(), set_size) {
             Ok(())
         } else {
             Err(1)
@@ -291,13 +314,13 @@ fn trap<T, E: From<Trap>>(cause: u8, value: u64) -> Result<T, E> {
 
 impl Default for State {
     fn default() -> Self {
-        State { count: 1, harts: [Hart::default(); MAX_HARTS] }
+        State { count: 1, harts: [Hart::default(); MAX_HARTS], set_size: DEFAULT_SET }
     }
 }
 
 impl State {
     fn check(&self, memory: &Memory) -> Result<(), u8> {
-        memory.check()?;
+        memory.check(self.set_size)?;
         if !(1..=MAX_HARTS).contains(&self.count) {
             return Err(2);
         }
@@ -367,10 +390,18 @@ impl State {
         self.harts[hart].reservation = None;
     }
 
-    /// "a retired write by another hart that touches a byte of the set". It is aligned and so lies in one set. "The writing hart's own bit
-    /// is never set by its own write", as its own write breaks nothing of its own.
-    fn break_others(&mut self, writer: usize, addr: u64) -> HartMask {
-        self.break_those(|number, r| number != writer && r.addr / SET == addr / SET)
+    /// Whether two addresses lie in one set.
+    #[inline]
+    pub fn in_one_set(&self, a: u64, b: u64) -> bool {
+        in_one_block(a, b, self.set_size)
+    }
+
+    /// "a retired write by another hart that touches a byte of the set". What is written and the set are aligned blocks of powers of two: they
+    /// share a byte exactly if one lies in the other, so if both addresses lie in one block of the larger size. That is the set's, but for 16
+    /// bytes written over sets of 8. "The writing hart's own bit is never set by its own write", as its own write breaks nothing of its own.
+    fn break_others(&mut self, writer: usize, addr: u64, width: u8) -> HartMask {
+        let larger = self.set_size.max(width.into());
+        self.break_those(|number, r| number != writer && in_one_block(r.addr, addr, larger))
     }
 
     /// Breaks the reservations for which `broken` holds, of harts below the count.
@@ -426,7 +457,7 @@ impl State {
                 let target = memory.target(addr, width)?;
                 watch.retires(0, 0)?;
                 write(target, width, hart.get(rs2));
-                outcome = Outcome::Retired { broke: self.break_others(number, addr) };
+                outcome = Outcome::Retired { broke: self.break_others(number, addr, width) };
             }
             Instr::OpImm { op, rd, rs1, imm } => hart.retire(watch, rd, alu(op, hart.get(rs1), imm))?,
             Instr::Op { op, rd, rs1, rs2 } => hart.retire(watch, rd, alu(op, hart.get(rs1), hart.get(rs2)))?,
@@ -466,14 +497,15 @@ impl State {
             hart.set(a.rd, old);
             wrote
         };
-        Ok(Outcome::Retired { broke: if wrote { self.break_others(number, addr) } else { 0 } })
+        Ok(Outcome::Retired { broke: if wrote { self.break_others(number, addr, a.width) } else { 0 } })
     }
 
-    /// An SC on its bytes, which are aligned and in memory.
+    /// An SC on its bytes, which are aligned and in memory. They are 4 or 8 and so in one set, the one around its address.
     fn store_conditional<W: Watch>(&mut self, bytes: &mut [u8], number: usize, a: Atomic, watch: &mut W) -> Result<Outcome, W::Stop> {
+        let set_size = self.set_size;
         let hart = &mut self.harts[number];
         let addr = hart.get(a.rs1);
-        let success = hart.reservation.is_some_and(|r| r.addr / SET == addr / SET);
+        let success = hart.reservation.is_some_and(|r| in_one_block(r.addr, addr, set_size));
         watch.retires(a.rd, !success as u64)?;
         hart.reservation = None;
         let value = hart.get(a.rs2);
@@ -481,7 +513,7 @@ impl State {
         let mut broke = 0;
         if success {
             write(bytes, a.width, value);
-            broke = self.break_others(number, addr);
+            broke = self.break_others(number, addr, a.width);
         }
         Ok(Outcome::Sc { success, broke })
     }
@@ -524,4 +556,271 @@ fn cas_quad(hart: &mut Hart, bytes: &mut [u8], a: Atomic) -> bool {
         hart.x[a.rd as usize + 1] = old.1;
     }
     equal
+}
+
+#[cfg(test)]
+mod tests {
+    use super::*;
+    use crate::generate::words::{atomic, s_type, CAS, D, LR, Q, SC, W};
+
+    const SIZES: [u64; 10] = [8, 16, 32, 64, 128, 256, 512, 1024, 2048, 4096];
+    const BAD_SIZES: [u64; 25] = [
+        0,
+        1,
+        2,
+        3,
+        4,
+        5,
+        6,
+        7,
+        9,
+        12,
+        24,
+        48,
+        63,
+        65,
+        96,
+        192,
+        4095,
+        4097,
+        6144,
+        8192,
+        65_536,
+        (1 << 32) + 64,
+        1 << 63,
+        (1 << 63) + 8,
+        u64::MAX,
+    ];
+
+    /// Two harts at pc 0 and 12,288 bytes at base 0: three of the largest sets.
+    struct Machine {
+        state: State,
+        bytes: Vec<u8>,
+        base: u64,
+    }
+
+    impl Machine {
+        fn new(set_size: u64) -> Self {
+            Machine { state: State { count: 2, set_size, ..State::default() }, bytes: vec![0; 12_288], base: 0 }
+        }
+
+        /// Hart 0 holds the reservation of an LR.
+        fn reserved(set_size: u64, addr: u64, width: u64) -> Self {
+            let mut machine = Machine::new(set_size);
+            machine.state.harts[0].reservation = Some(Reservation { addr, width });
+            machine
+        }
+
+        /// A step of a hart that has the word at its pc and an address in x5.
+        fn step(&mut self, hart: usize, word: u32, addr: u64) -> Result<Outcome, u8> {
+            let place = self.state.harts[hart].pc as usize;
+            self.bytes[place..place + 4].copy_from_slice(&word.to_le_bytes());
+            self.state.harts[hart].x[5] = addr;
+            self.state.step(&mut Memory { base: self.base, bytes: &mut self.bytes }, hart)
+        }
+
+        fn device(&mut self, addr: u64, size: usize) -> Result<HartMask, u8> {
+            self.state.device(&mut Memory { base: self.base, bytes: &mut self.bytes }, addr, size, 0)
+        }
+
+        fn yield_hart(&mut self) -> Result<(), u8> {
+            self.state.yield_hart(&Memory { base: self.base, bytes: &mut self.bytes }, 0)
+        }
+
+        /// A step, a device write and a yield refuse alike.
+        fn refusal(&self) -> Option<u8> {
+            let again = || Machine { state: self.state.clone(), bytes: self.bytes.clone(), base: self.base };
+            let memory = &mut Memory { base: self.base, bytes: &mut again().bytes };
+            let refused = again().state.step(memory, 0).err();
+            assert_eq!(again().device(self.base, 1).err(), refused);
+            assert_eq!(again().yield_hart().err(), refused);
+            refused
+        }
+    }
+
+    const NONE: Result<Outcome, u8> = Ok(Outcome::Retired { broke: 0 });
+    const HART_0: Result<Outcome, u8> = Ok(Outcome::Retired { broke: 1 });
+
+    /// "The next core reserves 16 bytes, a customer's reserves 4,096": another hart's byte just below the set, its first, its last, just above.
+    #[test]
+    fn another_harts_store() {
+        let sb = s_type(0, 5, 0, 0);
+        for (set_size, lr, below, first, last, above) in [
+            (8, 0x1004, 0x0FFF, 0x1000, 0x1007, 0x1008),
+            (8, 0x100C, 0x1007, 0x1008, 0x100F, 0x1010),
+            (16, 0x1008, 0x0FFF, 0x1000, 0x100F, 0x1010),
+            (16, 0x1010, 0x100F, 0x1010, 0x101F, 0x1020),
+            (32, 0x103C, 0x101F, 0x1020, 0x103F, 0x1040),
+            (64, 0x1040, 0x103F, 0x1040, 0x107F, 0x1080),
+            (128, 0x10F8, 0x107F, 0x1080, 0x10FF, 0x1100),
+            (256, 0x1200, 0x11FF, 0x1200, 0x12FF, 0x1300),
+            (512, 0x1604, 0x15FF, 0x1600, 0x17FF, 0x1800),
+            (1024, 0x17FC, 0x13FF, 0x1400, 0x17FF, 0x1800),
+            (2048, 0x1800, 0x17FF, 0x1800, 0x1FFF, 0x2000),
+            (4096, 0x1800, 0x0FFF, 0x1000, 0x1FFF, 0x2000),
+        ] {
+            for (at, broke) in [(below, NONE), (first, HART_0), (last, HART_0), (above, NONE)] {
+                let mut machine = Machine::reserved(set_size, lr, 4);
+                assert_eq!(machine.step(1, sb, at), broke, "sets of {set_size}, {at:#x}");
+                assert_eq!(machine.state.harts[0].reservation.is_none(), broke == HART_0, "sets of {set_size}, {at:#x}");
+                // "Not: a hart's own plain store".
+                assert_eq!(Machine::reserved(set_size, lr, 4).step(0, sb, at), NONE);
+            }
+        }
+    }
+
+    /// 16 bytes touch two sets of 8, and lie in one set of every other size.
+    #[test]
+    fn sixteen_bytes() {
+        let cas = atomic(CAS, Q, 0, 6, 5, 0);
+        for (lr, broke) in [(0x1018, NONE), (0x1020, HART_0), (0x1024, HART_0), (0x1028, HART_0), (0x102C, HART_0), (0x1030, NONE)] {
+            // x6 and x7 are zeros, as memory: equal.
+            assert_eq!(Machine::reserved(8, lr, 4).step(1, cas, 0x1020), broke, "{lr:#x}");
+            assert_eq!(Machine::reserved(16, lr, 4).step(1, cas, 0x1020), broke, "{lr:#x}");
+            // "an unequal AMOCAS of another hart" breaks nothing.
+            let mut unequal = Machine::reserved(8, lr, 4);
+            unequal.state.harts[1].x[7] = 1;
+            assert_eq!(unequal.step(1, cas, 0x1020), NONE, "{lr:#x}");
+        }
+        assert_eq!(Machine::reserved(32, 0x1030, 4).step(1, cas, 0x1020), HART_0);
+        assert_eq!(Machine::reserved(32, 0x1040, 4).step(1, cas, 0x1020), NONE);
+        // Both of two harts that hold sets of 8.
+        let mut two = Machine::reserved(8, 0x1020, 8);
+        two.state.count = 3;
+        two.state.harts[2].reservation = Some(Reservation { addr: 0x1028, width: 8 });
+        assert_eq!(two.step(1, cas, 0x1020), Ok(Outcome::Retired { broke: 0b101 }));
+    }
+
+    /// "succeeds if this hart holds a reservation whose set contains all its bytes, whatever the LR's address and width were".
+    #[test]
+    fn store_conditional() {
+        let (word, double) = (atomic(SC, W, 0, 7, 5, 8), atomic(SC, D, 0, 7, 5, 8));
+        for (set_size, lr, sc, at, success) in [
+            (8, 0x1044, double, 0x1040, true),
+            (8, 0x1044, word, 0x1040, true),
+            (8, 0x1044, word, 0x103C, false),
+            (8, 0x1044, word, 0x1048, false),
+            (16, 0x1048, double, 0x1040, true),
+            (16, 0x1048, word, 0x104C, true),
+            (16, 0x1048, double, 0x1050, false),
+            (16, 0x1048, double, 0x1038, false),
+            (32, 0x1048, double, 0x1058, true),
+            (32, 0x1048, double, 0x1060, false),
+            (64, 0x1048, word, 0x107C, true),
+            (64, 0x1048, word, 0x1080, false),
+            (128, 0x1048, word, 0x107C, true),
+            (128, 0x1048, word, 0x1080, false),
+            (4096, 0x1048, word, 0x1000, true),
+            (4096, 0x1048, double, 0x1FF8, true),
+            (4096, 0x1048, double, 0x2000, false),
+            (4096, 0x1048, double, 0x0FF8, false),
+        ] {
+            let mut machine = Machine::reserved(set_size, lr, 4);
+            machine.state.harts[0].x[8] = u64::MAX;
+            assert_eq!(machine.step(0, sc, at), Ok(Outcome::Sc { success, broke: 0 }), "sets of {set_size}, {at:#x}");
+            assert_eq!((machine.state.harts[0].x[7], machine.state.harts[0].reservation), (!success as u64, None));
+            let written = &machine.bytes[at as usize..][..if sc == word { 4 } else { 8 }];
+            assert!(written.iter().all(|&byte| byte == if success { 0xFF } else { 0 }));
+        }
+    }
+
+    /// Its own SC elsewhere in a big set breaks another hart's reservation of that set, and none of the next.
+    #[test]
+    fn store_conditional_elsewhere() {
+        let sc = atomic(SC, W, 0, 7, 5, 8);
+        for (other, broke) in [(0x1FF8, 0b10), (0x2000, 0), (0x0FF8, 0)] {
+            let mut machine = Machine::reserved(4096, 0x1400, 8);
+            machine.state.harts[1].reservation = Some(Reservation { addr: other, width: 8 });
+            assert_eq!(machine.step(0, sc, 0x1000), Ok(Outcome::Sc { success: true, broke }));
+        }
+    }
+
+    /// "a device write that touches a byte the LR read": whatever the size.
+    #[test]
+    fn device_write() {
+        for set_size in SIZES {
+            for (at, size, broke) in [(0x1003, 1, 0), (0x1000, 4, 0), (0x1003, 2, 1), (0x1007, 1, 1), (0x1007, 8, 1), (0x1008, 8, 0)] {
+                assert_eq!(Machine::reserved(set_size, 0x1004, 4).device(at, size), Ok(broke), "sets of {set_size}, {at:#x}");
+            }
+        }
+    }
+
+    /// An LR keeps its own address and width, which make the set.
+    #[test]
+    fn load_reserved() {
+        for set_size in SIZES {
+            let mut machine = Machine::new(set_size);
+            assert_eq!(machine.step(0, atomic(LR, D, 0, 6, 5, 0), 0x1008), NONE);
+            assert_eq!(machine.state.harts[0].reservation, Some(Reservation { addr: 0x1008, width: 8 }));
+            assert_eq!(machine.yield_hart(), Ok(()));
+            assert_eq!(machine.state.harts[0].reservation, None);
+            assert_eq!(machine.state.set_size, set_size);
+        }
+    }
+
+    #[test]
+    fn set_sizes() {
+        for set_size in SIZES {
+            assert_eq!(Machine::new(set_size).refusal(), None, "{set_size}");
+        }
+        for set_size in BAD_SIZES {
+            assert_eq!(Machine::new(set_size).refusal(), Some(1), "{set_size}");
+            // Before 2, and whatever the memory is.
+            for (count, base, length) in [(0, 0, 4096), (2, 32, 4096), (2, 0, 100), (9, 1 << 41, 0)] {
+                let mut machine = Machine::new(set_size);
+                machine.state.count = count;
+                machine.base = base;
+                machine.bytes.resize(length, 0);
+                assert_eq!(machine.refusal(), Some(1), "{set_size}");
+            }
+        }
+    }
+
+    /// "Memory base and length are now multiples of the larger of 64 and the size"; "The memory limit in 01 is otherwise kept".
+    #[test]
+    fn memories() {
+        let refusal = |set_size, base, length| {
+            let mut machine = Machine::new(set_size);
+            (machine.base, machine.state.harts[0].pc, machine.state.harts[1].pc) = (base, base, base);
+            machine.bytes.resize(length, 0);
+            machine.refusal()
+        };
+        let highest = 1 << 40;
+        for (set_size, base, length) in [
+            (8, 0, 64),
+            (8, 64, 192),
+            (32, highest, 1 << 20),
+            (64, 64, 64),
+            (128, 128, 128),
+            (256, 768, 512),
+            (1024, 3072, 5120),
+            (4096, highest, 4096),
+            (4096, highest - 4096, 1 << 20),
+        ] {
+            assert_eq!(refusal(set_size, base, length), None, "sets of {set_size}, {length} bytes at {base:#x}");
+        }
+        for (set_size, base, length) in [
+            (8, 8, 64),
+            (8, 0, 72),
+            (16, 0, 0),
+            (32, 32, 64),
+            (32, 0, 96),
+            (64, 32, 64),
+            (128, 64, 128),
+            (128, 0, 64),
+            (128, 0, 192),
+            (256, 128, 256),
+            (4096, 0, 64),
+            (4096, 0, 2048),
+            (4096, 0, 4160),
+            (4096, 2048, 4096),
+            (4096, 64, 64),
+            (4096, highest + 4096, 4096),
+            (64, highest + 64, 64),
+            (4096, 0, (1 << 20) + 4096),
+            (8, 0, (1 << 20) + 64),
+        ] {
+            assert_eq!(refusal(set_size, base, length), Some(1), "sets of {set_size}, {length} bytes at {base:#x}");
+        }
+    }
 }

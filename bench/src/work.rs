@@ -32,6 +32,12 @@ impl Work {
         }
     }
 
+    /// Sets of another size than 64.
+    fn with_sets_of(mut self, size: u64) -> Self {
+        self.state.set_size = size;
+        self
+    }
+
     fn step(&mut self, hart: usize) {
         self.events.extend(event_bytes(STEP, hart as u8, 0, 0, 0));
     }
@@ -58,8 +64,8 @@ impl Work {
     }
 }
 
-/// The work of long runs, with a name for each.
-pub fn long_runs(events: usize) -> [(&'static str, Work); 8] {
+/// The work of long runs, with a name for each. Those with another set size than 64 come last.
+pub fn long_runs(events: usize) -> [(&'static str, Work); 10] {
     [
         ("compute, 4 harts", compute(4, events)),
         ("memory, 4 harts, 64 KiB", memory(4, 65_536, events)),
@@ -69,6 +75,8 @@ pub fn long_runs(events: usize) -> [(&'static str, Work); 8] {
         ("devices, yields, LR/SC", devices(8, events)),
         ("stores beside sets, 8 harts", stores(8, 65_536, events)),
         ("device writes, 8 harts", device_writes(8, 65_536, events)),
+        ("LR/SC on sets of 8, 8 harts", contention(8, events).with_sets_of(8)),
+        ("stores beside sets of 4096", stores(8, 262_144, events).with_sets_of(4096)),
     ]
 }
 

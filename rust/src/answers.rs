@@ -77,8 +77,9 @@ numbered! {
     /// ```
     #[must_use = "a refused call did nothing"]
     Refusal, "refusal",
-    /// The memory's length isn't a multiple of 64 from 64 to 1,048,576, or its base isn't one up to 2^40.
-    Memory = 1, "the memory's length or base is wrong";
+    /// The set size isn't a power of two from 8 to 4,096; or the memory's length isn't 64 to 1,048,576, its base is above
+    /// 2^40, or one of them isn't a multiple of the larger of 64 and the set size.
+    Memory = 1, "the set size or the memory's length or base is wrong";
     /// The count isn't 1 to 8; or, of a used hart, x0, the pc or the reservation is wrong.
     State = 2, "the state is wrong";
     Hart = 3, "the hart is not below the count";
@@ -197,11 +198,11 @@ impl fmt::Display for Outcome {
 pub struct Answer {
     pub outcome: Outcome,
     /// The harts whose reservation the event broke. A retired write of another hart (a store, an AMO, an equal AMOCAS, an SC
-    /// that stored) breaks a reservation if it touches a byte of its set, the aligned 64 bytes around the LR's address; a
-    /// device write if it touches a byte that the LR read; both also where they write the bytes that were there. A step
-    /// never has its own hart in it, also where it drops that hart's reservation (an SC) or replaces it (an LR). A yield, a
-    /// trap and everything else that writes nothing has none. Only harts below the count are ever in it; what an unused
-    /// hart seems to hold isn't looked at.
+    /// that stored) breaks a reservation if it touches a byte of its set, the aligned bytes around the LR's address, as many
+    /// as the state's `set_size`; a device write if it touches a byte that the LR read; both also where they write the bytes
+    /// that were there. A step never has its own hart in it, also where it drops that hart's reservation (an SC) or replaces
+    /// it (an LR). A yield, a trap and everything else that writes nothing has none. Only harts below the count are ever in
+    /// it; what an unused hart seems to hold isn't looked at.
     pub broke: Harts,
 }
 

@@ -15,6 +15,11 @@ const BAD_SIZE: u64 = u64::MAX;
 const TRAP: u64 = 256;
 const REFUSED: u64 = 512;
 
+/// The sizes are right by type. So the library is of another version, in which a state has another size.
+fn bad_size() -> ! {
+    panic!("libcapi.a takes no state of {STATE_SIZE} bytes: it is of another version; run `rt staticlib capi`")
+}
+
 fn refusal(number: u64) -> Refusal {
     Refusal::of(number).expect("refusals are 1 to 13")
 }
@@ -89,7 +94,7 @@ fn answer(call: impl FnOnce(*mut u8, usize) -> u64) -> Result<Answer, Refusal> {
         0 => retired(Outcome::Retired),
         1 => retired(Outcome::ScStored),
         2 => retired(Outcome::ScFailed),
-        BAD_SIZE => unreachable!("the sizes are right by type"),
+        BAD_SIZE => bad_size(),
         r if r < REFUSED => {
             let cause = Cause::of(r - TRAP).expect("causes are 0 to 8");
             Ok(Outcome::Trap(Trap { cause, value }).into())
@@ -155,7 +160,7 @@ pub fn run_bytes(
     let number = |at: usize| u64::from_le_bytes(std::array::from_fn(|i| ran[at + i])) as usize;
     match r {
         0 => Ok(number(0)),
-        BAD_SIZE => unreachable!("the sizes are right by type"),
+        BAD_SIZE => bad_size(),
         r => Err(RefusedAt { refusal: refusal(r - REFUSED), place: number(8) }),
     }
 }
@@ -177,7 +182,7 @@ pub fn replay(state: &mut State, base: u64, mem: &mut [u8], log: &[u8]) -> Resul
         3 => Stop::Word { board: board as u32, model: model as u32 },
         4 => Stop::Rd { board: board as u8, model: model as u8 },
         5 => Stop::Value { board, model },
-        BAD_SIZE => unreachable!("the sizes are right by type"),
+        BAD_SIZE => bad_size(),
         r if r < REFUSED => {
             let cause = Cause::of(r - TRAP).expect("causes are 0 to 8");
             Stop::Trap(Trap { cause, value: model })

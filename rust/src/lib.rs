@@ -39,6 +39,9 @@
 //! # }
 //! ```
 //!
+//! The set of a reservation has 64 bytes, [`SET_SIZE`], or as many as [`Machine::with_set_size`] says; [`State`] has an
+//! example of 16.
+//!
 //! A refusal can't be passed over by mistake:
 //!
 //! ```compile_fail
@@ -62,7 +65,7 @@ pub use calls::{
 pub use event::Event;
 pub use harts::Harts;
 pub use machine::{Machine, MAX_MEMORY};
-pub use state::{Reservation, State, MAX_HARTS, STATE_SIZE};
+pub use state::{Reservation, State, MAX_HARTS, SET_SIZE, STATE_SIZE};
 
 /// The version of this interface, which is also that of `include/floecavern.h`.
 pub const VERSION: &str = env!("CARGO_PKG_VERSION");

@@ -15,8 +15,8 @@ pub struct Machine {
 }
 
 impl Machine {
-    /// `harts` harts with their pc at `base`, registers 0 and no reservations; `len` bytes of memory, all 0. Refusals 1
-    /// and 2.
+    /// `harts` harts with their pc at `base`, registers 0 and no reservations; `len` bytes of memory, all 0; the set size
+    /// [`SET_SIZE`](crate::SET_SIZE). Refusals 1 and 2.
     ///
     /// ```
     /// use floecavern::{Machine, Refusal};
@@ -42,6 +42,20 @@ impl Machine {
         // A run of no events tries both refusals and changes nothing.
         machine.run_bytes(&[], 0).map_err(|refused| refused.refusal)?;
         Ok(machine)
+    }
+
+    /// The machine with another set size: the set of a reservation has so many bytes. Refusals 1 and 2: 1 if the size isn't
+    /// a power of two from 8 to 4,096, or if the memory's length or base isn't a multiple of it.
+    ///
+    /// ```
+    /// use floecavern::{Machine, Refusal};
+    /// assert_eq!(Machine::new(1, 0, 4096)?.with_set_size(4096)?.state.set_size, 4096);
+    /// assert_eq!(Machine::new(1, 0, 64)?.with_set_size(4096), Err(Refusal::Memory));
+    /// # Ok::<(), Refusal>(())
+    /// ```
+    pub fn with_set_size(mut self, set_size: u64) -> Result<Machine, Refusal> {
+        self.state.set_size = set_size;
+        Machine::from_parts(self.state, self.base, self.mem)
     }
 
     /// Puts words into memory from `addr` on, 4 bytes each with the lowest first. This is no event: it breaks no

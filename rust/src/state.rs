@@ -6,7 +6,10 @@ use std::array::from_fn;
 pub const MAX_HARTS: usize = 8;
 
 /// The bytes of a state.
-pub const STATE_SIZE: usize = 2312;
+pub const STATE_SIZE: usize = 2320;
+
+/// The set size that a state has by default, and that the machine of a case file always has.
+pub const SET_SIZE: u64 = 64;
 
 /// What an LR made: the `width` bytes, 4 or 8, at `addr`.
 #[derive(Clone, Copy, Debug, PartialEq, Eq)]
@@ -24,7 +27,9 @@ struct Slot {
     width: u64,
 }
 
-/// The state: of harts 0 to `count - 1`, 1 to 8 of them, the registers `x[hart][register]`, the pc and the reservation.
+/// The state: of harts 0 to `count - 1`, 1 to 8 of them, the registers `x[hart][register]`, the pc and the reservation; and
+/// for all of them `set_size`, how many bytes the set of a reservation has: a power of two from 8 to 4,096. A set lies at a
+/// multiple of its size, around the LR's address. No call changes the size.
 ///
 /// Two states are equal if all of this is, of unused harts too. How a reservation is written down in bytes doesn't count.
 ///
@@ -35,23 +40,61 @@ struct Slot {
 /// assert_eq!(State::from_bytes(&state.to_bytes()), state);
 /// assert_eq!(state.reservation(0), None);
 /// ```
+///
+/// A core that reserves 16 bytes:
+///
+/// ```
+/// use floecavern::{Harts, Machine, Refusal};
+/// // lr.w x6,(x5) for hart 0 and sw x8,0(x5) for hart 1, which stores 16 bytes above.
+/// let mut machine = Machine::new(2, 0, 128)?;
+/// machine.put_words(0, &[0x1002_a32f, 0x0082_a023])?;
+/// (machine.state.x[0][5], machine.state.x[1][5], machine.state.pc[1]) = (64, 80, 4);
+/// let mut narrow = machine.clone().with_set_size(16)?;
+///
+/// machine.step(0)?;
+/// assert_eq!(machine.step(1)?.broke, Harts::from_bits(1));
+/// narrow.step(0)?;
+/// assert_eq!(narrow.step(1)?.broke, Harts::NONE);
+///
+/// // The field can be set too: the next call refuses a size that isn't allowed.
+/// narrow.state.set_size = 24;
+/// assert_eq!(narrow.step(0), Err(Refusal::Memory));
+/// # Ok::<(), Refusal>(())
+/// ```
 #[repr(C)]
-#[derive(Clone, Copy, Debug, Default)]
+#[derive(Clone, Copy, Debug)]
 pub struct State {
     pub count: u64,
     pub x: [[u64; 32]; MAX_HARTS],
     pub pc: [u64; MAX_HARTS],
     slots: [Slot; MAX_HARTS],
+    pub set_size: u64,
 }
 
 const _: () = assert!(std::mem::size_of::<State>() == STATE_SIZE);
 const _: () = assert!(std::mem::offset_of!(State, x) == 8);
 const _: () = assert!(std::mem::offset_of!(State, pc) == 2056);
 const _: () = assert!(std::mem::offset_of!(State, slots) == 2120);
+const _: () = assert!(std::mem::offset_of!(State, set_size) == 2312);
 const _: () = assert!(cfg!(all(target_arch = "x86_64", target_os = "linux")), "libcapi.a is for x86-64 Linux");
 
+/// No harts, all registers and pcs 0, no reservations, the set size [`SET_SIZE`]. A state of zeros is another one: its set
+/// size is 0, which is refused by 1.
+impl Default for State {
+    fn default() -> State {
+        State {
+            count: 0,
+            x: [[0; 32]; MAX_HARTS],
+            pc: [0; MAX_HARTS],
+            slots: [Slot::default(); MAX_HARTS],
+            set_size: SET_SIZE,
+        }
+    }
+}
+
 impl State {
-    /// `count` harts, all registers and pcs 0, no reservations. A count that isn't 1 to 8 is refused by 2 when it is used.
+    /// `count` harts, all registers and pcs 0, no reservations, the set size [`SET_SIZE`]. A count that isn't 1 to 8 is
+    /// refused by 2 when it is used.
     pub fn new(count: u64) -> State {
         State { count, ..State::default() }
     }
@@ -78,7 +121,8 @@ impl State {
     /// Its bytes, as the header says: every number 8 bytes, the lowest first.
     pub fn to_bytes(&self) -> [u8; STATE_SIZE] {
         let slots = self.slots.iter().flat_map(|s| [s.held, s.addr, s.width]);
-        let numbers = std::iter::once(self.count).chain(self.x.into_iter().flatten()).chain(self.pc).chain(slots);
+        let harts = self.x.into_iter().flatten().chain(self.pc).chain(slots);
+        let numbers = [self.count].into_iter().chain(harts).chain([self.set_size]);
         let mut bytes = [0; STATE_SIZE];
         for (place, number) in bytes.chunks_exact_mut(8).zip(numbers) {
             place.copy_from_slice(&number.to_le_bytes());
@@ -95,6 +139,7 @@ impl State {
             x: from_fn(|h| from_fn(|r| number(8 + 8 * (32 * h + r)))),
             pc: from_fn(|h| number(2056 + 8 * h)),
             slots: from_fn(|h| slot(2120 + 24 * h)),
+            set_size: number(2312),
         }
     }
 
@@ -111,6 +156,7 @@ impl PartialEq for State {
             && self.x == other.x
             && self.pc == other.pc
             && reservations(self) == reservations(other)
+            && self.set_size == other.set_size
     }
 }
 

@@ -1,4 +1,6 @@
-use floecavern::{check_loop, report, report_text, Cause, Reason, Refusal, RefusedAt, Verdict, VERSION};
+use floecavern::{
+    check_loop, report, report_text, Cause, Reason, Refusal, RefusedAt, Verdict, SET_SIZE, STATE_SIZE, VERSION,
+};
 
 /// The example of document 01: a case of two harts and five events.
 #[test]
@@ -40,7 +42,7 @@ fn loops() {
     assert_eq!(check_loop(&[LOOP[0]; 17]), Err(Refusal::Block));
 }
 
-/// The header's functions have the same texts for the same numbers, and no others; its version is this one.
+/// The header's functions have the same texts for the same numbers, and no others; its version and its sizes are these.
 #[test]
 fn header_says_the_same() {
     let header = include_str!("../../include/floecavern.h");
@@ -57,4 +59,6 @@ fn header_says_the_same() {
     let all: Vec<_> = Reason::ALL.iter().map(|r| (r.number(), r.text().to_string())).collect();
     assert_eq!(texts("floecavern_reason_text"), [none("not rejected"), all].concat());
     assert!(header.contains(&format!("#define FLOECAVERN_VERSION \"{VERSION}\"\n")));
+    assert!(header.contains(&format!("#define FLOECAVERN_STATE_SIZE {STATE_SIZE}\n")));
+    assert!(header.contains(&format!("#define FLOECAVERN_SET_SIZE {SET_SIZE}\n")));
 }

@@ -139,13 +139,14 @@ fn state_bytes() {
     let number = |at: usize| u64::from_le_bytes(bytes[at..at + 8].try_into().unwrap());
     assert_eq!((state.count, state.x[7][31], state.pc[7]), (number(0), number(2048), number(2112)));
     assert_eq!(state.reservation(7), Some(Reservation { addr: number(2296), width: number(2304) }));
+    assert_eq!(state.set_size, number(2312));
     bytes[2288] ^= 1;
     assert_eq!(State::from_bytes(&bytes), state);
     bytes[2296] ^= 1;
     assert_ne!(State::from_bytes(&bytes), state);
     let mut none = state;
     none.set_reservation(7, None);
-    assert_eq!(none.to_bytes()[2288..], [0; 24]);
+    assert_eq!(none.to_bytes()[2288..2312], [0; 24]);
     none.set_reservation(7, state.reservation(7));
     assert_eq!(none, state);
 }

@@ -1,10 +1,14 @@
 //! against BATCHES OLD.. NEW..: long runs and single calls by two versions of the library, in one process and in turns. Each version is given as
 //! as many shared objects as the other, which differ in where its code lies: that alone makes up to a quarter of a single call's time, so the
 //! least counts. A ratio is the new version's time by the old one's.
+//!
+//! A version from before request 5 takes states without the set size: it is given the bytes before that, and sets of 64 bytes alone.
 
+use bench::calls::BAD_SIZE;
 use bench::case::EVENT;
 use bench::clock::now;
 use bench::layout;
+use bench::machine::DEFAULT_SET;
 use bench::shared::{arguments, Shared};
 use bench::work::{self, Work, BASE};
 use std::ffi::c_void;
@@ -16,9 +20,14 @@ type Run = unsafe extern "C" fn(*mut u8, usize, u64, *mut u8, usize, *const u8, 
 type OfHart = unsafe extern "C" fn(*mut u8, usize, u64, *mut u8, usize, usize, *mut u8, usize) -> u64;
 type Device = unsafe extern "C" fn(*mut u8, usize, u64, *mut u8, usize, u64, usize, u64, *mut u8, usize) -> u64;
 
+/// The lengths of a state, without and with the set size.
+const STATE_LENGTHS: [usize; 2] = [layout::SET_SIZE, layout::SIZE];
+
 /// The functions of one version.
 #[derive(Clone, Copy)]
 struct Library {
+    /// How many bytes of a state it takes.
+    state_len: usize,
     run: Run,
     step: OfHart,
     yields: OfHart,
@@ -28,8 +37,10 @@ struct Library {
 fn library(shared: Shared) -> Library {
     // SAFETY: each function has the type that include/floecavern.h gives it, in every version.
     unsafe {
+        let run = std::mem::transmute::<*mut c_void, Run>(shared.symbol("floecavern_run"));
         Library {
-            run: std::mem::transmute::<*mut c_void, Run>(shared.symbol("floecavern_run")),
+            state_len: state_len(run),
+            run,
             step: std::mem::transmute::<*mut c_void, OfHart>(shared.symbol("floecavern_step")),
             yields: std::mem::transmute::<*mut c_void, OfHart>(shared.symbol("floecavern_yield")),
             device: std::mem::transmute::<*mut c_void, Device>(shared.symbol("floecavern_device_write")),
@@ -37,7 +48,24 @@ fn library(shared: Shared) -> Library {
     }
 }
 
-/// A machine that one of the versions keeps.
+/// How many bytes of a state a version takes: asked by a run of no events.
+fn state_len(run: Run) -> usize {
+    let accepts = |&length: &usize| {
+        let (mut kept, mut ran) = (Kept::of(&work::idle()), [0; 16]);
+        let (state, memory) = (kept.state.as_mut_ptr(), kept.memory.as_mut_ptr());
+        // SAFETY: every pointer comes from a slice that has at least the length beside it, and no two of the slices overlap.
+        let answer = unsafe { run(state, length, BASE, memory, kept.memory.len(), [].as_ptr(), 0, 0, ran.as_mut_ptr(), ran.len()) };
+        assert!(answer == 0 || answer == BAD_SIZE, "a run of no events with {length} bytes of state is answered {answer:#x}");
+        answer == 0
+    };
+    match STATE_LENGTHS.into_iter().filter(accepts).collect::<Vec<_>>()[..] {
+        [length] => length,
+        [] => panic!("a library takes states of none of {STATE_LENGTHS:?} bytes"),
+        _ => panic!("a library takes states of several lengths"),
+    }
+}
+
+/// A machine that one of the versions keeps. A version that takes fewer bytes of the state leaves the others alone.
 struct Kept {
     state: Vec<u8>,
     memory: Vec<u8>,
@@ -69,9 +97,9 @@ fn in_turns(batches: usize, work: &Work, places: &[[Library; 2]], each: impl Fn(
 fn run(library: Library, machine: &mut Kept, events: &[u8]) {
     let (state, memory, mut ran) = (&mut machine.state, &mut machine.memory, [0; 16]);
     let (number, base, out) = (events.len() / EVENT, BASE, ran.as_mut_ptr());
-    // SAFETY: every pointer comes from a slice of the length beside it, and no two of the slices overlap.
+    // SAFETY: every pointer comes from a slice that has at least the length beside it, and no two of the slices overlap.
     let answer = unsafe {
-        let (state, state_len, mem, mem_len) = (state.as_mut_ptr(), state.len(), memory.as_mut_ptr(), memory.len());
+        let (state, state_len, mem, mem_len) = (state.as_mut_ptr(), library.state_len, memory.as_mut_ptr(), memory.len());
         (library.run)(state, state_len, base, mem, mem_len, events.as_ptr(), events.len(), number, out, 16)
     };
     assert_eq!((answer, layout::get(&ran, 0)), (0, number as u64));
@@ -80,7 +108,7 @@ fn run(library: Library, machine: &mut Kept, events: &[u8]) {
 fn single(library: Library, machine: &mut Kept, kind: &str) {
     let (state, memory, mut value) = (&mut machine.state, &mut machine.memory, [0; 8]);
     for _ in 0..CALLS {
-        let (s, n, m, l, out) = (state.as_mut_ptr(), state.len(), memory.as_mut_ptr(), memory.len(), value.as_mut_ptr());
+        let (s, n, m, l, out) = (state.as_mut_ptr(), library.state_len, memory.as_mut_ptr(), memory.len(), value.as_mut_ptr());
         // SAFETY: as above.
         let answer = unsafe {
             match kind {
@@ -95,9 +123,14 @@ fn single(library: Library, machine: &mut Kept, kind: &str) {
 
 fn main() {
     let (batches, places) = arguments(library);
+    let takes_sizes = places.iter().flatten().all(|library| library.state_len == layout::SIZE);
     println!("Long runs: one call of {LONG} events; million events a second");
     println!("{:<28} {:>9} {:>9} {:>7}", "", "old", "new", "ratio");
     for (name, work) in work::long_runs(LONG) {
+        if work.state.set_size != DEFAULT_SET && !takes_sizes {
+            println!("{name:<28} skipped: a version has sets of {DEFAULT_SET} bytes alone");
+            continue;
+        }
         let [old, new] = in_turns(batches, &work, &places, |library, machine| run(library, machine, &work.events));
         println!("{name:<28} {:>9.1} {:>9.1} {:>7.3}", 1e3 * LONG as f64 / old, 1e3 * LONG as f64 / new, new / old);
     }

@@ -12,6 +12,7 @@ use bench::generate::{case, log, loop_block, refused_call, run_call, scenario, R
 use bench::log::ROW;
 use bench::machine::{State, MAX_HARTS};
 use bench::reached::Reached;
+use bench::sizes::Sizes;
 use bench::{floecavern, layout};
 use std::collections::BTreeMap;
 use std::fs;
@@ -30,6 +31,7 @@ struct Tally {
     /// Machines by reservations held at the start.
     held: BTreeMap<usize, u64>,
     broken: Broken,
+    sizes: Sizes,
     replays: Reached,
     /// Logs cut in two parts, both replayed as the whole.
     cut: u64,
@@ -68,6 +70,7 @@ impl<'a> Pair<'a> {
             return Err(self.difference(&call, told, (theirs, &b), (ours, &a)));
         }
         tally.count(&call, ours, &a);
+        tally.sizes.count_call(&self.ours, ours);
         self.calls.push(call);
         self.told = a;
         Ok(ours)
@@ -79,7 +82,7 @@ impl<'a> Pair<'a> {
         for earlier in &self.calls {
             calls::perform(&mut before, earlier, &mut vec![0; earlier.told()]);
         }
-        let mut what = format!("{} at base {:#x}, {told} bytes to tell in\n", shown(call), before.base);
+        let mut what = format!("{} at base {:#x}, {}{told} bytes to tell in\n", shown(call), before.base, shown_size(&before.state));
         what += &format!("library: answer {:#x}, told {:02x?}\n", theirs.0, &theirs.1[..told]);
         what += &format!("bench:   answer {:#x}, told {:02x?}\n", ours.0, &ours.1[..told]);
         for (part, a, b) in [("state", &self.theirs.state, &self.ours.state), ("memory", &self.theirs.memory, &self.ours.memory)] {
@@ -96,6 +99,11 @@ impl<'a> Pair<'a> {
         }
         Difference { what, files }
     }
+}
+
+/// The set size, if it is a state.
+fn shown_size(state: &[u8]) -> String {
+    layout::read(state).map_or(String::new(), |state| format!("sets of {} bytes, ", state.set_size))
 }
 
 /// A call and its arguments, without a run's events and a replay's rows.
@@ -115,6 +123,7 @@ impl Tally {
             runs: BTreeMap::new(),
             held: BTreeMap::new(),
             broken: Broken::default(),
+            sizes: Sizes::default(),
             replays: Reached::new(&[1, 2, 12, 13]),
             cut: 0,
         }
@@ -141,6 +150,7 @@ impl Tally {
             let held = state.harts.iter().take(state.count).filter(|h| h.reservation.is_some()).count();
             *self.held.entry(held).or_default() += 1;
             self.broken.count(&state, machine.base, &machine.memory, &given.events);
+            self.sizes.count_events(&state, machine.base, &machine.memory, &given.events);
         }
     }
 
@@ -150,6 +160,7 @@ impl Tally {
             println!("    {held}: {number}");
         }
         self.broken.print(false);
+        self.sizes.print();
         println!("  answers:");
         for ((call, answer), number) in &self.answers {
             // Those of replays come below.

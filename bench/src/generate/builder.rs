@@ -5,7 +5,7 @@
 use super::words::{atomic, i_type, r_type, s_type, AMOS, CAS, D, LR, NOP, Q, SC, W};
 use super::Rng;
 use crate::case::{EVENT, MAX_FILE, TABLE};
-use crate::machine::{Memory, Outcome, Reservation, State};
+use crate::machine::{memory_unit, Memory, Outcome, Reservation, State, DEFAULT_SET, SMALLEST_SET};
 
 pub const STEP: u8 = 1;
 pub const DEVICE: u8 = 2;
@@ -38,7 +38,7 @@ pub struct Builder {
     /// State and memory after the events so far.
     pub state: State,
     bytes: Vec<u8>,
-    /// Whether it is for a case file: then it fits in one, and nobody holds a reservation at the start.
+    /// Whether it is for a case file: then it fits in one, sets have 64 bytes, and nobody holds a reservation at the start.
     case_file: bool,
 }
 
@@ -63,19 +63,63 @@ impl Builder {
         }
     }
 
-    /// For calls on a state: a memory up to the largest, reservations at the start.
+    /// For calls on a state: sets of any allowed size, a memory up to the largest, reservations at the start.
     pub fn for_state(rng: &mut Rng) -> Self {
         let mut b = Builder::for_case(rng);
         b.case_file = false;
+        b.state.set_size = if rng.percent(5) { DEFAULT_SET } else { SMALLEST_SET << rng.below(10) };
+        let unit = memory_unit(b.state.set_size);
+        b.base &= !(unit - 1);
+        if unit > 64 {
+            b.memory.resize((unit * (1 + rng.below(4))) as usize, 0);
+        }
         if rng.below(400) == 0 {
-            let lines = if rng.percent(50) { 1 << 14 } else { 1 + rng.below(1 << 14) as usize };
-            b.memory.resize(64 * lines, 0);
+            let most = (1 << 20) / unit;
+            let units = if rng.percent(50) { most } else { 1 + rng.below(most) };
+            b.memory.resize((unit * units) as usize, 0);
         }
         b
     }
 
+    /// Memory for three sets, whatever their size is, and for four lines of 64 bytes.
+    pub fn enlarge(&mut self) {
+        let least = (3 * memory_unit(self.state.set_size)).max(256);
+        self.memory.resize(self.memory.len().max(least as usize), 0);
+    }
+
+    /// The end of one set and the start of the next, both in memory and mostly behind the first line. Case files have it at few places.
+    pub fn boundary(&self, rng: &mut Rng) -> u64 {
+        let (set, length) = (self.state.set_size, self.memory.len() as u64);
+        if self.case_file {
+            return self.base + rng.pick(&[128, length - 64]);
+        }
+        let (first, last) = (64 / set + 1, length / set - 1);
+        self.base + set * if first < last && rng.percent(80) { first + rng.below(last - first + 1) } else { 1 + rng.below(last) }
+    }
+
+    /// An address about an edge of a set.
+    fn about_edge(&self, rng: &mut Rng) -> u64 {
+        let sets = self.memory.len() as u64 / self.state.set_size;
+        let edge = self.base + self.state.set_size * rng.below(sets + 1);
+        edge.wrapping_add(4 * rng.below(8)).wrapping_sub(16)
+    }
+
+    /// A place of `width` bytes in the set around an address, more often than by chance the first or the last one.
+    fn in_set_of(&self, rng: &mut Rng, addr: u64, width: u64) -> u64 {
+        let (set, places) = (self.state.set_size, self.state.set_size / width);
+        let place = match rng.below(4) {
+            0 => 0,
+            1 => places - 1,
+            _ => rng.below(places),
+        };
+        (addr & !(set - 1)) + width * place
+    }
+
     fn address(&self, rng: &mut Rng) -> u64 {
         let length = self.memory.len() as u64;
+        if !self.case_file && rng.percent(20) {
+            return self.about_edge(rng);
+        }
         match rng.below(20) {
             0 => self.base.wrapping_add(rng.below(length)),
             1 => self.base.wrapping_add(length).wrapping_sub(rng.below(17)),
@@ -117,7 +161,8 @@ impl Builder {
         self.bytes = self.memory.clone();
     }
 
-    /// Reservations of some harts or of all, most of them where a register points or where the hart before has its own.
+    /// Reservations of some harts or of all, most of them where a register points, or where the hart before has its own, or elsewhere in the set
+    /// of that one.
     fn reserve(&mut self, rng: &mut Rng) {
         let (some, same) = (rng.pick(&[30, 60, 60, 100]), rng.pick(&[0, 30, 80]));
         let mut before = None;
@@ -129,7 +174,11 @@ impl Builder {
             let pointer = self.state.harts[h].x[self.pointer(rng, h, 4) as usize];
             let any = self.base + rng.below(self.memory.len() as u64);
             let near = if self.inside(pointer, 1) && rng.percent(80) { pointer } else { any };
-            let addr = before.filter(|_| rng.percent(same)).unwrap_or(near) & !(width - 1);
+            let addr = match before.filter(|_| rng.percent(same)) {
+                Some(before) if rng.percent(40) => self.in_set_of(rng, before, width),
+                Some(before) => before & !(width - 1),
+                None => near & !(width - 1),
+            };
             self.state.harts[h].reservation = Some(Reservation { addr, width });
             before = Some(addr);
         }
@@ -196,6 +245,7 @@ impl Builder {
         let size = 1 + rng.below(8) as usize;
         let hart = rng.below(self.state.count as u64) as usize;
         let addr = match self.state.harts[hart].reservation {
+            Some(r) if !self.case_file && rng.percent(20) => self.in_set_of(rng, r.addr, 1).wrapping_sub(rng.below(2)),
             Some(r) if rng.percent(70) => r.addr.wrapping_add(rng.below(24)).wrapping_sub(12),
             _ => self.base + rng.below(self.memory.len() as u64),
         };
@@ -232,8 +282,8 @@ impl Builder {
     /// A register of the hart that points, so aligned, into the set it has reserved.
     fn reserved_pointer(&self, hart: usize, align: u64) -> Option<u32> {
         let hart = &self.state.harts[hart];
-        let set = hart.reservation?.addr / 64;
-        (1..32).find(|&r| hart.x[r as usize].is_multiple_of(align) && hart.x[r as usize] / 64 == set)
+        let reserved = hart.reservation?.addr;
+        (1..32).find(|&r| hart.x[r as usize].is_multiple_of(align) && self.state.in_one_set(hart.x[r as usize], reserved))
     }
 
     /// A register of the hart that points outside memory, aligned to 8: x0 too, where address 0 isn't in memory.

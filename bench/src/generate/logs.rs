@@ -86,13 +86,13 @@ impl<'a> Steps<'a> {
     }
 
     /// Puts a word where the hart is, if nobody stepped there.
-    fn put(&mut self, rng: &mut Rng, hart: usize, word: fn(&mut Rng, &Hart, &Memory) -> u32) {
+    fn put(&mut self, rng: &mut Rng, hart: usize, word: fn(&mut Rng, &State, &Hart, &Memory) -> u32) {
         let pc = self.state.harts[hart].pc;
         if !self.inside(hart) || self.stepped.contains(&pc) {
             return;
         }
         let lent = Memory { base: self.base, bytes: &mut self.bytes };
-        let new = word(rng, &self.state.harts[hart], &lent).to_le_bytes();
+        let new = word(rng, &self.state, &self.state.harts[hart], &lent).to_le_bytes();
         let place = (pc - self.base) as usize;
         self.bytes[place..place + 4].copy_from_slice(&new);
         self.memory[place..place + 4].copy_from_slice(&new);
@@ -128,7 +128,7 @@ fn register(rng: &mut Rng, hart: &Hart, wanted: impl Fn(u64) -> bool) -> u32 {
 }
 
 /// A word of any kind that mostly retires; x0 is its rd more often than by chance.
-fn fresh_word(rng: &mut Rng, hart: &Hart, memory: &Memory) -> u32 {
+fn fresh_word(rng: &mut Rng, state: &State, hart: &Hart, memory: &Memory) -> u32 {
     let address = register(rng, hart, |x| x.is_multiple_of(16) && memory.contains(x, 16));
     let (rd, rs1, rs2) = (if rng.percent(30) { 0 } else { rng.reg() }, rng.reg(), rng.reg());
     let (width, order) = (rng.pick(&[W, D]), rng.reg() & 3);
@@ -142,8 +142,8 @@ fn fresh_word(rng: &mut Rng, hart: &Hart, memory: &Memory) -> u32 {
         6 => atomic(LR, width, order, rd, address, 0),
         7 | 8 => {
             // Where the reservation is, if a register points there.
-            let set = hart.reservation.map(|r| r.addr / 64);
-            let near = register(rng, hart, |x| set == Some(x / 64) && x.is_multiple_of(4));
+            let reserved = |x| hart.reservation.is_some_and(|r| state.in_one_set(r.addr, x));
+            let near = register(rng, hart, |x| reserved(x) && x.is_multiple_of(4));
             atomic(SC, width, order, rd, near, rs2)
         }
         9 => atomic(rng.pick(&AMOS), width, order, rd, address, rs2),
@@ -171,7 +171,7 @@ fn compare_and_swap(rng: &mut Rng, hart: &Hart, memory: &Memory, address: u32) -
 }
 
 /// A word that mostly traps.
-fn trapping_word(rng: &mut Rng, hart: &Hart, memory: &Memory) -> u32 {
+fn trapping_word(rng: &mut Rng, _: &State, hart: &Hart, memory: &Memory) -> u32 {
     let misaligned = rng.percent(50);
     let bad = register(rng, hart, |x| if misaligned { !x.is_multiple_of(4) } else { x.is_multiple_of(16) && !memory.contains(x, 16) });
     let (rd, rs2) = (if rng.percent(20) { 0 } else { rng.reg() }, rng.reg());

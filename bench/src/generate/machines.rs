@@ -2,11 +2,11 @@
 
 use super::builder::Builder;
 use super::damage::damaged_body;
-use super::makers::{contention, crowded, gathered, guided, program};
+use super::makers::{contention, crowded, edges, gathered, guided, program};
 use super::Rng;
 use crate::calls::{Call, Machine};
 use crate::layout;
-use crate::machine::MAX_HARTS;
+use crate::machine::{memory_unit, DEFAULT_SET, MAX_HARTS, SMALLEST_SET};
 
 /// A machine with an events body. The body isn't refused unless the machine is.
 pub struct Scenario {
@@ -16,24 +16,92 @@ pub struct Scenario {
 
 pub fn scenario(rng: &mut Rng) -> Scenario {
     let maker = match rng.below(20) {
-        0..=4 => guided,
-        5..=7 => program,
-        8..=10 => contention,
-        11..=13 => gathered,
+        0..=3 => guided,
+        4 | 5 => program,
+        6..=8 => contention,
+        9..=11 => gathered,
+        12..=15 => edges,
         _ => crowded,
     };
     let b = Builder::for_state(rng);
     let b = maker(rng, b);
     let mut machine = Machine { state: state_bytes(rng, &b), base: b.base, memory: b.memory };
     let mut events = b.events;
-    if rng.percent(15) {
-        for _ in 0..1 + rng.below(2) {
-            damage(rng, &mut machine);
-        }
-        // All of them are refused by one number, so a few are enough.
-        events.truncate(crate::case::EVENT * 6);
+    match rng.below(100) {
+        0..=7 => damage_set_size(rng, &mut machine),
+        8..=13 => damage_fit(rng, &mut machine, b.state.set_size),
+        14..=27 => damage(rng, &mut machine),
+        _ => return Scenario { machine, events },
     }
+    if rng.percent(40) {
+        damage(rng, &mut machine);
+    }
+    // All of them are refused by one number, so a few are enough.
+    events.truncate(crate::case::EVENT * 6);
     Scenario { machine, events }
+}
+
+/// A set size that isn't allowed, with a length and a base as it would have them were it allowed, as they were, or wrong in themselves.
+fn damage_set_size(rng: &mut Rng, m: &mut Machine) {
+    let size = match rng.below(10) {
+        0 => 0,
+        1 => rng.pick(&[1, 2, 4]),
+        2 => rng.pick(&[3, 5, 6, 7]),
+        3 => rng.pick(&[24, 48, 63, 65, 96, 1000, 3000]),
+        4 | 5 => (SMALLEST_SET << rng.below(11)).wrapping_add(rng.pick(&[1, u64::MAX])),
+        6 => 8192 << if rng.percent(50) { rng.below(3) } else { rng.below(51) },
+        // What an allowed one looks like in its lowest bits.
+        7 => (SMALLEST_SET << rng.below(10)) + (1 << rng.pick(&[13, 16, 32, 48, 63])),
+        8 => u64::MAX,
+        _ => rng.next(),
+    };
+    layout::put(&mut m.state, layout::SET_SIZE, size);
+    match rng.below(10) {
+        0..=3 => fit(rng, m, size),
+        4..=6 => damage_memory(rng, m),
+        _ => {}
+    }
+}
+
+/// A length and a base that are multiples of 64 and of the size, if it is one that has any in a small memory.
+fn fit(rng: &mut Rng, m: &mut Machine, size: u64) {
+    if (1..=65_536).contains(&size) {
+        let common = 1 << size.trailing_zeros().min(6);
+        let unit = size * (64 / common);
+        if unit <= 131_072 {
+            m.memory.resize((unit * (1 + rng.below(2))) as usize, 0);
+            m.base -= m.base % unit;
+        }
+    }
+}
+
+/// A length, a base or both that sets of 64 bytes would allow and larger ones don't. Smaller ones can't be wrong by their size alone: then a
+/// length or base that is a multiple of their size and not of 64.
+fn damage_fit(rng: &mut Rng, m: &mut Machine, set_size: u64) {
+    let step = if set_size > DEFAULT_SET { DEFAULT_SET } else { set_size };
+    let places = memory_unit(set_size) / step;
+    let mut off = || if places > 1 { step * (1 + rng.below(places - 1)) } else { step / 2 };
+    let (base, length) = (off(), off() as usize);
+    let which = rng.below(6);
+    if which < 4 {
+        // Below the size, or above it.
+        let whole = if which == 0 { 0 } else { m.memory.len() };
+        m.memory.resize(whole + length, 0);
+    }
+    if which >= 3 {
+        m.base += base;
+    }
+}
+
+/// A length and a base, one of them wrong or both.
+fn damage_memory(rng: &mut Rng, m: &mut Machine) {
+    let which = rng.below(3);
+    if which != 0 {
+        m.memory.resize(rng.pick(&[0, 1, 32, 63, 65, 100, m.memory.len() + 8, m.memory.len() + 32]), 0);
+    }
+    if which != 1 {
+        m.base = m.base.wrapping_add(rng.pick(&[1, 4, 8, 32, 1 << 41]));
+    }
 }
 
 /// The first state as bytes, with rubbish where nothing is looked at.
@@ -105,7 +173,7 @@ fn damage(rng: &mut Rng, m: &mut Machine) {
             m.memory.resize(length, 0);
         }
         2 if rng.percent(20) => m.memory.resize(rng.pick(&[(1 << 20) + 1, (1 << 20) + 64, 1 << 21]), 0),
-        3 if rng.percent(50) => m.state.resize(rng.pick(&[0, 8, 2304, 2311, 2313, 2320, 4624]), 0),
+        3 if rng.percent(50) => m.state.resize(rng.pick(&[0, 8, layout::SET_SIZE, 2304, 2319, 2321, 2328, 4640]), 0),
         _ if m.state.len() == layout::SIZE => damage_state(rng, m),
         _ => {}
     }
@@ -116,12 +184,14 @@ fn damage_state(rng: &mut Rng, m: &mut Machine) {
     // Seldom an unused hart: then nothing is wrong.
     let hart = if rng.percent(80) { rng.below(count.clamp(1, 8)) } else { rng.below(8) } as usize;
     let state = &mut m.state;
-    match rng.below(8) {
+    match rng.below(9) {
         0 => layout::put(state, layout::COUNT, rng.pick(&[0, 0, 9, 10, 256, (1 << 32) + 1, 1 << 32, 1 << 63, u64::MAX])),
         1 => layout::put(state, layout::COUNT, 1 + rng.below(8)),
         2 => layout::put(state, layout::x(hart, 0), 1 << rng.below(64)),
         3 => state[layout::pc(hart)] ^= rng.pick(&[1, 2, 3]),
         4..=6 => damage_reservation(rng, m, hart),
+        // Right, if length and base fit.
+        7 => layout::put(state, layout::SET_SIZE, SMALLEST_SET << rng.below(10)),
         _ => {
             let place = rng.below(layout::SIZE as u64) as usize;
             state[place] ^= 1 << rng.below(8);

@@ -3,7 +3,7 @@
 use super::builder::Builder;
 use super::words::{atomic, b_type, i_type, j_type, s_type, word, AMOS, ATOMICS, CAS, D, LR, NOP, Q, SC, W};
 use super::Rng;
-use crate::machine::{Outcome, MAX_HARTS};
+use crate::machine::{memory_unit, Outcome, MAX_HARTS};
 
 /// Random words, one after another, at the pc of random harts.
 pub fn guided(rng: &mut Rng, mut b: Builder) -> Builder {
@@ -87,15 +87,17 @@ fn step_and_mend(rng: &mut Rng, b: &mut Builder, hart: usize, percent: u64, anot
 
 /// Harts in retry loops on one set or two, with plain stores, AMOs, device writes and yields between.
 pub fn contention(rng: &mut Rng, mut b: Builder) -> Builder {
-    b.memory.resize(b.memory.len().max(256), 0);
+    b.enlarge();
     b.fill_registers(rng);
     let code = retry_loop(rng);
     b.put_words(&code);
-    let set = b.base + 64 * (1 + rng.below(2));
+    let size = b.state.set_size;
+    let set = b.base + memory_unit(size) * (1 + rng.below(2));
     for h in 0..b.state.count {
         let hart = &mut b.state.harts[h];
         hart.pc = b.base + if rng.percent(70) { 0 } else { 4 * rng.below(8) };
-        let mut near = |p| if rng.percent(p) { set } else { set + rng.below(18) * 8 - 8 };
+        // In this set, in the next one, or just beside the two.
+        let mut near = |p| if rng.percent(p) { set } else { set + rng.below(size / 4 + 2) * 8 - 8 };
         hart.x[5] = near(60);
         hart.x[10] = near(30);
     }
@@ -141,14 +143,17 @@ fn steps_in_bursts(rng: &mut Rng, b: &mut Builder, steps: u64, burst: u64, mende
 
 /// Atomics and stores alone, by all harts on few addresses about the boundary of two sets or about the end of memory.
 pub fn crowded(rng: &mut Rng, mut b: Builder) -> Builder {
-    b.memory.resize(b.memory.len().max(256), 0);
+    b.enlarge();
     b.fill_registers(rng);
     let mut code: Vec<u32> = (0..31).map(|_| crowded_word(rng)).collect();
     code.push(j_type(0, -124));
     b.put_words(&code);
-    let boundary = b.base + b.memory.len() as u64 - rng.pick(&[64, 64, 0]);
+    let (set, unit) = (b.state.set_size, memory_unit(b.state.set_size));
+    let boundary = b.base + b.memory.len() as u64 - rng.pick(&[unit, unit, 0]);
     let few: [u64; 4] = std::array::from_fn(|_| {
-        let place = boundary - 32 + 4 * rng.below(16);
+        // In a set of more than 64 bytes also far from the boundary, at its other end.
+        let far = if set > 64 && rng.percent(40) { rng.pick(&[boundary - unit, boundary + unit - 16]) } else { boundary };
+        let place = far - 32 + 4 * rng.below(16);
         place & if rng.percent(60) { !15 } else { !0 }
     });
     for h in 0..b.state.count {
@@ -191,17 +196,19 @@ fn crowded_word(rng: &mut Rng) -> u32 {
 /// Rounds in which harts reserve at few addresses about the boundary of two sets, and then harts and devices write there: so one write
 /// breaks the reservations of many, each of them by another set, by the LR's bytes or not at all.
 pub fn gathered(rng: &mut Rng, mut b: Builder) -> Builder {
-    b.memory.resize(b.memory.len().max(256), 0);
+    b.enlarge();
     if rng.percent(60) {
         b.state.count = MAX_HARTS;
     }
     b.fill_registers(rng);
-    let boundary = b.base + rng.pick(&[128, b.memory.len() as u64 - 64]);
-    let place = boundary - 64 + 8 * rng.below(16);
+    let (boundary, set) = (b.boundary(rng), b.state.set_size);
+    let place = boundary - set + 8 * rng.below(set / 4);
+    // The last 16 bytes of the set above; for sets of 8, the 16 that they are part of.
+    let last = (boundary + set - 8) & !15;
     for h in 0..b.state.count {
         let hart = &mut b.state.harts[h];
         hart.pc = b.base + 4 * rng.below(15);
-        let few = [place, place & !15, place ^ 4, boundary - 8, boundary, boundary - 64, boundary + 48, boundary - 64 + 4 * rng.below(32)];
+        let few = [place, place & !15, place ^ 4, boundary - 8, boundary, boundary - set, last, boundary - set + 4 * rng.below(set / 2)];
         hart.x[8..16].copy_from_slice(&few);
     }
     b.start(rng);
@@ -244,7 +251,10 @@ fn write_or_not(rng: &mut Rng, b: &mut Builder) {
         0..=3 => s_type(rng.reg() & 3, address, rs2, rng.pick(&[0, 0, 8, -8, 64, -64])),
         4..=7 => atomic(SC, width, order, rng.reg() & 7, address, rs2),
         8..=10 => atomic(rng.pick(&AMOS), width, order, rng.reg() & 7, address, rs2),
-        11..=14 => return compare_with_loaded(rng, b, hart, address),
+        11..=14 => {
+            let width = rng.pick(&[W, D, Q]);
+            return compare_with_loaded(rng, b, hart, address, width);
+        }
         15 => return b.yield_hart(hart),
         _ => return b.random_device(rng),
     };
@@ -253,8 +263,7 @@ fn write_or_not(rng: &mut Rng, b: &mut Builder) {
 
 /// AMOCAS of what the hart has loaded just before: a device write of equal bytes would break reservations itself. Unequal by chance or where
 /// the second half wasn't loaded.
-fn compare_with_loaded(rng: &mut Rng, b: &mut Builder, hart: usize, address: u32) {
-    let width = rng.pick(&[W, D, Q]);
+fn compare_with_loaded(rng: &mut Rng, b: &mut Builder, hart: usize, address: u32, width: u32) {
     if rng.percent(80) {
         perform_in_first_line(b, hart, i_type(0x03, if width == W { W } else { D }, 6, address, 0));
     }
@@ -264,10 +273,78 @@ fn compare_with_loaded(rng: &mut Rng, b: &mut Builder, hart: usize, address: u32
     perform_in_first_line(b, hart, atomic(CAS, width, rng.reg() & 3, 6, address, rng.reg() & !1));
 }
 
-/// Performs a word within the first 64 bytes, where nobody reserves: from the last word there the hart jumps back before.
+/// Performs a word within the first 64 bytes, where hardly anybody reserves: from the last word there the hart jumps back before.
 fn perform_in_first_line(b: &mut Builder, hart: usize, word: u32) {
     if b.state.harts[hart].pc == b.base + 60 {
         b.perform(hart, j_type(0, -60));
     }
     b.perform(hart, word);
+}
+
+/// Rounds about one set: harts reserve in it or in the next one, and then harts and devices write just below it, onto its first bytes, inside,
+/// onto its last bytes or just above.
+pub fn edges(rng: &mut Rng, mut b: Builder) -> Builder {
+    b.enlarge();
+    if rng.percent(40) {
+        b.state.count = MAX_HARTS;
+    }
+    b.fill_registers(rng);
+    let (above, set) = (b.boundary(rng), b.state.set_size);
+    let first = above - set;
+    for h in 0..b.state.count {
+        let hart = &mut b.state.harts[h];
+        hart.pc = b.base + 4 * rng.below(15);
+        hart.x[8..16].copy_from_slice(&about_set(rng, first, set));
+    }
+    b.start(rng);
+    // A round has about 16 events.
+    let rounds = b.steps(rng, 200, 1200) / 16;
+    for _ in 0..rounds {
+        gather(rng, &mut b);
+        for _ in 0..1 + rng.below(2) {
+            write_about_set(rng, &mut b, first);
+        }
+    }
+    b
+}
+
+/// The registers x8 to x15 of `edges`: the first byte of the set and the first one above it; 4 and 16 bytes inside, or the 16 around a set of 8;
+/// the last 8 and the last 4 bytes; the 8 bytes below; 4 bytes of the set above.
+fn about_set(rng: &mut Rng, first: u64, set: u64) -> [u64; 8] {
+    let mut inside = |width: u64| (first + width * rng.below((set / width).max(1))) & !(width - 1);
+    let above = first + set;
+    [first, above, inside(4), inside(16), above - 8, above - 4, first.wrapping_sub(8), inside(4) + set]
+}
+
+/// A write whose place is one of those about the set; now and then one that fails or traps, or a yield.
+fn write_about_set(rng: &mut Rng, b: &mut Builder, first: u64) {
+    let hart = rng.below(b.state.count as u64) as usize;
+    let (rs2, order, set) = (rng.reg(), rng.reg() & 3, b.state.set_size);
+    let (rd, address, width) = (rng.reg() & 7, few_pointer(rng), rng.pick(&[W, D]));
+    let word = match rng.below(20) {
+        0..=4 => {
+            // Just below the set or above it, onto its first or its last bytes: x8 and x9 are its ends.
+            let funct3 = rng.reg() & 3;
+            s_type(funct3, 8 + rng.reg() % 2, rs2, if rng.percent(50) { 0 } else { -(1 << funct3) })
+        }
+        5 | 6 => {
+            // Anywhere inside, as far as an offset goes.
+            let funct3 = rng.reg() & 3;
+            s_type(funct3, 8, rs2, (rng.below(set.min(2048) >> funct3) as i64) << funct3)
+        }
+        7..=10 => {
+            let inside = rng.pick(&[8, 10, 12, 13]);
+            atomic(SC, width, order, rd, if rng.percent(60) { inside } else { address }, rs2)
+        }
+        11..=13 => atomic(rng.pick(&AMOS), width, order, rd, address, rs2),
+        14 => return compare_with_loaded(rng, b, hart, address, width),
+        // Two sets at once, if they have 8 bytes.
+        15 | 16 => return compare_with_loaded(rng, b, hart, 11, Q),
+        17 => return b.yield_hart(hart),
+        _ => {
+            let (size, edge) = (1 + rng.below(8), first + set * rng.below(2));
+            return b.device(edge.wrapping_sub(rng.below(size + 1)), size as usize, rng.value());
+        }
+    };
+    perform_in_first_line(b, hart, word);
 }

@@ -88,7 +88,7 @@ module _ (base : ℕ) (mem : List ℕ) (s : State) where
       pc = getD (s .pc) h 0
 
       covered : ℕ → ℕ → Bool
-      covered = coversOf 64 (reservationOf s h)
+      covered = coversOf (s .settings) (reservationOf s h)
 
       go : T.Decided (valueAt base mem pc 4) x pc base mem (decodeOf (valueAt base mem pc 4)) (stepOf base mem s h)
           → Decided (Step h) (outcomeOf (ofExec h (stepOf base mem s h)))

@@ -19,6 +19,7 @@ use Rattle.events.specs.declared.Event.{Event}
 use Rattle.events.specs.declared.Event.the-variants.{Step, Device, Yield}
 use Rattle.events.specs.declared.Checked.the-variants.{Good}
 use Rattle.events.proofs.RuleLaws.{good-exact, none-wrong-exact}
+use Rattle.machine.proofs.StateLaws.{wrong-exact}
 use Rattle.model.specs.Perform.{Machine, nextOf, outcomeAt}
 use Rattle.model.specs.Retired.{Refuses}
 use Rattle.model.specs.Valid.{Valid}
@@ -32,7 +33,7 @@ use Rattle.answers.proofs.Refused.{Decided, refuses, passes, decided, r
 
 module _ (base : ℕ) (m : Machine) (v : Valid base m) where
   fits-row : (e : Event) → EventFits (m .state .count) base (length (m .mem)) e → (k : ℕ) → RefusalRow base (m .mem) (m .state) e k → ⊥
-  fits-row e f k (badMemory q r) = r (v .0)
+  fits-row e f k (badMemory q r) = wrong-exact (m .state .settings) base (length (m .mem)) .0 r (v .0)
   fits-row e f k (badState q r) = r (v .1)
   fits-row (Step h) f k (noHart q r) = r f
   fits-row (Device a n w) f k (noHart q r) = r

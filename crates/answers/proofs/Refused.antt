@@ -15,7 +15,7 @@ use Rattle.reserve.proofs.RangeLaws.{inside-of, of-inside}
 use Rattle.machine.specs.State.{memoryOk, stateOk, refusalOf}
 use Rattle.machine.specs.Rules.{MemoryRules, StateRules}
 use Rattle.machine.specs.declared.State.{State}
-use Rattle.machine.proofs.StateLaws.{memory-exact, state-exact, refusal-0, refusal-1, refusal-2}
+use Rattle.machine.proofs.StateLaws.{memory-exact, wrong-exact, state-exact, refusal-0, refusal-1, refusal-2}
 use Rattle.events.specs.declared.Event.{Event}
 use Rattle.events.specs.declared.Event.the-variants.{Step, Device, Yield}
 use Rattle.effect.specs.Effect.{nothing, reserve, store, scStored, scFailed, Exec, trap, effect}
@@ -62,7 +62,7 @@ passed-kind base mem s (Device a n v) = omega arith
 passed-kind base mem s (Yield h) = omega arith
 
 -- what is not retired changes nothing
-keeps : (base : ℕ) (mem : List ℕ) (s : State) (a : Act) → 0 < kind (outcomeOf a) → (apply 64 s a ≡ s) × (leaves base mem a ≡ mem)
+keeps : (base : ℕ) (mem : List ℕ) (s : State) (a : Act) → 0 < kind (outcomeOf a) → (apply s a ≡ s) × (leaves base mem a ≡ mem)
 unfolding apply leaves
 keeps base mem s (refuse number) h = (refl, refl)
 keeps base mem s (fault cause value) h = (refl, refl)
@@ -90,10 +90,10 @@ first-same R m n a f b g =
 -- ---- the table decides
 
 module _ (base : ℕ) (mem : List ℕ) (s : State) where
-  none-below : (e : Event) (n : ℕ) → (1 < n → MemoryRules base (length mem)) → (2 < n → StateRules base (length mem) s)
+  none-below : (e : Event) (n : ℕ) → (1 < n → MemoryRules (s .settings) base (length mem)) → (2 < n → StateRules base (length mem) s)
       → (3 < n → NoHart s e → ⊥) → (4 < n → BadSize e → ⊥) → (5 < n → Beyond base (length mem) e → ⊥)
       → (k : ℕ) → k < n → RefusalRow base mem s e k → ⊥
-  none-below e n a b c d f k l (badMemory q r) = r (a (omega arith))
+  none-below e n a b c d f k l (badMemory q r) = wrong-exact (s .settings) base (length mem) .0 r (a (omega arith))
   none-below e n a b c d f k l (badState q r) = r (b (omega arith))
   none-below e n a b c d f k l (noHart q r) = c (omega arith) r
   none-below e n a b c d f k l (badSize q r) = d (omega arith) r
@@ -112,7 +112,7 @@ module _ (base : ℕ) (mem : List ℕ) (s : State) where
     passes : actOf base mem s e ≡ passed base mem s e → Unrefused base mem s e → Decided e
 
   -- of a good memory and state
-  module _ (m : MemoryRules base (length mem)) (r : StateRules base (length mem) s) where
+  module _ (m : MemoryRules (s .settings) base (length mem)) (r : StateRules base (length mem) s) where
     clear : (e : Event) (n : ℕ) → (3 < n → NoHart s e → ⊥) → (4 < n → BadSize e → ⊥) → (5 < n → Beyond base (length mem) e → ⊥)
         → (k : ℕ) → k < n → RefusalRow base mem s e k → ⊥
     clear e n = none-below e n (λ l. m) (λ l. r)
@@ -172,16 +172,16 @@ module _ (base : ℕ) (mem : List ℕ) (s : State) where
 
   pub decided : (e : Event) → Decided e
   decided e =
-      bool-cases (memoryOk base (length mem))
+      bool-cases (memoryOk (s .settings) base (length mem))
       (λ t.
-      let m = memory-exact base (length mem) .0 t in
+      let m = memory-exact (s .settings) base (length mem) .0 t in
       bool-cases (stateOk base (length mem) s) (λ u. decided-on m (state-exact base (length mem) s .0 u) e)
       (λ u.
       let bad : StateRules base (length mem) s → ⊥ = λ r. contrary (state-exact base (length mem) s .1 r) u in
       refuses 2 (refuses-early e 2 (omega arith) (refusal-2 base (length mem) s .1 (m, bad)))
       (record { applies = badState refl bad; first = none-below e 2 (λ l. m) (never refl) (never refl) (never refl) (never refl) })))
       (λ t.
-      let bad : MemoryRules base (length mem) → ⊥ = λ r. contrary (memory-exact base (length mem) .1 r) t in
+      let bad = wrong-exact (s .settings) base (length mem) .1 (λ r. contrary (memory-exact (s .settings) base (length mem) .1 r) t) in
       refuses 1 (refuses-early e 1 (omega arith) (refusal-1 base (length mem) s .1 bad))
       (record { applies = badMemory refl bad; first = none-below e 1 (never refl) (never refl) (never refl) (never refl) (never refl) }))
 

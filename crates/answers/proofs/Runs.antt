@@ -10,7 +10,7 @@ use Rattle.word.proofs.TestLaws.{bool-cases, contrary, never}
 use Rattle.machine.specs.State.{memoryOk, stateOk, refusalOf}
 use Rattle.machine.specs.Rules.{MemoryRules, StateRules}
 use Rattle.machine.specs.declared.State.{State}
-use Rattle.machine.proofs.StateLaws.{memory-exact, state-exact, refusal-0, refusal-1, refusal-2}
+use Rattle.machine.proofs.StateLaws.{memory-exact, wrong-exact, state-exact, refusal-0, refusal-1, refusal-2}
 use Rattle.events.specs.Events.{checkedOf, eventsOf}
 use Rattle.events.specs.Rules.{WrongEvents, NoneWrong}
 use Rattle.events.specs.declared.Checked.{Checked}
@@ -49,9 +49,9 @@ module _ (base : ℕ) (mem : List ℕ) (s : State) (body : List ℕ) where
   of-body p (wrongState q z r) = absurd (omega arith)
   of-body p (wrongBody q r) = r
 
-  none-below : (n : ℕ) → (1 < n → MemoryRules base (length mem)) → (2 < n → StateRules base (length mem) s)
+  none-below : (n : ℕ) → (1 < n → MemoryRules (s .settings) base (length mem)) → (2 < n → StateRules base (length mem) s)
       → (11 < n → NoneWrong (s .count) base (length mem) body) → (k p : ℕ) → k < n → RunRow base mem s body k p → ⊥
-  none-below n a b c k p l (wrongMemory q z r) = r (a (omega arith))
+  none-below n a b c k p l (wrongMemory q z r) = wrong-exact (s .settings) base (length mem) .0 r (a (omega arith))
   none-below n a b c k p l (wrongState q z r) = r (b (omega arith))
   none-below n a b c k p l (wrongBody q r) = c (omega arith) p r
 
@@ -81,7 +81,7 @@ module _ (base : ℕ) (mem : List ℕ) (s : State) (body : List ℕ) where
     unfolding resultOf
     early n l q = rw (q, ne-eqb n 0 (λ z. omega arith))
 
-    by-body : MemoryRules base (length mem) → StateRules base (length mem) s → (c : Checked)
+    by-body : MemoryRules (s .settings) base (length mem) → StateRules base (length mem) s → (c : Checked)
         → checkedOf (s .count) base (length mem) body ≡ c → Decided
     unfolding resultOf
     by-body m r (Bad p) e =
@@ -99,9 +99,9 @@ module _ (base : ℕ) (mem : List ℕ) (s : State) (body : List ℕ) where
 
     decided : Decided
     decided =
-        bool-cases (memoryOk base (length mem))
+        bool-cases (memoryOk (s .settings) base (length mem))
         (λ t.
-        let m = memory-exact base (length mem) .0 t in
+        let m = memory-exact (s .settings) base (length mem) .0 t in
         bool-cases (stateOk base (length mem) s)
         (λ u. by-body m (state-exact base (length mem) s .0 u) (checkedOf (s .count) base (length mem) body) refl)
         (λ u.
@@ -113,7 +113,7 @@ module _ (base : ℕ) (mem : List ℕ) (s : State) (body : List ℕ) where
           lowest = λ q l v. omega arith;
         })))
         (λ t.
-        let bad : MemoryRules base (length mem) → ⊥ = λ r. contrary (memory-exact base (length mem) .1 r) t in
+        let bad = wrong-exact (s .settings) base (length mem) .1 (λ r. contrary (memory-exact (s .settings) base (length mem) .1 r) t) in
         R.refuses 1 0 (early 1 (omega arith) (refusal-1 base (length mem) s .1 bad))
         (record {
           applies = wrongMemory refl refl bad;

@@ -6,7 +6,7 @@ use mathlib.Core.Logic.{_⊎_}
 use mathlib.Core.List.{List}
 use lib.ListN.{length}
 use Rattle.reserve.specs.Range.{Inside}
-use Rattle.machine.specs.Rules.{MemoryRules, StateRules}
+use Rattle.machine.specs.Rules.{WrongMemory, StateRules}
 use Rattle.machine.specs.declared.State.{State}
 use Rattle.events.specs.declared.Event.{Event}
 use Rattle.events.specs.declared.Event.the-variants.{Step, Device, Yield}
@@ -29,10 +29,10 @@ Beyond base len (Step h) = ⊥
 Beyond base len (Device a n v) = Inside base len a n → ⊥
 Beyond base len (Yield h) = ⊥
 
--- The row of this number applies. MemoryRules and StateRules are the rules of 01, "The machine": "memory length or base breaks the rules above"; "state
--- malformed".
+-- The row of this number applies. WrongMemory and StateRules are by the rules of 01, "The machine", and of 02 [5]: "a size not allowed is 1, tried before
+-- base and length"; "memory length or base breaks the rules above"; "state malformed".
 pub data RefusalRow (base : ℕ) (mem : List ℕ) (s : State) (e : Event) (number : ℕ) : Type 0 where
-  badMemory : number ≡ 1 → (MemoryRules base (length mem) → ⊥) → RefusalRow base mem s e number
+  badMemory : number ≡ 1 → WrongMemory (s .settings) base (length mem) → RefusalRow base mem s e number
   badState : number ≡ 2 → (StateRules base (length mem) s → ⊥) → RefusalRow base mem s e number
   noHart : number ≡ 3 → NoHart s e → RefusalRow base mem s e number
   badSize : number ≡ 4 → BadSize e → RefusalRow base mem s e number

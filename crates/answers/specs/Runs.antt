@@ -5,14 +5,14 @@ use Prim.Native.Nat.{ℕ}
 use mathlib.Core.Path.{_≡_}
 use mathlib.Core.List.{List}
 use lib.ListN.{length}
-use Rattle.machine.specs.Rules.{MemoryRules, StateRules}
+use Rattle.machine.specs.Rules.{WrongMemory, StateRules}
 use Rattle.machine.specs.declared.State.{State}
 use Rattle.events.specs.Rows.{FirstRow, NoRow}
 use Rattle.events.specs.Rules.{WrongEvents}
 
 -- The row of this number applies, at this place. 1 and 2 are told with the place 0.
 pub data RunRow (base : ℕ) (mem : List ℕ) (s : State) (body : List ℕ) (number place : ℕ) : Type 0 where
-  wrongMemory : number ≡ 1 → place ≡ 0 → (MemoryRules base (length mem) → ⊥) → RunRow base mem s body number place
+  wrongMemory : number ≡ 1 → place ≡ 0 → WrongMemory (s .settings) base (length mem) → RunRow base mem s body number place
   wrongState : number ≡ 2 → place ≡ 0 → (StateRules base (length mem) s → ⊥) → RunRow base mem s body number place
   wrongBody : number ≡ 11 → WrongEvents (s .count) base (length mem) body place → RunRow base mem s body number place
 

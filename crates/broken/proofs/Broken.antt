@@ -13,6 +13,7 @@ use borrow.Author.Tests.{eqb-true, eqb-false, eq-eqb, ne-eqb, not-true}
 use Rattle.word.proofs.TestLaws.{bool-cases, contrary, and-both}
 use Rattle.word.proofs.ChooseLaws.{cond-all}
 use Rattle.word.proofs.WordLaws.{split-lt}
+use Rattle.settings.specs.declared.Settings.{Settings}
 use Rattle.reserve.specs.Range.{touches, setOf}
 use Rattle.reserve.specs.Reserve.{slot, reaches, breaksOf, ownOf, observeOf, brokenOf, observeAllOf}
 use Rattle.reserve.specs.declared.Reservation.{Reservation}
@@ -30,7 +31,7 @@ use Rattle.events.specs.declared.Event.{Event}
 use Rattle.events.specs.declared.Event.the-variants.{Step, Device, Yield}
 use Rattle.effect.specs.Effect.{noticeOf}
 use Rattle.model.specs.Act.{Act, refuse, fault, change, put, release, actNotice, retiredAs, outcomeOf, brokenAfter, apply}
-use Rattle.model.specs.Perform.{Machine, reservationOf, actOn, actOf, answerOf, outcomeAt, brokeAt, nextOf}
+use Rattle.model.specs.Perform.{Machine, setSize, reservationOf, actOn, actOf, answerOf, outcomeAt, brokeAt, nextOf}
 use Rattle.model.specs.Valid.{Valid}
 use Rattle.model.specs.Trace.{noticeAt}
 use Rattle.model.specs.Retired.{IsRetired, Traps, Refuses}
@@ -44,13 +45,13 @@ use Rattle.broken.specs.Broken.{Bit, Reached, byHart, byDevice, Loses, E
 
 -- ---- the bits are those that the event's notice breaks
 
-act-broken : (size count : ℕ) (l : List Slot) (act : Act) → brokenAfter size count act l ≡ brokenOf size (actNotice act) count l
+act-broken : (settings : Settings) (count : ℕ) (l : List Slot) (act : Act) → brokenAfter settings count act l ≡ brokenOf settings (actNotice act) count l
 unfolding observeAllOf
-act-broken size count l (refuse number) = sym (spared-broken size N.Quiet (quiet-spares size) count l)
-act-broken size count l (fault cause value) = sym (spared-broken size N.Quiet (quiet-spares size) count l)
-act-broken size count l (change h ws to t) = refl
-act-broken size count l (put a bs) = refl
-act-broken size count l (release h) = refl
+act-broken settings count l (refuse number) = sym (spared-broken settings N.Quiet (quiet-spares settings) count l)
+act-broken settings count l (fault cause value) = sym (spared-broken settings N.Quiet (quiet-spares settings) count l)
+act-broken settings count l (change h ws to t) = refl
+act-broken settings count l (put a bs) = refl
+act-broken settings count l (release h) = refl
 
 -- no bit of 0 is set
 no-bit : (k : ℕ) → Bit k 0 → ⊥
@@ -83,20 +84,20 @@ writes-retire base m e g b n (inr c) = (c .retires .theStep, c .retires .retired
 pub yield-breaks-none : (base : ℕ) (m : Machine) (g : ℕ) → brokeAt base m (Yield g) ≡ 0
 unfolding answerOf actOf actOn observeAllOf
 yield-breaks-none base m g =
-    let none : Act → Type 0 = λ act. brokenAfter 64 (m .state .count) act (m .state .res) ≡ 0 in
+    let none : Act → Type 0 = λ act. brokenAfter (m .state .settings) (m .state .count) act (m .state .res) ≡ 0 in
     cond-all none (eqb (refusalOf base (length (m .mem)) (m .state)) 0) _ _
-    (cond-all none (ltb g (m .state .count)) _ _ (spared-broken 64 (N.Yield g) (yield-spares 64 g) (m .state .count) (m .state .res)) refl) refl
+    (cond-all none (ltb g (m .state .count)) _ _ (spared-broken (m .state .settings) (N.Yield g) (yield-spares (m .state .settings) g) (m .state .count) (m .state .res)) refl) refl
 
 module _ (base : ℕ) (m : Machine) (e : Event) where
-  broke-notice : brokeAt base m e ≡ brokenOf 64 (noticeAt base m e) (m .state .count) (m .state .res)
+  broke-notice : brokeAt base m e ≡ brokenOf (m .state .settings) (noticeAt base m e) (m .state .count) (m .state .res)
   unfolding answerOf
-  broke-notice = act-broken 64 (m .state .count) (m .state .res) (actOf base (m .mem) (m .state) e)
+  broke-notice = act-broken (m .state .settings) (m .state .count) (m .state .res) (actOf base (m .mem) (m .state) e)
 
-  notice-breaks-none : (n : Notice) → noticeAt base m e ≡ n → BreaksNone 64 n → brokeAt base m e ≡ 0
+  notice-breaks-none : (n : Notice) → noticeAt base m e ≡ n → BreaksNone (m .state .settings) n → brokeAt base m e ≡ 0
   notice-breaks-none n q s =
       broke-notice
-      ∙ ap (λ (k : Notice). brokenOf 64 k (m .state .count) (m .state .res)) q
-      ∙ spared-broken 64 n s (m .state .count) (m .state .res)
+      ∙ ap (λ (k : Notice). brokenOf (m .state .settings) k (m .state .count) (m .state .res)) q
+      ∙ spared-broken (m .state .settings) n s (m .state .count) (m .state .res)
 
   -- neither 1 nor 2 refuses the machine, or the event is refused and leaves it
   refused-leaves : eqb (refusalOf base (length (m .mem)) (m .state)) 0 ≡ false → Refuses (outcomeAt base m e) × (nextOf base m e .state ≡ m .state)
@@ -115,49 +116,49 @@ module _ (base : ℕ) (m : Machine) (e : Event) where
   pub silent-breaks-none : Silent base m e → brokeAt base m e ≡ 0
   silent-breaks-none s =
       either
-      (λ v. notice-breaks-none N.Quiet (notice-exact base m v e N.Quiet .1 s) (quiet-spares 64))
-      (λ r k. notice-breaks-none N.Quiet (notice-none base m e (inr r)) (quiet-spares 64))
+      (λ v. notice-breaks-none N.Quiet (notice-exact base m v e N.Quiet .1 s) (quiet-spares (m .state .settings)))
+      (λ r k. notice-breaks-none N.Quiet (notice-none base m e (inr r)) (quiet-spares (m .state .settings)))
 
   pub refused-breaks-none : Refuses (outcomeAt base m e) → brokeAt base m e ≡ 0
-  refused-breaks-none r = notice-breaks-none N.Quiet (notice-none base m e (inr r)) (quiet-spares 64)
+  refused-breaks-none r = notice-breaks-none N.Quiet (notice-none base m e (inr r)) (quiet-spares (m .state .settings))
 
   pub trapped-breaks-none : Traps (outcomeAt base m e) → brokeAt base m e ≡ 0
-  trapped-breaks-none t = notice-breaks-none N.Quiet (notice-none base m e (inl t)) (quiet-spares 64)
+  trapped-breaks-none t = notice-breaks-none N.Quiet (notice-none base m e (inl t)) (quiet-spares (m .state .settings))
 
   -- an LR, also one that replaces a reservation
   pub lr-breaks-none : (g a w : ℕ) → RetiredLr base m e g a w → brokeAt base m e ≡ 0
   lr-breaks-none g a w c =
       either
-      (λ v. notice-breaks-none (N.LoadReserved g a w) (notice-exact base m v e (N.LoadReserved g a w) .1 c) (reserved-spares 64 g a w))
+      (λ v. notice-breaks-none (N.LoadReserved g a w) (notice-exact base m v e (N.LoadReserved g a w) .1 c) (reserved-spares (m .state .settings) g a w))
       (λ r k. refused-breaks-none r)
 
   pub failed-breaks-none : (g : ℕ) → FailedSc base m e g → brokeAt base m e ≡ 0
   failed-breaks-none g c =
       either
-      (λ v. notice-breaks-none (N.ScFailed g) (notice-exact base m v e (N.ScFailed g) .1 c) (failed-spares 64 g))
+      (λ v. notice-breaks-none (N.ScFailed g) (notice-exact base m v e (N.ScFailed g) .1 c) (failed-spares (m .state .settings) g))
       (λ r k. refused-breaks-none r)
 
   -- ---- bit by bit
 
   module _ (k : ℕ) where
-    held-breaks : (a w : ℕ) → Valid base m → Reached base m e k a w → breaksOf 64 k (noticeAt base m e) (Held a w) ≡ true
+    held-breaks : (a w : ℕ) → Valid base m → Reached base m e k a w → breaksOf (m .state .settings) k (noticeAt base m e) (Held a w) ≡ true
     unfolding breaksOf
     held-breaks a w v (byHart g b n d (inl c) t) =
-        rw (notice-exact base m v e (N.Write g b n) .1 c, ne-eqb g k d, touches-exact b n (setOf 64 a) 64 .1 t)
+        rw (notice-exact base m v e (N.Write g b n) .1 c, ne-eqb g k d, touches-exact b n (setOf (setSize m) a) (setSize m) .1 t)
     held-breaks a w v (byHart g b n d (inr c) t) =
-        rw (notice-exact base m v e (N.ScStored g b n) .1 c, ne-eqb g k d, touches-exact b n (setOf 64 a) 64 .1 t)
+        rw (notice-exact base m v e (N.ScStored g b n) .1 c, ne-eqb g k d, touches-exact b n (setOf (setSize m) a) (setSize m) .1 t)
     held-breaks a w v (byDevice b n c t) = rw (notice-exact base m v e (N.DeviceWrite b n) .1 c, touches-exact b n a w .1 t)
 
-    breaks-held : (n : Notice) → ComesFrom base m e n → (a w : ℕ) → reaches 64 k n a w ≡ true → Reached base m e k a w
+    breaks-held : (n : Notice) → ComesFrom base m e n → (a w : ℕ) → reaches (m .state .settings) k n a w ≡ true → Reached base m e k a w
     breaks-held N.Quiet c a w t = contrary t refl
     breaks-held (N.LoadReserved g b v) c a w t = contrary t refl
     breaks-held (N.ScStored g b n) c a w t =
-        let both = and-both (not (eqb g k)) (touches b n (setOf 64 a) 64) t in
-        byHart g b n (eqb-false g k (not-true _ (both .0))) (inr c) (touches-exact b n (setOf 64 a) 64 .0 (both .1))
+        let both = and-both (not (eqb g k)) (touches b n (setOf (setSize m) a) (setSize m)) t in
+        byHart g b n (eqb-false g k (not-true _ (both .0))) (inr c) (touches-exact b n (setOf (setSize m) a) (setSize m) .0 (both .1))
     breaks-held (N.ScFailed g) c a w t = contrary t refl
     breaks-held (N.Write g b n) c a w t =
-        let both = and-both (not (eqb g k)) (touches b n (setOf 64 a) 64) t in
-        byHart g b n (eqb-false g k (not-true _ (both .0))) (inl c) (touches-exact b n (setOf 64 a) 64 .0 (both .1))
+        let both = and-both (not (eqb g k)) (touches b n (setOf (setSize m) a) (setSize m)) t in
+        byHart g b n (eqb-false g k (not-true _ (both .0))) (inl c) (touches-exact b n (setOf (setSize m) a) (setSize m) .0 (both .1))
     breaks-held (N.DeviceWrite b n) c a w t = byDevice b n c (touches-exact b n a w .0 t)
     breaks-held (N.Yield g) c a w t = contrary t refl
 
@@ -167,7 +168,7 @@ module _ (base : ℕ) (m : Machine) (e : Event) where
     unreached a w r (byDevice b n c t) = c .taken r
 
     breaks-loses : Valid base m → k < m .state .count → (r : Reservation) → reservationOf (m .state) k ≡ r
-        → breaksOf 64 k (noticeAt base m e) r ≡ true → Loses base m e k
+        → breaksOf (m .state .settings) k (noticeAt base m e) r ≡ true → Loses base m e k
     unfolding breaksOf
     breaks-loses v u None q t = contrary t refl
     breaks-loses v u (Held a w) q t =
@@ -179,11 +180,11 @@ module _ (base : ℕ) (m : Machine) (e : Event) where
           reached = breaks-held (noticeAt base m e) (notice-exact base m v e (noticeAt base m e) .0 refl) a w t;
         }
 
-    loses-breaks : Valid base m → Loses base m e k → breaksOf 64 k (noticeAt base m e) (reservationOf (m .state) k) ≡ true
+    loses-breaks : Valid base m → Loses base m e k → breaksOf (m .state .settings) k (noticeAt base m e) (reservationOf (m .state) k) ≡ true
     loses-breaks v l = rw (l .held) (held-breaks (l .addr) (l .width) v (l .reached))
 
-    bit-breaks : Bit k (brokeAt base m e) ↔ ((k < m .state .count) × (breaksOf 64 k (noticeAt base m e) (reservationOf (m .state) k) ≡ true))
-    bit-breaks = rw broke-notice (bit-exact 64 (noticeAt base m e) (m .state .res) (m .state .count) k)
+    bit-breaks : Bit k (brokeAt base m e) ↔ ((k < m .state .count) × (breaksOf (m .state .settings) k (noticeAt base m e) (reservationOf (m .state) k) ≡ true))
+    bit-breaks = rw broke-notice (bit-exact (m .state .settings) (noticeAt base m e) (m .state .res) (m .state .count) k)
 
     -- Bit k is set exactly if hart k is below the count, held a reservation, and the event is a write that breaks it.
     pub broke-exact : Bit k (brokeAt base m e) ↔ Loses base m e k
@@ -223,11 +224,11 @@ module _ (base : ℕ) (m : Machine) (e : Event) where
           held-none (sym held ∙ ap (λ (s : Slot). s .reservation) (List·getD-eq-default (m .state .res) (slot None) l)))
           (split-lt k (length (m .state .res)))
 
-      after : k < m .state .count → reservationOf (nextOf base m e .state) k ≡ observeOf 64 k (noticeAt base m e) (Held a w)
+      after : k < m .state .count → reservationOf (nextOf base m e .state) k ≡ observeOf (m .state .settings) k (noticeAt base m e) (Held a w)
       unfolding nextOf answerOf
-      after u = res-apply 64 (m .state) k (actOf base (m .mem) (m .state) e) u placed ∙ ap (observeOf 64 k (noticeAt base m e)) held
+      after u = res-apply (m .state) k (actOf base (m .mem) (m .state) e) u placed ∙ ap (observeOf (m .state .settings) k (noticeAt base m e)) held
 
-      broken-none : k < m .state .count → breaksOf 64 k (noticeAt base m e) (Held a w) ≡ true → HoldsNone base m e k
+      broken-none : k < m .state .count → breaksOf (m .state .settings) k (noticeAt base m e) (Held a w) ≡ true → HoldsNone base m e k
       unfolding observeOf
       broken-none u t = after u ∙ rw t
 
@@ -236,7 +237,7 @@ module _ (base : ℕ) (m : Machine) (e : Event) where
     broke-holds-none b =
         let l = broke-exact .0 b in
         broken-none (l .addr) (l .width) (l .held) (l .used)
-        (subst (λ (r : Reservation). breaksOf 64 k (noticeAt base m e) r ≡ true) (l .held) (bit-breaks .0 b .1))
+        (subst (λ (r : Reservation). breaksOf (m .state .settings) k (noticeAt base m e) r ≡ true) (l .held) (bit-breaks .0 b .1))
 
     module _ (a w : ℕ) (held : reservationOf (m .state) k ≡ Held a w) where
       -- what concerns hart g alone leaves the others'
@@ -261,15 +262,15 @@ module _ (base : ℕ) (m : Machine) (e : Event) where
       none-ends v u o =
           let n = noticeAt base m e in
           let seen = sym (after a w held u) ∙ o in
-          bool-cases (breaksOf 64 k n (Held a w))
+          bool-cases (breaksOf (m .state .settings) k n (Held a w))
           (λ t. byWrite (broke-exact .1 (breaks-loses v u (Held a w) held t)))
           (λ f. own-ends n (notice-exact base m v e n .0 refl) (rw f at seen))
 
       drops : k < m .state .count → (n : Notice) → noticeAt base m e ≡ n → ownOf k n (Held a w) ≡ None → HoldsNone base m e k
       unfolding observeOf
       drops u n q o =
-          after a w held u ∙ ap (λ (x : Notice). observeOf 64 k x (Held a w)) q
-          ∙ bool-cases (breaksOf 64 k n (Held a w)) (λ t. rw t) (λ f. rw f o)
+          after a w held u ∙ ap (λ (x : Notice). observeOf (m .state .settings) k x (Held a w)) q
+          ∙ bool-cases (breaksOf (m .state .settings) k n (Held a w)) (λ t. rw t) (λ f. rw f o)
 
       ends-none : Valid base m → k < m .state .count → Ended base m e k → HoldsNone base m e k
       unfolding ownOf
@@ -314,7 +315,7 @@ module _ (base : ℕ) (m : Machine) (e : Event) where
 
   -- no bit at or above the count
   pub broke-below : brokeAt base m e < 2 ^ m .state .count
-  broke-below = rw broke-notice (broken-below 64 (noticeAt base m e) (m .state .res) (m .state .count))
+  broke-below = rw broke-notice (broken-below (m .state .settings) (noticeAt base m e) (m .state .res) (m .state .count))
 
   -- a byte holds it
   pub broke-byte : brokeAt base m e < 256
@@ -325,19 +326,19 @@ module _ (base : ℕ) (m : Machine) (e : Event) where
   unfolding answerOf observeAllOf
   broke-outcome = act-outcome (actOf base (m .mem) (m .state) e)
     where
-      none : (n : Notice) → BreaksNone 64 n → brokenOf 64 n (m .state .count) (m .state .res) ≡ 0
-      none n s = spared-broken 64 n s (m .state .count) (m .state .res)
+      none : (n : Notice) → BreaksNone (m .state .settings) n → brokenOf (m .state .settings) n (m .state .count) (m .state .res) ≡ 0
+      none n s = spared-broken (m .state .settings) n s (m .state .count) (m .state .res)
 
-      by-notice : (n : Notice) → brokenOf 64 n (m .state .count) (m .state .res) ≢ 0 → (retiredAs n ≡ O.Retired) ⊎ (retiredAs n ≡ O.ScStored)
+      by-notice : (n : Notice) → brokenOf (m .state .settings) n (m .state .count) (m .state .res) ≢ 0 → (retiredAs n ≡ O.Retired) ⊎ (retiredAs n ≡ O.ScStored)
       by-notice N.Quiet d = inl refl
       by-notice (N.LoadReserved g a w) d = inl refl
       by-notice (N.ScStored g b n) d = inr refl
-      by-notice (N.ScFailed g) d = absurd (d (none (N.ScFailed g) (failed-spares 64 g)))
+      by-notice (N.ScFailed g) d = absurd (d (none (N.ScFailed g) (failed-spares (m .state .settings) g)))
       by-notice (N.Write g b n) d = inl refl
       by-notice (N.DeviceWrite b n) d = inl refl
       by-notice (N.Yield g) d = inl refl
 
-      act-outcome : (act : Act) → brokenAfter 64 (m .state .count) act (m .state .res) ≢ 0 → (outcomeOf act ≡ O.Retired) ⊎ (outcomeOf act ≡ O.ScStored)
+      act-outcome : (act : Act) → brokenAfter (m .state .settings) (m .state .count) act (m .state .res) ≢ 0 → (outcomeOf act ≡ O.Retired) ⊎ (outcomeOf act ≡ O.ScStored)
       act-outcome (refuse number) d = absurd (d refl)
       act-outcome (fault cause value) d = absurd (d refl)
       act-outcome (change h ws to t) d = by-notice (noticeOf h t) d

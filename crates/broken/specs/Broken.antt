@@ -7,7 +7,7 @@ use Prim.Native.Nat.{ℕ, _/_, _%_, _^_, _<_}
 use Rattle.reserve.specs.Range.{Touch, setOf}
 use Rattle.reserve.specs.declared.Reservation.the-variants.{None, Held}
 use Rattle.events.specs.declared.Event.{Event}
-use Rattle.model.specs.Perform.{Machine, reservationOf, brokeAt, nextOf}
+use Rattle.model.specs.Perform.{Machine, setSize, reservationOf, brokeAt, nextOf}
 use Rattle.notices.specs.Happened.{RetiredSc, HartWrites, DeviceWrites, Yields}
 
 -- 02 [3]: "one bit each, bit 0 for hart 0": bit k of a number is set
@@ -18,7 +18,7 @@ module _ (base : ℕ) (m : Machine) (e : Event) (k : ℕ) where
   -- 01: "What breaks a reservation.": the event is a write that breaks the one that hart k's LR of w bytes at a made
   pub data Reached (a w : ℕ) : Type 0 where
     -- "a retired write by another hart that touches a byte of the set, even with the same bytes"
-    byHart : (g b n : ℕ) → g ≢ k → HartWrites base m e g b n → Touch b n (setOf 64 a) 64 → Reached a w
+    byHart : (g b n : ℕ) → g ≢ k → HartWrites base m e g b n → Touch b n (setOf (setSize m) a) (setSize m) → Reached a w
     -- "a device write that touches a byte the LR read"
     byDevice : (b n : ℕ) → DeviceWrites base m e b n → Touch b n a w → Reached a w
 

@@ -41,7 +41,7 @@ module _ (base : ℕ) (mem : List ℕ) (s : State) where
 
   pub small-refusal : refusalOf base (length mem) s ≤ 2
   unfolding refusalOf
-  small-refusal = go (memoryOk base (length mem)) (stateOk base (length mem) s)
+  small-refusal = go (memoryOk (s .settings) base (length mem)) (stateOk base (length mem) s)
     where
       go : (p q : Bool) → cond p (cond q 0 2) 1 ≤ 2
       go true true = omega arith

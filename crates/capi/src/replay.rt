@@ -99,7 +99,7 @@ pub extern "C" fn floecavern_replay(
         r (now (state .exit)) (now (mem .exit)) (now (told .exit))
         ⌝ }
 {
-    if state.len() != 2312 {
+    if state.len() != 2320 {
         return BAD_SIZE;
     }
     if told.len() != 24 {

@@ -57,7 +57,7 @@ fn is_retired(o: Outcome) -> bool
 
 // Puts a state over the bytes if t holds.
 pub fn write_if(t: bool, state: &mut [u8], s: State)
-    requires { ⌜ length (now state) ≡ 2312 ⌝ }
+    requires { ⌜ length (now state) ≡ 2320 ⌝ }
     ensures { λ _. ⌜ now (state .exit) ≡ stateIf t (now (state .entry)) s ⌝ }
 {
     if t {
@@ -72,7 +72,7 @@ fn perform(state: &mut [u8], base: u64, mem: &mut [u8], e: Event, value: &mut [u
         r (now (state .exit)) (now (mem .exit)) (now (value .exit))
         ⌝ }
 {
-    if state.len() != 2312 {
+    if state.len() != 2320 {
         return BAD_SIZE;
     }
     if value.len() != 8 {
@@ -195,7 +195,7 @@ pub extern "C" fn floecavern_run(
         r (now (state .exit)) (now (mem .exit)) (now (ran .exit))
         ⌝ }
 {
-    if state.len() != 2312 {
+    if state.len() != 2320 {
         return BAD_SIZE;
     }
     if ran.len() != 16 {

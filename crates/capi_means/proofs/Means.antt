@@ -18,8 +18,8 @@ use Rattle.machine.specs.Rules.{Shaped}
 use Rattle.machine.specs.State.{refusalOf}
 use Rattle.machine.specs.declared.State.{State}
 use Rattle.layout.specs.Layout.{stateIn, stateOver}
-use Rattle.layout.proofs.Back.{count-in, register-in, pc-in, reservation-in, shaped-in, ranged-in}
-use Rattle.layout.proofs.Back.{count-kept, register-kept, pc-kept, reservation-kept, read-back}
+use Rattle.layout.proofs.Back.{count-in, settings-in, register-in, pc-in, reservation-in, shaped-in, ranged-in}
+use Rattle.layout.proofs.Back.{count-kept, settings-kept, register-kept, pc-kept, reservation-kept, read-back}
 use Rattle.effect.specs.Execute.{regAt}
 use Rattle.events.specs.Events.{checkedOf, eventsOf}
 use Rattle.events.specs.declared.Event.{Event}
@@ -30,7 +30,7 @@ use Rattle.model.specs.Run.{Result, refusedRun, performedRun, performedCount, r
 use Rattle.model.specs.declared.Answer.{Answer}
 use Rattle.model.specs.declared.Outcome.{Outcome}
 use Rattle.model.specs.declared.Outcome.the-variants.{Retired, ScStored, ScFailed, Trap, Refused}
-use Rattle.model.proofs.Frame.{count-next, shaped-next, unused-reg, unused-pc, unused-res, count-run, shaped-run}
+use Rattle.model.proofs.Frame.{count-next, settings-next, shaped-next, unused-reg, unused-pc, unused-res, count-run, settings-run, shaped-run}
 use Rattle.reach.proofs.Ranges.{ranged-answer, ranged-run}
 use Rattle.answers.proofs.Refused.{kind, unretired-keeps}
 use Rattle.capi.specs.Events.{stateIf, codeOf, isRetired, PerformedOn, RunTold, RanOn, HartKept, Called, Calls}
@@ -48,7 +48,7 @@ pub same-hart : (h : ℕ) (state : List ℕ) → HartKept h state state
 same-hart h state = record { registers = λ r k. refl; pc = refl; reservation = refl }
 
 -- a hart that a state doesn't use, and whose registers and pc are those of the bytes, keeps its bytes
-pub over-kept : (state : List ℕ) → length state ≡ 2312 → IsBytes state → (s : State) → Shaped s → (h : ℕ) → h < 8 → s .count ≤ h
+pub over-kept : (state : List ℕ) → length state ≡ 2320 → IsBytes state → (s : State) → Shaped s → (h : ℕ) → h < 8 → s .count ≤ h
     → ((r : ℕ) → regAt (s .x) h r ≡ regAt (stateIn state .x) h r) → getD (s .pc) h 0 ≡ getD (stateIn state .pc) h 0
     → HartKept h state (stateOver state s)
 unfolding regAt
@@ -88,7 +88,7 @@ module _ (e : Event) (base : ℕ) (state mem value : List ℕ) (r : ℕ) (state�
   -- An answer of 256 or more, be it a trap, a refusal or a wrong size, leaves state and memory as they were.
   pub unretired-stays : 256 ≤ r → (state′ ≡ state) × (mem′ ≡ mem)
   unretired-stays h =
-      sized (length state) 2312 (length value) 8
+      sized (length state) 2320 (length value) 8
       (λ l k.
       let t = p .right l k in
       let f = unretired (answer .outcome) (omega (arith, t .answer)) in (
@@ -97,7 +97,7 @@ module _ (e : Event) (base : ℕ) (state mem value : List ℕ) (r : ℕ) (state�
       ))
       (λ w. (p .wrong w .1, p .wrong w .2))
 
-  module _ (whole : length state ≡ 2312) (eight : length value ≡ 8) (bytes : IsBytes state) where
+  module _ (whole : length state ≡ 2320) (eight : length value ≡ 8) (bytes : IsBytes state) where
     -- what holds of the bytes as they were, and of those with the answer's state put over them
     by-answer : (P : List ℕ → Type 0) → (isRetired (answer .outcome) ≡ false → P state) → P (stateOver state (answer .state)) → P state′
     by-answer P f g = subst P (sym (p .right whole eight .bytes)) (go (isRetired (answer .outcome)) refl)
@@ -114,7 +114,7 @@ module _ (e : Event) (base : ℕ) (state mem value : List ℕ) (r : ℕ) (state�
         by-answer (λ (l : List ℕ). stateIn l ≡ answer .state)
         (λ f. sym (unretired-keeps base mem (stateIn state) e (kind-of (answer .outcome) f) .0))
         (read-back state whole (answer .state) (ranged-answer base mem b (stateIn state) e (ranged-in state bytes))
-        (sym (count-next base m e ∙ count-in state))
+        (sym (count-next base m e ∙ count-in state)) (sym (settings-next base m e ∙ settings-in state))
         (λ k u l. ap (λ (c : Slot). c .reservation) (unused-res base m e k (rw (count-next base m e) at u)) ∙ reservation-in state k l))
 
     -- 01: "unused harts' fields aren't looked at and never change": none of their bytes does
@@ -133,6 +133,14 @@ module _ (e : Event) (base : ℕ) (state mem value : List ℕ) (r : ℕ) (state�
         let m : Machine = record { state = stateIn state; mem = mem } in
         by-answer (λ (l : List ℕ). part l 0 8 ≡ part state 0 8) (λ f. refl)
         (count-kept state whole (answer .state) (shaped-next base m e (shaped-in state)))
+
+    -- and so do the settings, which stand from 2312 on
+    pub event-settings : (b n : ℕ) → 2312 ≤ b → part state′ b n ≡ part state b n
+    unfolding nextOf
+    event-settings b n h =
+        let m : Machine = record { state = stateIn state; mem = mem } in
+        by-answer (λ (l : List ℕ). part l b n ≡ part state b n) (λ f. refl)
+        (settings-kept state whole (answer .state) (shaped-next base m e (shaped-in state)) b n h)
 
 -- ---- a run
 
@@ -174,13 +182,13 @@ module _ (body : List ℕ) (budget base : ℕ) (state mem told : List ℕ) (r : 
   -- A refused run and a wrong size leave state and memory as they were.
   pub refused-stays : 256 ≤ r → (state′ ≡ state) × (mem′ ≡ mem)
   refused-stays h =
-      sized (length state) 2312 (length told) 16
+      sized (length state) 2320 (length told) 16
       (λ l k.
       result-all base mem (stateIn state) body budget (λ (a : Result). RunTold a state r state′ mem′ told′ → (state′ ≡ state) × (mem′ ≡ mem))
       (λ number place t. (t .bytes, t .memory)) (λ n es t. absurd (omega (arith, t .answer))) (p .right l k))
       (λ w. (p .wrong w .1, p .wrong w .2))
 
-  module _ (whole : length state ≡ 2312) (sixteen : length told ≡ 16) (bytes : IsBytes state) where
+  module _ (whole : length state ≡ 2320) (sixteen : length told ≡ 16) (bytes : IsBytes state) where
     abbrev before : Machine
     before = record { state = stateIn state; mem = mem }
 
@@ -192,7 +200,7 @@ module _ (body : List ℕ) (budget base : ℕ) (state mem told : List ℕ) (r : 
         (λ n es t.
         ap stateIn (t .bytes)
         ∙ read-back state whole (runOf base before es .state) (ranged-run base before b (ranged-in state bytes) es)
-        (sym (count-run base before es ∙ count-in state))
+        (sym (count-run base before es ∙ count-in state)) (sym (settings-run base before es ∙ settings-in state))
         (λ k u l. ap (λ (c : Slot). c .reservation) (run-res base k before es (rw (count-run base before es) at u)) ∙ reservation-in state k l))
         (p .right whole sixteen)
 
@@ -207,19 +215,25 @@ module _ (body : List ℕ) (budget base : ℕ) (state mem told : List ℕ) (r : 
         (λ i. run-reg base h i before es u) (run-pc base h before es u)))
         (p .right whole sixteen)
 
+    -- a part that no state put over the bytes writes
+    part-kept : (b n : ℕ) → ((s : State) → Shaped s → part (stateOver state s) b n ≡ part state b n) → part state′ b n ≡ part state b n
+    part-kept b n over =
+        result-all base mem (stateIn state) body budget (λ (a : Result). RunTold a state r state′ mem′ told′ → part state′ b n ≡ part state b n)
+        (λ number place t. ap (λ (l : List ℕ). part l b n) (t .bytes))
+        (λ k es t. ap (λ (l : List ℕ). part l b n) (t .bytes) ∙ over (runOf base before es .state) (shaped-run base before (shaped-in state) es))
+        (p .right whole sixteen)
+
     -- and the count keeps its bytes
     pub run-count : part state′ 0 8 ≡ part state 0 8
-    run-count =
-        result-all base mem (stateIn state) body budget (λ (a : Result). RunTold a state r state′ mem′ told′ → part state′ 0 8 ≡ part state 0 8)
-        (λ number place t. ap (λ (l : List ℕ). part l 0 8) (t .bytes))
-        (λ n es t.
-        ap (λ (l : List ℕ). part l 0 8) (t .bytes)
-        ∙ count-kept state whole (runOf base before es .state) (shaped-run base before (shaped-in state) es))
-        (p .right whole sixteen)
+    run-count = part-kept 0 8 (count-kept state whole)
+
+    -- and so do the settings
+    pub run-settings : (b n : ℕ) → 2312 ≤ b → part state′ b n ≡ part state b n
+    run-settings b n h = part-kept b n (λ s shaped. settings-kept state whole s shaped b n h)
 
 -- ---- calls one after another
 
-next : (base : ℕ) (e : Event) (state mem : List ℕ) (r : ℕ) (s m : List ℕ) → length state ≡ 2312 → IsBytes state → IsBytes mem
+next : (base : ℕ) (e : Event) (state mem : List ℕ) (r : ℕ) (s m : List ℕ) → length state ≡ 2320 → IsBytes state → IsBytes mem
     → Called base e state mem r s m
     → _≡_ {A = Machine} (record { state = stateIn s; mem = m }) (nextOf base (record { state = stateIn state; mem = mem }) e)
 unfolding nextOf
@@ -229,7 +243,7 @@ next base e state mem r s m whole bytes b c =
     (event-means e base state mem (c .value) r s m (c .value′) p whole (c .eight) bytes b) (p .right whole (c .eight) .memory)
 
 -- Calls one after another perform events one after another: what the bytes mean at the end is the machine after them.
-pub calls-mean : (base : ℕ) (es : List Event) (state mem state′ mem′ : List ℕ) → length state ≡ 2312 → IsBytes state → IsBytes mem
+pub calls-mean : (base : ℕ) (es : List Event) (state mem state′ mem′ : List ℕ) → length state ≡ 2320 → IsBytes state → IsBytes mem
     → Calls base es state mem state′ mem′
     → _≡_ {A = Machine} (record { state = stateIn state′; mem = mem′ }) (runOf base (record { state = stateIn state; mem = mem }) es)
 unfolding Calls runOf

@@ -13,11 +13,11 @@ use Rattle.reserve.specs.declared.Slot.{Slot}
 use Rattle.machine.specs.State.{refusalOf}
 use Rattle.machine.specs.declared.State.{State}
 use Rattle.layout.specs.Layout.{stateIn, stateOver}
-use Rattle.layout.proofs.Back.{count-in, reservation-in, shaped-in, ranged-in, count-kept, read-back}
+use Rattle.layout.proofs.Back.{count-in, settings-in, reservation-in, shaped-in, ranged-in, count-kept, settings-kept, read-back}
 use Rattle.events.specs.declared.Event.{Event}
 use Rattle.events.specs.declared.Event.the-variants.{Step}
 use Rattle.model.specs.Perform.{Machine, runOf}
-use Rattle.model.proofs.Frame.{count-run, shaped-run}
+use Rattle.model.proofs.Frame.{count-run, settings-run, shaped-run}
 use Rattle.reach.proofs.Ranges.{ranged-run}
 use Rattle.steplog.specs.declared.Reading.{Reading}
 use Rattle.steplog.specs.declared.Reading.the-variants.{Form, Read}
@@ -103,7 +103,7 @@ module _ (log : List ℕ) (base : ℕ) (state mem told : List ℕ) (r : ℕ) (st
   -- A refused replay and a wrong size leave state and memory as they were. (A stop, which is below 512, does not.)
   pub refused-replay-stays : 512 ≤ r → (state′ ≡ state) × (mem′ ≡ mem)
   refused-replay-stays h =
-      sized (length state) 2312 (length told) 24
+      sized (length state) 2320 (length told) 24
       (λ l k.
       let t = p .right l k in
       let f = refused-code (result .replayed .stop) (small-replay base mem (stateIn state) log) (omega (arith, t .answer)) in (
@@ -112,7 +112,7 @@ module _ (log : List ℕ) (base : ℕ) (state mem told : List ℕ) (r : ℕ) (st
       ))
       (λ w. (p .wrong w .1, p .wrong w .2))
 
-  module _ (whole : length state ≡ 2312) (room : length told ≡ 24) (bytes : IsBytes state) where
+  module _ (whole : length state ≡ 2320) (room : length told ≡ 24) (bytes : IsBytes state) where
     abbrev before : Machine
     before = record { state = stateIn state; mem = mem }
 
@@ -134,7 +134,7 @@ module _ (log : List ℕ) (base : ℕ) (state mem told : List ℕ) (r : ℕ) (st
         by-run (λ (l : List ℕ). stateIn l ≡ result .replayed .state) (λ f. sym (unreplayed base mem (stateIn state) log f .0))
         (λ es e.
         read-back state whole (runOf base before es .state) (ranged-run base before b (ranged-in state bytes) es)
-        (sym (count-run base before es ∙ count-in state))
+        (sym (count-run base before es ∙ count-in state)) (sym (settings-run base before es ∙ settings-in state))
         (λ k u l. ap (λ (c : Slot). c .reservation) (run-res base k before es (rw (count-run base before es) at u)) ∙ reservation-in state k l)
         ∙ sym e)
 
@@ -151,3 +151,9 @@ module _ (log : List ℕ) (base : ℕ) (state mem told : List ℕ) (r : ℕ) (st
     replay-count =
         by-run (λ (l : List ℕ). part l 0 8 ≡ part state 0 8) (λ f. refl)
         (λ es e. count-kept state whole (runOf base before es .state) (shaped-run base before (shaped-in state) es))
+
+    -- and so do the settings
+    pub replay-settings : (b n : ℕ) → 2312 ≤ b → part state′ b n ≡ part state b n
+    replay-settings b n h =
+        by-run (λ (l : List ℕ). part l b n ≡ part state b n) (λ f. refl)
+        (λ es e. settings-kept state whole (runOf base before es .state) (shaped-run base before (shaped-in state) es) b n h)

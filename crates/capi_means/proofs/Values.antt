@@ -29,7 +29,7 @@ retired-value (Refused number) broke h = absurd (omega arith)
 pub tells-losers : (e : Event) (base : ℕ) (state mem value : List ℕ) (r : ℕ) (state′ mem′ value′ : List ℕ)
     → PerformedOn e base state mem value r state′ mem′ value′ → TellsLosers e base state mem r value′
 tells-losers e base state mem value r state′ mem′ value′ p h k =
-    sized (length state) 2312 (length value) 8
+    sized (length state) 2320 (length value) 8
     (λ l n.
     let m : Machine = record { state = stateIn state; mem = mem } in
     let t = p .right l n in

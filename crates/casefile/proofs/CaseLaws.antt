@@ -11,14 +11,17 @@ use Rattle.word.specs.Memory.{part}
 use Rattle.word.proofs.TestLaws.{bool-cases}
 use Rattle.word.proofs.ChooseLaws.{cond-all}
 use Rattle.word.proofs.MemoryLaws.{length-part}
+use Rattle.settings.specs.Settings.{defaults}
+use Rattle.settings.proofs.SettingsLaws.{defaults-allowed}
 use Rattle.machine.specs.Rules.{Shaped}
 use Rattle.machine.specs.State.{refusalOf}
+use Rattle.machine.specs.declared.State.{State}
 use Rattle.machine.proofs.StateLaws.{refusal-0}
 use Rattle.events.specs.Events.{goodEvent, firstBad, checkedOf, Within}
 use Rattle.events.specs.declared.Checked.{Checked}
 use Rattle.events.specs.declared.Checked.the-variants.{Good, Bad}
 use Rattle.casefile.specs.Table.{tableOf, InsideFile}
-use Rattle.casefile.specs.Harts.{baseOf, countOf, hartsOk, stateOf}
+use Rattle.casefile.specs.Harts.{baseOf, countOf, hartsOk, stateOf, noState}
 use Rattle.casefile.specs.Case.{refusedCase, lengthOk, checkedCase, bodiesOf, partsOf, caseOf, SoundCase, SoundCaseAs}
 use Rattle.casefile.specs.declared.Found.{Found}
 use Rattle.casefile.specs.declared.Found.the-variants.{Refused, Bodies}
@@ -69,7 +72,7 @@ module _ (file : List ℕ) (m e : ℕ) (least : 40 ≤ m) (next : m ≤ e) (last
         last,
         most,
         refusal-0 (baseOf harts) (e - m) (stateOf (countOf harts) harts) .1
-            ((rw some at q .0, rw some at q .1, rw some at q .2, r .4, r .5), harts-state harts (baseOf harts) (e - m) r),
+            ((defaults-allowed, (rw some at q .0, rw some at q .1, rw some at q .2, r .4, r .5)), harts-state harts (baseOf harts) (e - m) r),
         rw some at c,
         rw rest at w,
       )
@@ -84,17 +87,27 @@ module _ (file : List ℕ) (m e : ℕ) (least : 40 ≤ m) (next : m ≤ e) (last
       (λ l. rw (h, l) (omega arith, omega arith, omega arith)))
       (λ h. rw h (omega arith, omega arith, omega arith))
 
-checked-shaped : (m e : ℕ) (harts : List ℕ) (r : Checked) → Shaped (checkedCase m e harts r .state)
-checked-shaped m e harts (Bad place) = none-shaped
-checked-shaped m e harts Good = state-shaped harts (countOf harts)
+-- what holds of the state of a refused file and of that of every harts body holds of a case's
+module _ (P : State → Type 0) (none : P noState) (some : (harts : List ℕ) → P (stateOf (countOf harts) harts)) where
+  checked-state : (m e : ℕ) (harts : List ℕ) (r : Checked) → P (checkedCase m e harts r .state)
+  checked-state m e harts (Bad place) = none
+  checked-state m e harts Good = some harts
 
-bodies-shaped : (m e : ℕ) (harts memory events : List ℕ) → Shaped (bodiesOf m e harts memory events .state)
-unfolding bodiesOf
-bodies-shaped m e harts memory events =
-    cond-all (λ c. Shaped (c .state)) (hartsOk harts) _ (refusedCase 9 40)
-    (cond-all (λ c. Shaped (c .state)) (lengthOk (length memory)) _ (refusedCase 10 m)
-    (checked-shaped m e harts (checkedOf (countOf harts) (baseOf harts) (length memory) events)) none-shaped)
-    none-shaped
+  bodies-state : (m e : ℕ) (harts memory events : List ℕ) → P (bodiesOf m e harts memory events .state)
+  unfolding bodiesOf
+  bodies-state m e harts memory events =
+      cond-all (λ c. P (c .state)) (hartsOk harts) _ (refusedCase 9 40)
+      (cond-all (λ c. P (c .state)) (lengthOk (length memory)) _ (refusedCase 10 m)
+      (checked-state m e harts (checkedOf (countOf harts) (baseOf harts) (length memory) events)) none)
+      none
+
+  case-state : (file : List ℕ) → P (caseOf file .state)
+  unfolding caseOf
+  case-state file = go (tableOf file)
+    where
+      go : (f : Found) → P (partsOf file f .state)
+      go (Refused number place) = none
+      go (Bodies m e) = bodies-state m e (part file 40 (m - 40)) (part file m (e - m)) (drop e file)
 
 -- a refusal's place is in the file; a case's bodies are, and no run of it is refused
 pub case-sound : (file : List ℕ) → SoundCase file (caseOf file)
@@ -107,12 +120,12 @@ case-sound file = go (tableOf file) (table-inside file)
 
 -- and the arrays of its state have the lengths that their types say
 pub case-shaped : (file : List ℕ) → Shaped (caseOf file .state)
-unfolding caseOf
-case-shaped file = go (tableOf file)
-  where
-    go : (f : Found) → Shaped (partsOf file f .state)
-    go (Refused number place) = none-shaped
-    go (Bodies m e) = bodies-shaped m e (part file 40 (m - 40)) (part file m (e - m)) (drop e file)
+case-shaped = case-state Shaped none-shaped (λ harts. state-shaped harts (countOf harts))
+
+-- a read case has the default settings: 02 [5], "default 64"
+pub case-settings : (file : List ℕ) → caseOf file .state .settings ≡ defaults
+unfolding noState stateOf
+case-settings = case-state (λ s. s .settings ≡ defaults) refl (λ harts. refl)
 
 pub read-sound : (file : List ℕ) (r : Case) → r ≡ caseOf file → (r ≡ caseOf file) × SoundCase file r
 read-sound file r h = (h, subst (λ (c : Case). SoundCase file c) (sym h) (case-sound file))

@@ -18,11 +18,11 @@ use Rattle.casefile.specs.declared.Found.{Found}
 use Rattle.casefile.specs.declared.Found.the-variants.{Refused, Bodies}
 use Rattle.casefile.specs.declared.Case.{Case}
 
--- a refused file: base and state are zero
+-- a refused file: base 0, and no harts
 abbrev pub refusedCase : ℕ → ℕ → Case
 refusedCase number place = record { found = Refused number place; base = 0; state = noState }
 
--- "10: memory body length": "64 to 1,048,576 bytes, a multiple of 64"
+-- "10: memory body length": "64 to 1,048,576 bytes, a multiple of 64": a read case has the default set size, 64
 unfoldable pub lengthOk : ℕ → Bool
 lengthOk n = leb 64 n && (leb n 1048576 && eqb (n % 64) 0)
 

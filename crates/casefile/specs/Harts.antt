@@ -9,6 +9,7 @@ use lib.ListN.{length, replicate}
 use Rattle.word.specs.Bytes.{le}
 use Rattle.word.specs.Memory.{part}
 use Rattle.word.specs.Each.{each, allBelow}
+use Rattle.settings.specs.Settings.{defaults}
 use Rattle.reserve.specs.Reserve.{slot}
 use Rattle.reserve.specs.declared.Reservation.the-variants.{None}
 use Rattle.machine.specs.declared.State.{State}
@@ -31,7 +32,7 @@ abbrev pub pcOf : List ℕ → ℕ → ℕ
 pcOf body h = le (part body (16 + 256 * h + 248) 8)
 
 -- "9: harts body, base included": none of its fields is wrong. The body has as many bytes as its count says, 1 to 8 harts, zero in its zero
--- field, a base that is a multiple of 64 and at most 2 ^ 40, and each pc is a multiple of 4
+-- field, a base that is a multiple of 64 (a read case has the default set size, 64) and at most 2 ^ 40, and each pc is a multiple of 4
 unfoldable pub hartsOk : List ℕ → Bool
 hartsOk body =
     eqb (length body) (16 + 256 * countOf body)
@@ -51,16 +52,17 @@ HartsRules body =
     × (baseOf body ≤ 2 ^ 40)
     × ((h : ℕ) → h < countOf body → pcOf body h % 4 ≡ 0)
 
--- a machine without harts, all zero
+-- a machine without harts, with the default settings, all else zero
 unfoldable pub noState : State
-noState = record { count = 0; x = replicate 256 0; pc = replicate 8 0; res = replicate 8 (slot None) }
+noState = record { count = 0; settings = defaults; x = replicate 256 0; pc = replicate 8 0; res = replicate 8 (slot None) }
 
 -- the state that a harts body is: x of register r of hart h stands at 32 * h + r. What belongs to harts at or above the count is zero. "A read
--- case has no reservations."
+-- case has no reservations." Of a set's size it says nothing: 02 [5], "default 64"
 unfoldable pub stateOf : ℕ → List ℕ → State
 stateOf count body =
     record {
       count = count;
+      settings = defaults;
       x = each (λ i _. registerOf body (i / 32) (i % 32)) (32 * count) (replicate 256 0);
       pc = each (λ h _. pcOf body h) count (replicate 8 0);
       res = replicate 8 (slot None);

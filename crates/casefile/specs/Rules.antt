@@ -39,7 +39,7 @@ memoryIn file = part file (fieldAt file 20) (fieldAt file 24)
 abbrev pub eventsIn : List ℕ → List ℕ
 eventsIn file = part file (fieldAt file 32) (fieldAt file 36)
 
--- "10: memory body length": "64 to 1,048,576 bytes, a multiple of 64"
+-- "10: memory body length": "64 to 1,048,576 bytes, a multiple of 64": a read case has the default set size, 64
 abbrev pub LengthRules : ℕ → Type 0
 LengthRules n = (64 ≤ n) × (n ≤ 1048576) × (n % 64 ≡ 0)
 

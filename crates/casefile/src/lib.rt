@@ -179,7 +179,13 @@ fn read_state(body: &[u8], count: usize) -> State
     let res = [Slot {
         reservation: Reservation::None,
     }; 8];
-    State { count, x, pc, res }
+    State {
+        count,
+        settings: settings::defaults(),
+        x,
+        pc,
+        res,
+    }
 }
 
 // Whether refusal 10 does not name a memory body.
@@ -201,6 +207,7 @@ fn refused(number: usize, place: usize) -> Case
     }; 8];
     let state = State {
         count: 0,
+        settings: settings::defaults(),
         x,
         pc,
         res,

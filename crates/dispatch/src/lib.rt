@@ -13,8 +13,10 @@ use isa::Instr;
 use isa::StoreOp;
 use reserve::Notice;
 use reserve::Reservation;
+use settings::Settings;
 ghost use mathlib.Core.Path.{_≡_};
 ghost use Prim.Native.Nat.{_<_};
+ghost use Rattle.settings.specs.Settings.{SizeRules};
 ghost use Rattle.reserve.specs.Reserve.{coversOf};
 ghost use Rattle.alu.specs.Pair.{joined};
 ghost use Rattle.effect.specs.Effect.{doneOf, Meets, offset};
@@ -59,12 +61,13 @@ fn atomic(
     h: usize,
     pc: u64,
     base: u64,
+    settings: Settings,
     res: Reservation,
     mem: &mut [u8],
 ) -> Done
-    requires { ⌜ h < 8 ⌝ }
+    requires { ⌜ (h < 8) × SizeRules settings ⌝ }
     ensures { λ r. ⌜
-        Meets h (execAtomic 64 m (regAt (now (x .entry)) h) pc base (now (mem .entry)) (coversOf 64 res))
+        Meets h (execAtomic 64 m (regAt (now (x .entry)) h) pc base (now (mem .entry)) (coversOf settings res))
         base (now (mem .entry)) r (now (mem .exit))
         ⌝ }
 {
@@ -75,7 +78,7 @@ fn atomic(
     let a = reg(x, h, m.rs1);
     match op {
         AtomicOp::Lr => atomic::lr(w, rd, a, pc, base, h, mem),
-        AtomicOp::Sc => atomic::sc(w, rd, a, reg(x, h, rs2), pc, base, h, res, mem),
+        AtomicOp::Sc => atomic::sc(w, rd, a, reg(x, h, rs2), pc, base, h, settings, res, mem),
         AtomicOp::Cas => atomic::cas(w, rd, a, reg(x, h, rd), reg(x, h, rs2), pc, base, h, mem),
         AtomicOp::CasPair => atomic::cas_pair(
             rd,
@@ -130,12 +133,13 @@ fn execute(
     h: usize,
     pc: u64,
     base: u64,
+    settings: Settings,
     res: Reservation,
     mem: &mut [u8],
 ) -> Done
-    requires { ⌜ h < 8 ⌝ }
+    requires { ⌜ (h < 8) × SizeRules settings ⌝ }
     ensures { λ r. ⌜
-        Meets h (execute 64 i word (regAt (now (x .entry)) h) pc base (now (mem .entry)) (coversOf 64 res))
+        Meets h (execute 64 i word (regAt (now (x .entry)) h) pc base (now (mem .entry)) (coversOf settings res))
         base (now (mem .entry)) r (now (mem .exit))
         ⌝ }
 {
@@ -156,7 +160,7 @@ fn execute(
         Instr::Fence { .. } => retire(0, 0, pc, Notice::Quiet),
         Instr::Ecall => Done::Trap { cause: 8, value: 0 },
         Instr::Ebreak => Done::Trap { cause: 3, value: 0 },
-        Instr::Amo(m) => atomic(m, x, h, pc, base, res, mem),
+        Instr::Amo(m) => atomic(m, x, h, pc, base, settings, res, mem),
     }
 }
 
@@ -167,14 +171,15 @@ pub fn execute_word(
     h: usize,
     pc: u64,
     base: u64,
+    settings: Settings,
     res: Reservation,
     mem: &mut [u8],
 ) -> Done
-    requires { ⌜ h < 8 ⌝ }
+    requires { ⌜ (h < 8) × SizeRules settings ⌝ }
     ensures { λ r. ⌜
-        Meets h (executeWord 64 word (regAt (now (x .entry)) h) pc base (now (mem .entry)) (coversOf 64 res))
+        Meets h (executeWord 64 word (regAt (now (x .entry)) h) pc base (now (mem .entry)) (coversOf settings res))
         base (now (mem .entry)) r (now (mem .exit))
         ⌝ }
 {
-    execute(isa::decode(word), word, x, h, pc, base, res, mem)
+    execute(isa::decode(word), word, x, h, pc, base, settings, res, mem)
 }

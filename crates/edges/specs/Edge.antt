@@ -6,6 +6,7 @@ use Prim.Native.Nat.{ℕ, _+_}
 use lib.ListN.{set, replicate}
 use Rattle.word.specs.Bytes.{le, toLe}
 use Rattle.word.specs.Memory.{part, splice}
+use Rattle.settings.specs.Settings.{defaults}
 use Rattle.reserve.specs.Reserve.{slot}
 use Rattle.reserve.specs.declared.Reservation.the-variants.{None}
 use Rattle.isa.specs.Decode.{decodeOf}
@@ -32,8 +33,8 @@ pub data Edge : Type 0 where
   checks : List ℕ → LoopAnswer → Edge
   -- a word is this instruction
   decodes : ℕ → Instr → Edge
-  -- a hart with these words from address 0 on, these registers and these bytes in memory, and no reservation: the events are answered so, and
-  -- leave these registers and these bytes
+  -- a hart with these words from address 0 on, these registers and these bytes in memory, the default settings and no reservation: the events are
+  -- answered so, and leave these registers and these bytes
   runs : List ℕ → List Register → List Bytes → List Event → List Outcome → List Register → List Bytes → Edge
 
 -- "Memory is 256 bytes at base 0."
@@ -52,7 +53,7 @@ withRegisters ((x r is v) ∷ rest) l = withRegisters rest (set l r v)
 abbrev pub start : List ℕ → List Register → List Bytes → Machine
 start words registers bytes =
     record {
-      state = record { count = 1; x = withRegisters registers (replicate 256 0); pc = replicate 8 0; res = replicate 8 (slot None) };
+      state = record { count = 1; settings = defaults; x = withRegisters registers (replicate 256 0); pc = replicate 8 0; res = replicate 8 (slot None) };
       mem = withBytes bytes (withWords 0 words (replicate 256 0));
     }
 

@@ -3,10 +3,11 @@ use Prim.Native.Nat.{ℕ, _+_, _*_, _/_, _%_, _^_}
 use mathlib.Core.Bool.{Bool, true, false, cond, _&&_}
 use mathlib.Core.List.{List}
 use lib.Dec.{ltb, leb, eqb}
-use lib.ListN.{getD, set, replicate}
+use lib.ListN.{length, getD, set, replicate}
 use Rattle.word.specs.Bytes.{le, toLe}
 use Rattle.word.specs.Each.{each}
 use Rattle.word.specs.Memory.{part, splice}
+use Rattle.settings.specs.Settings.{defaults}
 use Rattle.reserve.specs.Reserve.{slot}
 use Rattle.reserve.specs.declared.Reservation.{Reservation}
 use Rattle.reserve.specs.declared.Reservation.the-variants.{None, Held}
@@ -56,10 +57,20 @@ slotsOf count x = each (λ h _. slotAt count x h) 8 (replicate 8 (slot None))
 -- the default state of count harts, and the default case
 unfoldable pub startOf : ℕ → ℕ → State
 startOf count base =
-    record { count = count; x = registersOf count; pc = pcsOf count base (registersOf count); res = slotsOf count (registersOf count) }
+    record {
+      count = count;
+      settings = defaults;
+      x = registersOf count;
+      pc = pcsOf count base (registersOf count);
+      res = slotsOf count (registersOf count);
+    }
 
 unfoldable pub firstOf : ℕ → Case
 firstOf number = record { number = number; base = 4096; len = 256; state = startOf 2 4096 }
+
+-- a state of count harts without a reservation where all else is zero, also of unused harts
+unfoldable pub blankOf : ℕ → State
+blankOf count = record { count = count; settings = defaults; x = replicate 256 0; pc = replicate 8 0; res = replicate 8 (slot None) }
 
 -- ---- an item
 
@@ -76,23 +87,35 @@ itemA item = le (part item 8 8)
 abbrev pub itemB : List ℕ → ℕ
 itemB item = le (part item 16 8)
 
+-- a state with another setting: number 0 is the size of a reservation's set, and other numbers change nothing
+abbrev pub withSetting : State → ℕ → ℕ → State
+withSetting s n v =
+    cond (eqb n 0) (record { count = s .count; settings = record { size = v }; x = s .x; pc = s .pc; res = s .res })
+    s
+
 -- a state with another register, pc or reservation
 abbrev pub withRegister : State → ℕ → ℕ → State
-withRegister s i v = record { count = s .count; x = set (s .x) (i % 256) v; pc = s .pc; res = s .res }
+withRegister s i v = record { count = s .count; settings = s .settings; x = set (s .x) (i % 256) v; pc = s .pc; res = s .res }
 
 abbrev pub withPc : State → ℕ → ℕ → State
-withPc s h v = record { count = s .count; x = s .x; pc = set (s .pc) (h % 8) v; res = s .res }
+withPc s h v = record { count = s .count; settings = s .settings; x = s .x; pc = set (s .pc) (h % 8) v; res = s .res }
 
 abbrev pub withSlot : State → ℕ → ℕ → ℕ → State
-withSlot s h addr width = record { count = s .count; x = s .x; pc = s .pc; res = set (s .res) (h % 8) (slot (Held addr width)) }
+withSlot s h addr width =
+    record { count = s .count; settings = s .settings; x = s .x; pc = s .pc; res = set (s .res) (h % 8) (slot (Held addr width)) }
 
--- kind 2 starts a state of so many harts, 3 sets a register, 4 a pc, and another kind a reservation
+-- the default state, or a blank one
+unfoldable pub begunOf : ℕ → ℕ → ℕ → State
+begunOf count base blank = cond (eqb blank 0) (startOf count base) (blankOf count)
+
+-- kind 0 sets a setting, 2 starts a state of so many harts with the default settings, 3 sets a register, 4 a pc, and another kind a reservation
 unfoldable pub hartsOf : State → ℕ → List ℕ → State
 hartsOf s base item =
-    cond (eqb (itemKind item) 2) (startOf (itemA item) base)
+    cond (eqb (itemKind item) 0) (withSetting s (itemN item) (itemA item))
+    (cond (eqb (itemKind item) 2) (begunOf (itemA item) base (itemB item))
     (cond (eqb (itemKind item) 3) (withRegister s (itemN item) (itemA item))
     (cond (eqb (itemKind item) 4) (withPc s (itemN item) (itemA item))
-    (withSlot s (itemN item) (itemA item) (itemB item))))
+    (withSlot s (itemN item) (itemA item) (itemB item)))))
 
 -- a case after an item that is no event: kind 1 sets base and length, 6 leaves the case
 unfoldable pub patchOf : Case → List ℕ → Case
@@ -105,9 +128,15 @@ patchOf c item =
 unfoldable pub bytesAt : List ℕ → ℕ → ℕ → ℕ → List ℕ
 bytesAt mem at n v = cond (leb at 8184) (cond (leb n 8) (splice mem at (toLe n v)) mem) mem
 
--- the memory after an item that is no event: kind 6 writes bytes
+-- zeros in place of all bytes, or the bytes as they are
+unfoldable pub wiped : ℕ → List ℕ → List ℕ
+wiped wipe mem = cond (eqb wipe 0) mem (each (λ i _. 0) (length mem) mem)
+
+-- the memory after an item that is no event: kind 1 may wipe it, 6 writes bytes
 unfoldable pub memoryAfter : List ℕ → List ℕ → List ℕ
-memoryAfter mem item = cond (eqb (itemKind item) 6) (bytesAt mem (itemA item) (itemN item) (itemB item)) mem
+memoryAfter mem item =
+    cond (eqb (itemKind item) 1) (wiped (itemN item) mem)
+    (cond (eqb (itemKind item) 6) (bytesAt mem (itemA item) (itemN item) (itemB item)) mem)
 
 -- the event that an item of kind 7, 8 or 9 is
 unfoldable pub eventIn : List ℕ → Event

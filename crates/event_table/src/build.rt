@@ -8,8 +8,8 @@ ghost use mathlib.Core.Bool.{cond};
 ghost use Prim.Native.Nat.{_≤_, min};
 ghost use lib.ListN.{length};
 ghost use Rattle.word.specs.Each.{each};
-ghost use Rattle.event_table.specs.Build.{filler, registerAs, registersOf, pcsOf, slotAs, slotsOf, startOf, firstOf, itemN, itemA, itemB};
-ghost use Rattle.event_table.specs.Build.{withRegister, withPc, withSlot, hartsOf, bytesAt, patchOf, memoryAfter};
+ghost use Rattle.event_table.specs.Build.{filler, registerAs, registersOf, pcsOf, slotAs, slotsOf, startOf, blankOf, begunOf, firstOf, itemN, itemA, itemB};
+ghost use Rattle.event_table.specs.Build.{withSetting, withRegister, withPc, withSlot, hartsOf, wiped, bytesAt, patchOf, memoryAfter};
 
 // number counts the cases before this one.
 pub struct Case {
@@ -54,6 +54,20 @@ pub fn fill(mem: &mut [u8], len: usize)
     let mut i = 0;
     while i < len {
         mem[i] = ((i * 167 + 13) % 256) as u8;
+        i += 1;
+    }
+}
+
+// Puts zeros in place of all bytes, unless wipe is 0.
+fn wipe_memory(mem: &mut [u8], wipe: u64)
+    ensures { λ _. ⌜ now (mem .exit) ≡ wiped wipe (now (mem .entry)) ⌝ }
+{
+    if wipe == 0 {
+        return;
+    }
+    let mut i: usize = 0;
+    while i < mem.len() {
+        mem[i] = 0;
         i += 1;
     }
 }
@@ -149,7 +163,38 @@ fn start(count: usize, base: u64) -> State
     let x = registers(count);
     let pc = pcs(count, base, &x);
     let res = slots(count, &x);
-    State { count, x, pc, res }
+    let settings = settings::defaults();
+    State {
+        count,
+        settings,
+        x,
+        pc,
+        res,
+    }
+}
+
+// A state of count harts without a reservation where all else is zero, also of unused harts.
+fn blank(count: usize) -> State
+    ensures { λ r. ⌜ r ≡ blankOf count ⌝ }
+{
+    let none = slot(true, 0, 0);
+    State {
+        count,
+        settings: settings::defaults(),
+        x: [0; 256],
+        pc: [0; 8],
+        res: [none; 8],
+    }
+}
+
+// The default state, or a blank one.
+fn begin(count: usize, base: u64, empty: u64) -> State
+    ensures { λ r. ⌜ r ≡ begunOf count base empty ⌝ }
+{
+    if empty == 0 {
+        return start(count, base);
+    }
+    blank(count)
 }
 
 // The default case, before any item.
@@ -163,6 +208,20 @@ pub fn first(number: u64) -> Case
         len: 256,
         state,
     }
+}
+
+// Setting 0 is the size of a reservation's set; there is no other yet.
+fn set_setting(s: State, n: u64, v: u64) -> State
+    ensures { λ r. ⌜ r ≡ withSetting s n v ⌝ }
+{
+    let mut settings = s.settings;
+    match n {
+        0 => settings.size = v,
+        _ => {}
+    }
+    let mut t = s;
+    t.settings = settings;
+    t
 }
 
 fn set_register(s: State, i: usize, v: u64) -> State
@@ -200,13 +259,14 @@ fn set_bytes(mem: &mut [u8; 8192], at: usize, n: usize, v: u64)
     }
 }
 
-// A state after an item of kind 2 to 5.
+// A state after an item of kind 0 or 2 to 5. One of kind 2 puts the default settings back, so one of kind 0 has to come behind it.
 fn harts(s: State, base: u64, item: &[u8; 24]) -> State
     ensures { λ r. ⌜ r ≡ hartsOf s base (now (item .entry)) ⌝ }
 {
     let place = n(item) as usize;
     match item[0] {
-        2 => start(a(item) as usize, base),
+        0 => set_setting(s, n(item), a(item)),
+        2 => begin(a(item) as usize, base, b(item)),
         3 => set_register(s, place, a(item)),
         4 => set_pc(s, place, a(item)),
         _ => set_slot(s, place, a(item), b(item)),
@@ -220,6 +280,7 @@ pub fn patch(c: Case, mem: &mut [u8; 8192], item: &[u8; 24]) -> Case
     let number = c.number;
     let s = c.state;
     if item[0] == 1 {
+        wipe_memory(mem, n(item));
         return Case {
             number,
             base: a(item),

@@ -76,7 +76,7 @@ fn take(c: Case, mem: &mut [u8; 8192], item: &[u8; 24]) -> Case
         return build::patch(c, mem, item);
     }
     perform(c, mem, event(item));
-    build::fill(mem, build::within(c.len));
+    build::fill(mem, 8192);
     build::first(std::num::wrapping_add_u64(c.number, 1))
 }
 

@@ -4,6 +4,7 @@ use machine::State;
 use model::Outcome;
 use reserve::Reservation;
 use reserve::Slot;
+use settings::Settings;
 use word::bytes::load_at;
 ghost use mathlib.Core.Path.{_≡_};
 ghost use Prim.Native.Nat.{_≤_};
@@ -42,12 +43,17 @@ fn harts(broke: u64) {
     }
 }
 
-fn count(before: usize, after: usize) {
+// A number in decimal, if it is another after the event.
+fn number_line(label: &[u8], before: u64, after: u64) {
     if before != after {
-        out::text(b"count ");
-        out::decimal(after as u64);
+        out::text(label);
+        out::decimal(after);
         out::text(b"\n");
     }
+}
+
+fn settings(before: Settings, after: Settings) {
+    number_line(b"size ", before.size, after.size);
 }
 
 fn register(i: usize, before: u64, after: u64) {
@@ -138,7 +144,10 @@ fn slots(before: [Slot; 8], after: [Slot; 8]) {
 }
 
 pub fn state(before: State, after: State) {
-    count(before.count, after.count);
+    number_line(b"count ", before.count as u64, after.count as u64);
+    let a = before.settings;
+    let b = after.settings;
+    settings(a, b);
     let x = before.x;
     let y = after.x;
     registers(&x, &y);

@@ -10,12 +10,14 @@ use isa::bits_of;
 use isa::bytes_of;
 use reserve::Notice;
 use reserve::Reservation;
+use settings::Settings;
 use word::bytes::load_at;
 use word::bytes::store_at;
 use word::num::sign_extend;
 use word::num::wrap;
 ghost use mathlib.Core.Path.{_≡_};
 ghost use mathlib.Core.Bool.{cond};
+ghost use Rattle.settings.specs.Settings.{SizeRules};
 ghost use Rattle.reserve.specs.Reserve.{coversOf};
 ghost use Rattle.alu.specs.Pair.{joined};
 ghost use Rattle.effect.specs.Effect.{retired, doneOf, Meets, nextPc};
@@ -43,7 +45,7 @@ pub fn lr(w: Width, rd: usize, a: u64, pc: u64, base: u64, h: usize, mem: &[u8])
     )
 }
 
-// Checked as a store is, whatever the hart's reservation res; then the reservation decides.
+// Checked as a store is, whatever the hart's reservation res; then the set of the reservation decides, at a size that is allowed.
 pub fn sc(
     w: Width,
     rd: usize,
@@ -52,17 +54,19 @@ pub fn sc(
     pc: u64,
     base: u64,
     h: usize,
+    settings: Settings,
     res: Reservation,
     mem: &mut [u8],
 ) -> Done
-    ensures { λ r. ⌜ Meets h (execSc 64 w rd a v pc base (now (mem .entry)) (coversOf 64 res)) base (now (mem .entry)) r (now (mem .exit)) ⌝ }
+    requires { ⌜ SizeRules settings ⌝ }
+    ensures { λ r. ⌜ Meets h (execSc 64 w rd a v pc base (now (mem .entry)) (coversOf settings res)) base (now (mem .entry)) r (now (mem .exit)) ⌝ }
 {
     let n = bytes_of(w);
     let cause = fault(6, 7, a, n, base, mem.len());
     if cause != 0 {
         return Done::Trap { cause, value: a };
     }
-    if reserve::covers(64, res, a, n as u64) {
+    if reserve::covers(settings, res, a, n as u64) {
         store_at(mem, (a - base) as usize, n, v);
         return retire(
             rd,

@@ -20,7 +20,7 @@ use Rattle.reserve.specs.declared.Reservation.the-variants.{None, Held}
 use Rattle.reserve.specs.declared.Slot.{Slot}
 use Rattle.machine.specs.Rules.{Shaped}
 use Rattle.machine.specs.declared.State.{State}
-use Rattle.layout.specs.Layout.{wordAt, reservationAt, table, stateIn, wordBytes, reservationWords, slotWords, stateOver}
+use Rattle.layout.specs.Layout.{wordAt, reservationAt, settingsIn, table, stateIn, wordBytes, reservationWords, slotWords, stateOver}
 use Rattle.machine.specs.Ranged.{Fits64, Ranged}
 use Rattle.layout.proofs.LayoutLaws.{states, length-table, table-at, table-all, length-wordBytes, length-reservation, length-slotWords}
 
@@ -118,6 +118,10 @@ module _ (bytes : List ℕ) where
   unfolding stateIn
   count-in = refl
 
+  pub settings-in : stateIn bytes .settings ≡ settingsIn bytes
+  unfolding stateIn
+  settings-in = refl
+
   pub register-in : (i : ℕ) → i < 256 → getD (stateIn bytes .x) i 0 ≡ wordAt bytes (8 + 8 * i)
   unfolding stateIn
   register-in i h = table-at (λ k. wordAt bytes (8 + 8 * k)) 256 i 0 h
@@ -169,7 +173,7 @@ two bytes s = splice (one bytes s) 2056 (wordBytes (s .pc))
 abbrev slotBytes : State → List ℕ
 slotBytes s = wordBytes (slotWords (take (s .count) (s .res)))
 
-module _ (bytes : List ℕ) (whole : length bytes ≡ 2312) (s : State) (shaped : Shaped s) where
+module _ (bytes : List ℕ) (whole : length bytes ≡ 2320) (s : State) (shaped : Shaped s) where
   size-x : length (wordBytes (s .x)) ≡ 2048
   size-x = omega (arith, length-wordBytes (s .x), shaped .registers)
 
@@ -182,10 +186,10 @@ module _ (bytes : List ℕ) (whole : length bytes ≡ 2312) (s : State) (shaped 
   size-slots : length (slotBytes s) ≡ 24 * min (s .count) 8
   size-slots = omega (arith, length-wordBytes (slotWords (take (s .count) (s .res))), length-slotWords (take (s .count) (s .res)), many)
 
-  length-one : length (one bytes s) ≡ 2312
-  length-one = length-splice bytes 8 (wordBytes (s .x)) (omega (arith, size-x)) ∙ whole
+  length-one : length (one bytes s) ≡ length bytes
+  length-one = length-splice bytes 8 (wordBytes (s .x)) (omega (arith, size-x))
 
-  length-two : length (two bytes s) ≡ 2312
+  length-two : length (two bytes s) ≡ length bytes
   length-two = length-splice (one bytes s) 2056 (wordBytes (s .pc)) (omega (arith, size-pc, length-one)) ∙ length-one
 
   -- the range before the reservations, and that before the pcs
@@ -228,18 +232,29 @@ module _ (bytes : List ℕ) (whole : length bytes ≡ 2312) (s : State) (shaped 
       (slot-word (take (s .count) (s .res)) h j (slot None) (omega (arith, many)) k
       ∙ ap (λ (q : Slot). getD (reservationWords (q .reservation)) j 0) (getD-take (s .count) (s .res) h (slot None) u))
 
-  -- the reservations of unused harts keep their bytes
-  pub reservation-kept : (h k n : ℕ) → s .count ≤ h → k + n ≤ 24 → part (stateOver bytes s) (2120 + 24 * h + k) n ≡ part bytes (2120 + 24 * h + k) n
+  -- the range behind the reservations of used harts
+  behind-used : (b n : ℕ) → 2120 + 24 * min (s .count) 8 ≤ b → part (stateOver bytes s) b n ≡ part bytes b n
   unfolding stateOver
-  reservation-kept h k n u l =
-      let b = 2120 + 24 * h + k in
+  behind-used b n h =
       part-splice-after (two bytes s) 2120 (slotBytes s) (omega (arith, size-slots, length-two)) b n (omega (arith, size-slots))
       ∙ part-splice-after (one bytes s) 2056 (wordBytes (s .pc)) (omega (arith, size-pc, length-one)) b n (omega (arith, size-pc))
       ∙ part-splice-after bytes 8 (wordBytes (s .x)) (omega (arith, size-x)) b n (omega (arith, size-x))
 
+  -- the reservations of unused harts keep their bytes
+  pub reservation-kept : (h k n : ℕ) → s .count ≤ h → k + n ≤ 24 → part (stateOver bytes s) (2120 + 24 * h + k) n ≡ part bytes (2120 + 24 * h + k) n
+  reservation-kept h k n u l = behind-used (2120 + 24 * h + k) n (omega arith)
+
+  -- and so do the settings, which stand behind all reservations
+  pub settings-kept : (b n : ℕ) → 2312 ≤ b → part (stateOver bytes s) b n ≡ part bytes b n
+  settings-kept b n h = behind-used b n (omega arith)
+
+  -- so they are the same settings
+  settings-same : settingsIn (stateOver bytes s) ≡ settingsIn bytes
+  settings-same = rw (settings-kept 2312 8 (omega arith))
+
   -- a register or a pc that has the value its bytes had keeps its bytes
   module _ (isBytes : IsBytes bytes) where
-    same-bytes : (b : ℕ) → b + 8 ≤ 2312 → toLe 8 (wordAt bytes b) ≡ part bytes b 8
+    same-bytes : (b : ℕ) → b + 8 ≤ length bytes → toLe 8 (wordAt bytes b) ≡ part bytes b 8
     unfolding part
     same-bytes b h =
         ap (λ (n : ℕ). toLe n (wordAt bytes b)) (sym (length-part bytes b 8 (omega arith))) ∙ toLe-le (part bytes b 8) (bytes-part bytes b 8 isBytes)
@@ -256,7 +271,8 @@ module _ (bytes : List ℕ) (whole : length bytes ≡ 2312) (s : State) (shaped 
 word-back : (v : ℕ) → v < 2 ^ 64 → le (toLe 8 v) ≡ v
 word-back v h = le-toLe 8 v ∙ mod-eq-of-lt h
 
-module _ (bytes : List ℕ) (whole : length bytes ≡ 2312) (s : State) (ranged : Ranged s) (count : wordAt bytes 0 ≡ s .count) where
+module _ (bytes : List ℕ) (whole : length bytes ≡ 2320) (s : State) (ranged : Ranged s)
+    (count : wordAt bytes 0 ≡ s .count) (settings : settingsIn bytes ≡ s .settings) where
   used-back : (h : ℕ) → h < s .count → h < 8
       → reservationAt (stateOver bytes s) (2120 + 24 * h) ≡ getD (s .res) h (slot None) .reservation
   used-back h u l =
@@ -274,7 +290,7 @@ module _ (bytes : List ℕ) (whole : length bytes ≡ 2312) (s : State) (ranged 
       → reservationAt (stateOver bytes s) (2120 + 24 * h) ≡ getD (s .res) h (slot None) .reservation
   slot-back h l unused = ⊎-elim (λ (u : h < s .count). used-back h u l) (λ (u : s .count ≤ h). unused-back h u ∙ sym (unused h u l)) (split-lt h (s .count))
 
-  -- Bytes that a state of their count was put over read back as that state, if the reservations of its unused harts are those of the bytes.
+  -- Bytes that a state of their count and settings was put over read back as that state, if the reservations of its unused harts are those of the bytes.
   pub read-back : ((k : ℕ) → s .count ≤ k → k < 8 → getD (s .res) k (slot None) .reservation ≡ reservationAt bytes (2120 + 24 * k))
       → stateIn (stateOver bytes s) ≡ s
   unfolding stateIn
@@ -286,6 +302,7 @@ module _ (bytes : List ℕ) (whole : length bytes ≡ 2312) (s : State) (ranged 
       let res : ℕ → Slot = λ h. slot (reservationAt over (2120 + 24 * h)) in
       states (stateIn over) s
       (ap le (count-kept bytes whole s shaped) ∙ count)
+      (settings-same bytes whole s shaped ∙ settings)
       (ext-getD 0 (table x 256) (s .x) (length-table x 256 ∙ sym (shaped .registers))
       (λ i h.
       let l : i < 256 = omega (arith, length-table x 256) in

@@ -13,6 +13,7 @@ use Rattle.word.specs.Each.{each}
 use Rattle.word.proofs.BytesLaws.{length-toLe}
 use Rattle.word.proofs.MemoryLaws.{drop-splice}
 use Rattle.word.proofs.WordLaws.{split-lt}
+use Rattle.settings.specs.declared.Settings.{Settings}
 use Rattle.reserve.specs.declared.Reservation.{Reservation}
 use Rattle.reserve.specs.declared.Reservation.the-variants.{None, Held}
 use Rattle.reserve.specs.declared.Slot.{Slot}
@@ -169,7 +170,8 @@ take-most l count n e = go (split-lt count n)
 -- ---- states
 
 -- two states with the same parts
-pub states : (s t : State) → s .count ≡ t .count → s .x ≡ t .x → s .pc ≡ t .pc → s .res ≡ t .res → s ≡ t
-states s t c x p r =
-    ap₂ (λ (a : ℕ) (b : List ℕ). record { count = a; x = b; pc = s .pc; res = s .res }) c x
-    ∙ ap₂ (λ (a : List ℕ) (b : List Slot). record { count = t .count; x = t .x; pc = a; res = b }) p r
+pub states : (s t : State) → s .count ≡ t .count → s .settings ≡ t .settings → s .x ≡ t .x → s .pc ≡ t .pc → s .res ≡ t .res → s ≡ t
+states s t c g x p r =
+    ap₂ (λ (a : ℕ) (b : Settings). record { count = a; settings = b; x = s .x; pc = s .pc; res = s .res }) c g
+    ∙ ap₂ (λ (a b : List ℕ). record { count = t .count; settings = t .settings; x = a; pc = b; res = s .res }) x p
+    ∙ ap (λ (a : List Slot). record { count = t .count; settings = t .settings; x = t .x; pc = t .pc; res = a }) r

@@ -1,14 +1,16 @@
--- A state as 2312 bytes. Every number has 8 bytes, the lowest first:
+-- A state as 2320 bytes. Every number has 8 bytes, the lowest first:
 --
 --      0   the count of harts
 --      8   x: register r of hart h at 8 + 8 * (32 * h + r)
 --   2056   pc: that of hart h at 2056 + 8 * h
 --   2120   reservations: that of hart h at 2120 + 24 * h, three numbers: held (0 for none, any other number for one), address, width
+--   2312   the size of a reservation's set
 use Prim.Native.Nat.{ℕ, zero, suc, _+_, _*_}
 use mathlib.Core.List.{List, [], _∷_, _++_}
 use lib.ListN.{take}
 use Rattle.word.specs.Bytes.{le, toLe}
 use Rattle.word.specs.Memory.{part, splice}
+use Rattle.settings.specs.declared.Settings.{Settings}
 use Rattle.reserve.specs.Reserve.{slot}
 use Rattle.reserve.specs.Packed.{heldBy}
 use Rattle.reserve.specs.declared.Reservation.{Reservation}
@@ -26,6 +28,13 @@ wordAt bytes place = le (part bytes place 8)
 unfoldable pub reservationAt : List ℕ → ℕ → Reservation
 reservationAt bytes place = heldBy (wordAt bytes place) (wordAt bytes (place + 8)) (wordAt bytes (place + 16))
 
+-- the settings, one number after another
+abbrev pub settingsIn : List ℕ → Settings
+settingsIn bytes =
+    record {
+      size = wordAt bytes 2312;
+    }
+
 -- f 0, f 1 and so on: n elements
 unfoldable pub table : {A : Type 0} → (ℕ → A) → ℕ → List A
 table f zero = []
@@ -36,6 +45,7 @@ unfoldable pub stateIn : List ℕ → State
 stateIn bytes =
     record {
       count = wordAt bytes 0;
+      settings = settingsIn bytes;
       x = table (λ i. wordAt bytes (8 + 8 * i)) 256;
       pc = table (λ h. wordAt bytes (2056 + 8 * h)) 8;
       res = table (λ h. slot (reservationAt bytes (2120 + 24 * h))) 8;
@@ -58,7 +68,7 @@ slotWords [] = []
 slotWords (s ∷ l) = reservationWords (s .reservation) ++ slotWords l
 
 -- The bytes with the registers and the pc of every hart in their places, and the reservations of the harts that the state uses. The reservations of
--- unused harts and the count keep their bytes.
+-- unused harts, the count and the settings keep their bytes: no event changes them.
 unfoldable pub stateOver : List ℕ → State → List ℕ
 stateOver bytes s =
     splice (splice (splice bytes 8 (wordBytes (s .x))) 2056 (wordBytes (s .pc))) 2120 (wordBytes (slotWords (take (s .count) (s .res))))

@@ -1,7 +1,8 @@
-// A state kept as 2312 bytes at fixed offsets, as C and Rust keep it: specs/Layout.antt has the offsets.
+// A state kept as 2320 bytes at fixed offsets, as C and Rust keep it: specs/Layout.antt has the offsets.
 use machine::State;
 use reserve::Reservation;
 use reserve::Slot;
+use settings::Settings;
 use word::bytes::load_at;
 use word::bytes::store_at;
 ghost use mathlib.Core.Path.{_≡_};
@@ -9,7 +10,7 @@ ghost use Prim.Native.Nat.{_+_, _*_, _≤_, min};
 ghost use lib.ListN.{length, take};
 ghost use Rattle.word.specs.Memory.{splice};
 ghost use Rattle.reserve.specs.Reserve.{slot};
-ghost use Rattle.layout.specs.Layout.{wordAt, reservationAt, table, stateIn, wordBytes, reservationWords, slotWords, stateOver};
+ghost use Rattle.layout.specs.Layout.{wordAt, reservationAt, settingsIn, table, stateIn, wordBytes, reservationWords, slotWords, stateOver};
 
 // Sets out to the numbers from a place on.
 pub fn load_words(bytes: &[u8], place: usize, out: &mut [u64])
@@ -42,7 +43,7 @@ fn load_slot(bytes: &[u8], place: usize) -> Slot
 
 // The reservations of all eight harts.
 fn load_slots(bytes: &[u8]) -> [Slot; 8]
-    requires { ⌜ length (now bytes) ≡ 2312 ⌝ }
+    requires { ⌜ length (now bytes) ≡ 2320 ⌝ }
     ensures { λ r. ⌜ r ≡ table (λ h. slot (reservationAt (now (bytes .entry)) (2120 + 24 * h))) 8 ⌝ }
 {
     let mut res = [Slot {
@@ -56,18 +57,35 @@ fn load_slots(bytes: &[u8]) -> [Slot; 8]
     res
 }
 
+// The settings that the bytes have.
+fn load_settings(bytes: &[u8]) -> Settings
+    requires { ⌜ length (now bytes) ≡ 2320 ⌝ }
+    ensures { λ r. ⌜ r ≡ settingsIn (now (bytes .entry)) ⌝ }
+{
+    Settings {
+        size: load_at(bytes, 2312, 8),
+    }
+}
+
 // The state that the bytes are.
 pub fn read_state(bytes: &[u8]) -> State
-    requires { ⌜ length (now bytes) ≡ 2312 ⌝ }
+    requires { ⌜ length (now bytes) ≡ 2320 ⌝ }
     ensures { λ s. ⌜ s ≡ stateIn (now (bytes .entry)) ⌝ }
 {
     let count = load_at(bytes, 0, 8) as usize;
+    let settings = load_settings(bytes);
     let mut x = [0u64; 256];
     load_words(bytes, 8, &mut x);
     let mut pc = [0u64; 8];
     load_words(bytes, 2056, &mut pc);
     let res = load_slots(bytes);
-    State { count, x, pc, res }
+    State {
+        count,
+        settings,
+        x,
+        pc,
+        res,
+    }
 }
 
 // Writes numbers from a place on.
@@ -84,7 +102,7 @@ pub fn store_words(bytes: &mut [u8], place: usize, words: &[u64])
 
 // Writes the registers of all harts. The array comes by value, so that its length is known.
 fn store_registers(bytes: &mut [u8], x: [u64; 256])
-    requires { ⌜ length (now bytes) ≡ 2312 ⌝ }
+    requires { ⌜ length (now bytes) ≡ 2320 ⌝ }
     ensures { λ _. ⌜ now (bytes .exit) ≡ splice (now (bytes .entry)) 8 (wordBytes x) ⌝ }
 {
     store_words(bytes, 8, &x);
@@ -92,7 +110,7 @@ fn store_registers(bytes: &mut [u8], x: [u64; 256])
 
 // Writes the pc of all harts.
 fn store_pcs(bytes: &mut [u8], pc: [u64; 8])
-    requires { ⌜ length (now bytes) ≡ 2312 ⌝ }
+    requires { ⌜ length (now bytes) ≡ 2320 ⌝ }
     ensures { λ _. ⌜ now (bytes .exit) ≡ splice (now (bytes .entry)) 2056 (wordBytes pc) ⌝ }
 {
     store_words(bytes, 2056, &pc);
@@ -118,7 +136,7 @@ fn used(count: usize) -> usize
 
 // Writes the reservations of the first count harts.
 fn store_slots(bytes: &mut [u8], res: [Slot; 8], count: usize)
-    requires { ⌜ length (now bytes) ≡ 2312 ⌝ }
+    requires { ⌜ length (now bytes) ≡ 2320 ⌝ }
     ensures { λ _. ⌜ now (bytes .exit) ≡ splice (now (bytes .entry)) 2120 (wordBytes (slotWords (take count res))) ⌝ }
 {
     let n = used(count);
@@ -131,9 +149,9 @@ fn store_slots(bytes: &mut [u8], res: [Slot; 8], count: usize)
     }
 }
 
-// Puts a state over the bytes. The count and the reservations of unused harts keep their bytes.
+// Puts a state over the bytes. The count, the settings and the reservations of unused harts keep their bytes.
 pub fn write_state(bytes: &mut [u8], s: State)
-    requires { ⌜ length (now bytes) ≡ 2312 ⌝ }
+    requires { ⌜ length (now bytes) ≡ 2320 ⌝ }
     ensures { λ _. ⌜ now (bytes .exit) ≡ stateOver (now (bytes .entry)) s ⌝ }
 {
     let count = s.count;

@@ -105,6 +105,7 @@ pub fn put_lines(out: &mut [u8], at: usize, from: usize, s: State, base: u64, bo
     ensures { λ _. ⌜ drop from (now (out .exit)) ≡ runOf base (behind s from (now (out .entry))) (eventsOf (now (body .entry))) .mem ⌝ }
 {
     let count = s.count;
+    let settings = s.settings;
     let mut x = s.x;
     let mut pc = s.pc;
     let res = s.res;
@@ -115,7 +116,16 @@ pub fn put_lines(out: &mut [u8], at: usize, from: usize, s: State, base: u64, bo
     while i < n {
         let start = i * 24;
         let e = events::read_event(&body[start..start + 24]);
-        let r = advance(&mut x, &mut pc, &mut t, count, base, &mut out[from..], e);
+        let r = advance(
+            &mut x,
+            &mut pc,
+            &mut t,
+            count,
+            settings,
+            base,
+            &mut out[from..],
+            e,
+        );
         p = put_line(&mut out[..from], p, i as u64, e, r);
         i += 1;
     }

@@ -1,19 +1,29 @@
--- Which memories and states are refused (01, refusals 1 and 2).
+-- Which memories and states are refused (refusals 1 and 2 of 01, with 02 [5]).
 -- RULES 1.1, 1.2, 1.3, 2.1.
 use Prim.Native.Nat.{ℕ, _*_, _%_, _^_}
 use mathlib.Core.Bool.{Bool, true, cond, _&&_, _||_}
+use mathlib.Core.List.{List}
 use lib.Dec.{eqb, leb}
 use lib.ListN.{getD}
 use Rattle.word.specs.Each.{allBelow}
+use Rattle.settings.specs.Settings.{sizeOk, granuleOf}
+use Rattle.settings.specs.declared.Settings.{Settings}
 use Rattle.reserve.specs.Range.{insideOf}
 use Rattle.reserve.specs.Reserve.{slot}
 use Rattle.reserve.specs.declared.Reservation.{Reservation}
 use Rattle.reserve.specs.declared.Reservation.the-variants.{None, Held}
+use Rattle.reserve.specs.declared.Slot.{Slot}
 use Rattle.machine.specs.declared.State.{State}
 
--- 01: "One lent memory, 64 to 1,048,576 bytes, a multiple of 64, at a base address that is a multiple of 64 and at most 2^40."
-unfoldable pub memoryOk : ℕ → ℕ → Bool
-memoryOk base len = leb 64 len && (leb len 1048576 && (eqb (len % 64) 0 && (eqb (base % 64) 0 && leb base (2 ^ 40))))
+-- 01: "One lent memory, 64 to 1,048,576 bytes, .. at a base address that is .. at most 2^40."; 02 [5]: "Memory base and length are now multiples of the
+-- larger of 64 and the size."
+unfoldable pub lentOk : Settings → ℕ → ℕ → Bool
+lentOk settings base len =
+    leb 64 len && (leb len 1048576 && (eqb (len % granuleOf settings) 0 && (eqb (base % granuleOf settings) 0 && leb base (2 ^ 40))))
+
+-- what refusal 1 asks; 02 [5]: "a size not allowed is 1, tried before base and length" (both are 1)
+unfoldable pub memoryOk : Settings → ℕ → ℕ → Bool
+memoryOk settings base len = sizeOk settings && lentOk settings base len
 
 -- 01: "a reservation whose width isn't 4 or 8, isn't aligned to it, or isn't inside memory"
 unfoldable pub reservationOk : ℕ → ℕ → Reservation → Bool
@@ -24,14 +34,14 @@ reservationOk base len (Held a w) = (eqb w 4 || eqb w 8) && (eqb (a % w) 0 && in
 unfoldable pub hartOk : ℕ → ℕ → ℕ → ℕ → Reservation → Bool
 hartOk base len x0 pc r = eqb x0 0 && (eqb (pc % 4) 0 && reservationOk base len r)
 
--- hart k; its x0 stands at 32 * k
-abbrev pub hartAt : ℕ → ℕ → State → ℕ → Bool
-hartAt base len s k = hartOk base len (getD (s .x) (k * 32) 0) (getD (s .pc) k 0) (getD (s .res) k (slot None) .reservation)
+-- hart k, by the registers, pcs and reservations of all harts; its x0 stands at 32 * k
+abbrev pub hartAt : ℕ → ℕ → List ℕ → List ℕ → List Slot → ℕ → Bool
+hartAt base len x pc res k = hartOk base len (getD x (k * 32) 0) (getD pc k 0) (getD res k (slot None) .reservation)
 
 -- 01: "1 to 8 harts"; "unused harts' fields aren't looked at"
 unfoldable pub stateOk : ℕ → ℕ → State → Bool
-stateOk base len s = (leb 1 (s .count) && leb (s .count) 8) && allBelow (hartAt base len s) (s .count)
+stateOk base len s = (leb 1 (s .count) && leb (s .count) 8) && allBelow (hartAt base len (s .x) (s .pc) (s .res)) (s .count)
 
 -- the first of refusals 1 and 2 that applies, or 0
 unfoldable pub refusalOf : ℕ → ℕ → State → ℕ
-refusalOf base len s = cond (memoryOk base len) (cond (stateOk base len s) 0 2) 1
+refusalOf base len s = cond (memoryOk (s .settings) base len) (cond (stateOk base len s) 0 2) 1

@@ -2,24 +2,42 @@
 ghost use mathlib.Core.Path.{_≡_};
 ghost use Prim.Native.Nat.{_<_, _≤_};
 ghost use Rattle.word.specs.Each.{allBelow};
-ghost use Rattle.machine.specs.State.{memoryOk, reservationOk, hartOk, hartAt, refusalOf};
+ghost use Rattle.settings.specs.Settings.{SizeRules};
+ghost use Rattle.machine.specs.State.{lentOk, memoryOk, reservationOk, hartOk, hartAt, refusalOf};
 use reserve::Reservation;
 use reserve::Slot;
+use settings::Settings;
+use settings::remainder;
 
-// count harts are used. x of hart h stands at 32 * h to 32 * h + 31, its pc and its reservation at h.
+// count harts are used, all with the same settings. x of hart h stands at 32 * h to 32 * h + 31, its pc and its reservation at h.
 pub struct State {
     pub count: usize,
+    pub settings: Settings,
     pub x: [u64; 256],
     pub pc: [u64; 8],
     pub res: [Slot; 8],
 }
 
-// Whether a memory of len bytes at base may be lent.
-fn memory_ok(base: u64, len: usize) -> bool
-    ensures { λ r. ⌜ r ≡ memoryOk base len ⌝ }
+// Whether a memory of len bytes at base may be lent, at a set size that is allowed.
+fn lent_ok(settings: Settings, base: u64, len: usize) -> bool
+    requires { ⌜ SizeRules settings ⌝ }
+    ensures { λ r. ⌜ r ≡ lentOk settings base len ⌝ }
 {
+    let granule = settings::granule(settings);
     (64 <= len)
-        & ((len <= 1048576) & ((len % 64 == 0) & ((base % 64 == 0) & (base <= 1099511627776))))
+        & ((len <= 1048576)
+            & ((remainder(len as u64, granule) == 0)
+                & ((remainder(base, granule) == 0) & (base <= 1099511627776))))
+}
+
+// Whether refusal 1 names neither the set's size nor the memory: the size is tried first, since the rest counts on it.
+fn memory_ok(settings: Settings, base: u64, len: usize) -> bool
+    ensures { λ r. ⌜ r ≡ memoryOk settings base len ⌝ }
+{
+    if !settings::size_ok(settings) {
+        return false;
+    }
+    lent_ok(settings, base, len)
 }
 
 fn reservation_ok(base: u64, len: usize, r: Reservation) -> bool
@@ -52,7 +70,7 @@ fn harts_ok<'a>(
     res: [Slot; 8],
 ) -> bool
     requires { ⌜ count ≤ 8 ⌝ }
-    ensures { λ t. ⌜ t ≡ allBelow (hartAt base len (record { count = count; x = now (x .entry); pc = now (pc .entry); res = res })) count ⌝ }
+    ensures { λ t. ⌜ t ≡ allBelow (hartAt base len (now (x .entry)) (now (pc .entry)) res) count ⌝ }
 {
     let mut k: usize = 0;
     while k < count {
@@ -71,13 +89,14 @@ pub fn refusal<'a>(
     base: u64,
     len: usize,
     count: usize,
+    settings: Settings,
     x: &'a [u64; 256],
     pc: &'a [u64; 8],
     res: [Slot; 8],
 ) -> u64
-    ensures { λ n. ⌜ n ≡ refusalOf base len (record { count = count; x = now (x .entry); pc = now (pc .entry); res = res }) ⌝ }
+    ensures { λ n. ⌜ n ≡ refusalOf base len (record { count = count; settings = settings; x = now (x .entry); pc = now (pc .entry); res = res }) ⌝ }
 {
-    if !memory_ok(base, len) {
+    if !memory_ok(settings, base, len) {
         return 1;
     }
     if count == 0 {

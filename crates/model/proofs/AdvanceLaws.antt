@@ -8,6 +8,7 @@ use lib.Dec.{leb}
 use lib.ListN.{length, take, drop}
 use lib.Seq.{drop-drop}
 use Rattle.word.specs.Bytes.{toLe}
+use Rattle.settings.specs.declared.Settings.{Settings}
 use Rattle.reserve.specs.Range.{insideOf}
 use Rattle.reserve.specs.Packed.{slotsIn}
 use Rattle.reserve.specs.declared.Slot.{Slot}
@@ -40,19 +41,19 @@ module _ (h : ℕ) where
   pcs-done (E.effect (E.one r v) to t) pc = refl
   pcs-done (E.effect (E.pair r v r2 v2) to t) pc = refl
 
-  pub slots-done : (e : E.Exec) (count : ℕ) (l : List Slot) → slotsBy count (E.doneOf h e) l ≡ slotsAfter 64 count (ofExec h e) l
+  pub slots-done : (settings : Settings) (e : E.Exec) (count : ℕ) (l : List Slot) → slotsBy settings count (E.doneOf h e) l ≡ slotsAfter settings count (ofExec h e) l
   unfolding slotsBy
-  slots-done (E.trap cause value) count l = refl
-  slots-done (E.effect E.none to t) count l = refl
-  slots-done (E.effect (E.one r v) to t) count l = refl
-  slots-done (E.effect (E.pair r v r2 v2) to t) count l = refl
+  slots-done settings (E.trap cause value) count l = refl
+  slots-done settings (E.effect E.none to t) count l = refl
+  slots-done settings (E.effect (E.one r v) to t) count l = refl
+  slots-done settings (E.effect (E.pair r v r2 v2) to t) count l = refl
 
-  pub broken-done : (e : E.Exec) (count : ℕ) (l : List Slot) → brokenBy count (E.doneOf h e) l ≡ brokenAfter 64 count (ofExec h e) l
+  pub broken-done : (settings : Settings) (e : E.Exec) (count : ℕ) (l : List Slot) → brokenBy settings count (E.doneOf h e) l ≡ brokenAfter settings count (ofExec h e) l
   unfolding brokenBy
-  broken-done (E.trap cause value) count l = refl
-  broken-done (E.effect E.none to t) count l = refl
-  broken-done (E.effect (E.one r v) to t) count l = refl
-  broken-done (E.effect (E.pair r v r2 v2) to t) count l = refl
+  broken-done settings (E.trap cause value) count l = refl
+  broken-done settings (E.effect E.none to t) count l = refl
+  broken-done settings (E.effect (E.one r v) to t) count l = refl
+  broken-done settings (E.effect (E.pair r v r2 v2) to t) count l = refl
 
   pub outcome-done : (e : E.Exec) → outcomeBy (E.doneOf h e) ≡ outcomeOf (ofExec h e)
   unfolding outcomeBy
@@ -85,14 +86,14 @@ module _ (base : ℕ) (mem : List ℕ) (a n v : ℕ) where
 
 -- a state's own parts, lent with its reservations as numbers
 module _ (base : ℕ) (s : State) (t mem : List ℕ) (packed : slotsIn t ≡ s .res) where
-  pub lent-same : inParts (s .count) (s .x) (s .pc) t mem ≡ record { state = s; mem = mem }
-  lent-same = ap (λ (l : List Slot). record { state = record { count = s .count; x = s .x; pc = s .pc; res = l }; mem = mem }) packed
+  pub lent-same : inParts (s .count) (s .settings) (s .x) (s .pc) t mem ≡ record { state = s; mem = mem }
+  lent-same = ap (λ (l : List Slot). record { state = record { count = s .count; settings = s .settings; x = s .x; pc = s .pc; res = l }; mem = mem }) packed
 
-  pub lent-valid : refusalOf base (length mem) s ≡ 0 → Valid base (inParts (s .count) (s .x) (s .pc) t mem)
+  pub lent-valid : refusalOf base (length mem) s ≡ 0 → Valid base (inParts (s .count) (s .settings) (s .x) (s .pc) t mem)
   lent-valid none = subst (Valid base) (sym lent-same) (refusal-0 base (length mem) s .0 none)
 
   -- an event on what is lent is the event on the state
-  pub lent-answer : {e : Event} {r : Reply} {m′ : Machine} → Advances base e (inParts (s .count) (s .x) (s .pc) t mem) r m′
+  pub lent-answer : {e : Event} {r : Reply} {m′ : Machine} → Advances base e (inParts (s .count) (s .settings) (s .x) (s .pc) t mem) r m′
       → (record { outcome = r .outcome; broke = r .broke; state = m′ .state } ≡ answerOf base mem s e) × (m′ .mem ≡ memoryOf base mem s e)
   unfolding nextOf
   lent-answer {e} {r} {m′} a =
@@ -106,12 +107,12 @@ module _ (base : ℕ) (s : State) (t mem : List ℕ) (packed : slotsIn t ≡ s .
 -- an event's act, done part by part, is the event: outcome, reservations broken, registers, pcs, reservations, memory
 module _ (base : ℕ) (m : Machine) (v : Valid base m) (e : Event) {act : Act} (is : actOn base (m .mem) (m .state) e ≡ act) where
   pub advances : {r : Reply} {x pc mem : List ℕ} {res : List Slot} → r .outcome ≡ outcomeOf act
-      → r .broke ≡ brokenAfter 64 (m .state .count) act (m .state .res)
+      → r .broke ≡ brokenAfter (m .state .settings) (m .state .count) act (m .state .res)
       → x ≡ registersAfter act (m .state .x)
       → pc ≡ pcsAfter act (m .state .pc)
-      → res ≡ slotsAfter 64 (m .state .count) act (m .state .res)
+      → res ≡ slotsAfter (m .state .settings) (m .state .count) act (m .state .res)
       → mem ≡ leaves base (m .mem) act
-      → Advances base e m r (record { state = record { count = m .state .count; x = x; pc = pc; res = res }; mem = mem })
+      → Advances base e m r (record { state = record { count = m .state .count; settings = m .state .settings; x = x; pc = pc; res = res }; mem = mem })
   unfolding answerOf memoryOf nextOf apply
   advances ends broken registers pcs slots memory =
       let d = act-valid base m v e ∙ is in

@@ -10,6 +10,7 @@ use lib.ListN.{length, getD, set, take}
 use borrow.Author.Tests.{ltb-true}
 use Rattle.word.specs.Each.{each}
 use Rattle.word.proofs.TestLaws.{bool-cases, contrary}
+use Rattle.settings.specs.declared.Settings.{Settings}
 use Rattle.reserve.specs.Reserve.{slot, observeSlot, brokenOf, observeAllOf}
 use Rattle.reserve.specs.declared.Reservation.the-variants.{None}
 use Rattle.reserve.specs.declared.Slot.{Slot}
@@ -72,52 +73,54 @@ module _ (s t : State) (a : Agree s t) where
   agree-sym =
       record {
         counts = sym (a .counts);
+        settings = sym (a .settings);
         registers = λ k u r. sym (a .registers k (rw (a .counts) u) r);
         pcs = λ k u. sym (a .pcs k (rw (a .counts) u));
         reservations = λ k u. sym (a .reservations k (rw (a .counts) u));
       }
 
-  broken-same : (size : ℕ) (n : Notice) (k : ℕ) → k ≤ s .count → brokenOf size n k (s .res) ≡ brokenOf size n k (t .res)
+  broken-same : (settings : Settings) (n : Notice) (k : ℕ) → k ≤ s .count → brokenOf settings n k (s .res) ≡ brokenOf settings n k (t .res)
   unfolding brokenOf
-  broken-same size n zero u = refl
-  broken-same size n (suc k) u = rw (broken-same size n k (omega arith), a .reservations k (omega arith))
+  broken-same settings n zero u = refl
+  broken-same settings n (suc k) u = rw (broken-same settings n k (omega arith), a .reservations k (omega arith))
 
-  broken-all : (size : ℕ) (n : Notice) → observeAllOf size (s .count) n (s .res) .broken ≡ observeAllOf size (t .count) n (t .res) .broken
+  broken-all : (settings : Settings) (n : Notice) → observeAllOf settings (s .count) n (s .res) .broken ≡ observeAllOf settings (t .count) n (t .res) .broken
   unfolding observeAllOf
-  broken-all size n = rw (← a .counts) (broken-same size n (s .count) (omega arith))
+  broken-all settings n = rw (← a .counts) (broken-same settings n (s .count) (omega arith))
 
-  agree-broken : (size : ℕ) (act : Act) → brokenAfter size (s .count) act (s .res) ≡ brokenAfter size (t .count) act (t .res)
-  agree-broken size (refuse number) = refl
-  agree-broken size (fault cause value) = refl
-  agree-broken size (change h ws to x) = broken-all size (noticeOf h x)
-  agree-broken size (put b bs) = broken-all size (DeviceWrite b (length bs))
-  agree-broken size (release h) = broken-all size (Yield h)
+  agree-broken : (act : Act) → brokenAfter (s .settings) (s .count) act (s .res) ≡ brokenAfter (t .settings) (t .count) act (t .res)
+  agree-broken (refuse number) = refl
+  agree-broken (fault cause value) = refl
+  agree-broken (change h ws to x) = rw (← a .settings) (broken-all (s .settings) (noticeOf h x))
+  agree-broken (put b bs) = rw (← a .settings) (broken-all (s .settings) (DeviceWrite b (length bs)))
+  agree-broken (release h) = rw (← a .settings) (broken-all (s .settings) (Yield h))
 
   module _ (p : Shaped s) (q : Shaped t) where
-    slots-same : (size : ℕ) (n : Notice) (k : ℕ) → k < s .count
-        → getD (observeAllOf size (s .count) n (s .res) .slots) k (slot None) .reservation
-        ≡ getD (observeAllOf size (t .count) n (t .res) .slots) k (slot None) .reservation
+    slots-same : (settings : Settings) (n : Notice) (k : ℕ) → k < s .count
+        → getD (observeAllOf settings (s .count) n (s .res) .slots) k (slot None) .reservation
+        ≡ getD (observeAllOf settings (t .count) n (t .res) .slots) k (slot None) .reservation
     unfolding observeAllOf
-    slots-same size n k u =
+    slots-same settings n k u =
         rw (← a .counts)
         (ap (λ (c : Slot). c .reservation)
-        (each-same (slot None) (observeSlot size n) (s .count) k (s .res) (t .res) (p .reservations ∙ sym (q .reservations)) (ap slot (a .reservations k u))))
+        (each-same (slot None) (observeSlot settings n) (s .count) k (s .res) (t .res) (p .reservations ∙ sym (q .reservations)) (ap slot (a .reservations k u))))
 
-    agree-apply : (size : ℕ) (act : Act) → Agree (apply size s act) (apply size t act)
+    agree-apply : (act : Act) → Agree (apply s act) (apply t act)
     unfolding apply
-    agree-apply size (refuse number) = a
-    agree-apply size (fault cause value) = a
-    agree-apply size (change h ws to x) =
+    agree-apply (refuse number) = a
+    agree-apply (fault cause value) = a
+    agree-apply (change h ws to x) =
         record {
           counts = a .counts;
+          settings = a .settings;
           registers = λ k u r. reg-written-same h ws k r (s .x) (t .x) (p .registers ∙ sym (q .registers)) (a .registers k u r);
           pcs = λ k u. set-same 0 (s .pc) (t .pc) h k to (p .pcs ∙ sym (q .pcs)) (a .pcs k u);
-          reservations = slots-same size (noticeOf h x);
+          reservations = rw (← a .settings) (slots-same (s .settings) (noticeOf h x));
         }
-    agree-apply size (put b bs) =
-        record { counts = a .counts; registers = a .registers; pcs = a .pcs; reservations = slots-same size (DeviceWrite b (length bs)) }
-    agree-apply size (release h) =
-        record { counts = a .counts; registers = a .registers; pcs = a .pcs; reservations = slots-same size (Yield h) }
+    agree-apply (put b bs) =
+        record { counts = a .counts; settings = a .settings; registers = a .registers; pcs = a .pcs; reservations = rw (← a .settings) (slots-same (s .settings) (DeviceWrite b (length bs))) }
+    agree-apply (release h) =
+        record { counts = a .counts; settings = a .settings; registers = a .registers; pcs = a .pcs; reservations = rw (← a .settings) (slots-same (s .settings) (Yield h)) }
 
 -- ---- refusals 1 and 2
 
@@ -147,13 +150,13 @@ module _ (base len : ℕ) where
       bool-cases (stateOk base len t)
       (λ y. contrary (state-exact base len s .1 (rules-agree t s (agree-sym s t a) (state-exact base len t .0 y))) z)
       (λ y. z ∙ sym y)) in
-      rw ok
+      rw (ok, a .settings)
 
 -- ---- one event
 
 module _ (base : ℕ) (mem : List ℕ) (s t : State) (a : Agree s t) where
   step-agree : (h : ℕ) → h < s .count → stepOf base mem s h ≡ stepOf base mem t h
-  step-agree h u = rw (fun-ext (a .registers h u), a .pcs h u, a .reservations h u)
+  step-agree h u = rw (fun-ext (a .registers h u), a .pcs h u, a .reservations h u, a .settings)
 
   on-agree : (e : Event) → actOn base mem s e ≡ actOn base mem t e
   unfolding actOn
@@ -177,9 +180,9 @@ module _ (base : ℕ) (mem : List ℕ) (s t : State) (a : Agree s t) where
   unfolding answerOf memoryOf
   agree-event p q e = (
     ap outcomeOf (act-agree e),
-    rw (← act-agree e) (agree-broken s t a 64 (actOf base mem s e)),
+    rw (← act-agree e) (agree-broken s t a (actOf base mem s e)),
     ap (leaves base mem) (act-agree e),
-    rw (← act-agree e) (agree-apply s t a p q 64 (actOf base mem s e)),
+    rw (← act-agree e) (agree-apply s t a p q (actOf base mem s e)),
   )
 
 -- ---- events one after another

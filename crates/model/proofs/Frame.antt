@@ -19,6 +19,7 @@ use Rattle.word.proofs.ChooseLaws.{cond-cases}
 use Rattle.word.proofs.TestLaws.{bool-cases}
 use Rattle.word.proofs.EachLaws.{each-at, each-past, length-each}
 use Rattle.reserve.specs.Range.{Touch, Inside, insideOf}
+use Rattle.settings.specs.declared.Settings.{Settings}
 use Rattle.reserve.specs.Reserve.{slot, coversOf, breaksOf, ownOf, observeOf, observeSlot, observeAllOf}
 use Rattle.reserve.specs.declared.Reservation.{Reservation}
 use Rattle.reserve.specs.declared.Reservation.the-variants.{None, Held}
@@ -78,31 +79,31 @@ length-written h none x = refl
 length-written h (one r v) x = length-setReg h r v x
 length-written h (pair r v r2 v2) x = length-setReg h r2 v2 (setReg h r v x) ∙ length-setReg h r v x
 
-length-slots : (size count : ℕ) (n : Notice) (l : List Slot) → length (observeAllOf size count n l .slots) ≡ length l
+length-slots : (settings : Settings) (count : ℕ) (n : Notice) (l : List Slot) → length (observeAllOf settings count n l .slots) ≡ length l
 unfolding observeAllOf
-length-slots size count n l = length-each (observeSlot size n) count l
+length-slots settings count n l = length-each (observeSlot settings n) count l
 
-pub shaped-apply : (size : ℕ) (s : State) (act : Act) → Shaped s → Shaped (apply size s act)
+pub shaped-apply : (s : State) (act : Act) → Shaped s → Shaped (apply s act)
 unfolding apply
-shaped-apply size s (refuse number) h = record { registers = h .registers; pcs = h .pcs; reservations = h .reservations }
-shaped-apply size s (fault cause value) h = record { registers = h .registers; pcs = h .pcs; reservations = h .reservations }
-shaped-apply size s (change g ws to t) h =
+shaped-apply s (refuse number) h = record { registers = h .registers; pcs = h .pcs; reservations = h .reservations }
+shaped-apply s (fault cause value) h = record { registers = h .registers; pcs = h .pcs; reservations = h .reservations }
+shaped-apply s (change g ws to t) h =
     record {
       registers = length-written g ws (s .x) ∙ h .registers;
       pcs = rw length-set (h .pcs);
-      reservations = length-slots size (s .count) (noticeOf g t) (s .res) ∙ h .reservations;
+      reservations = length-slots (s .settings) (s .count) (noticeOf g t) (s .res) ∙ h .reservations;
     }
-shaped-apply size s (put a bs) h =
+shaped-apply s (put a bs) h =
     record {
       registers = h .registers;
       pcs = h .pcs;
-      reservations = length-slots size (s .count) (DeviceWrite a (length bs)) (s .res) ∙ h .reservations;
+      reservations = length-slots (s .settings) (s .count) (DeviceWrite a (length bs)) (s .res) ∙ h .reservations;
     }
-shaped-apply size s (release g) h =
+shaped-apply s (release g) h =
     record {
       registers = h .registers;
       pcs = h .pcs;
-      reservations = length-slots size (s .count) (Yield g) (s .res) ∙ h .reservations;
+      reservations = length-slots (s .settings) (s .count) (Yield g) (s .res) ∙ h .reservations;
     }
 
 -- a register of another hart
@@ -118,33 +119,33 @@ reg-written g (pair r v r2 v2) k q x d = reg-setReg g r2 v2 k q (setReg g r v x)
 
 -- ---- reservations
 
-pub observe-quiet : (size h : ℕ) (r : Reservation) → observeOf size h Quiet r ≡ r
+pub observe-quiet : (settings : Settings) (h : ℕ) (r : Reservation) → observeOf settings h Quiet r ≡ r
 unfolding observeOf breaksOf ownOf
-observe-quiet size h None = refl
-observe-quiet size h (Held a w) = refl
+observe-quiet settings h None = refl
+observe-quiet settings h (Held a w) = refl
 
-module _ (size : ℕ) (s : State) (k : ℕ) where
+module _ (s : State) (k : ℕ) where
   slots-at : (n : Notice) → k < s .count → k < length (s .res)
-      → getD (observeAllOf size (s .count) n (s .res) .slots) k (slot None) .reservation ≡ observeOf size k n (reservationOf s k)
+      → getD (observeAllOf (s .settings) (s .count) n (s .res) .slots) k (slot None) .reservation ≡ observeOf (s .settings) k n (reservationOf s k)
   unfolding observeAllOf
-  slots-at n u l = ap (λ (c : Slot). c .reservation) (each-at (observeSlot size n) (s .count) k (s .res) (slot None) u l)
+  slots-at n u l = ap (λ (c : Slot). c .reservation) (each-at (observeSlot (s .settings) n) (s .count) k (s .res) (slot None) u l)
 
   -- a used hart's reservation follows the notice
   pub res-apply : (act : Act) → k < s .count → k < length (s .res)
-      → reservationOf (apply size s act) k ≡ observeOf size k (actNotice act) (reservationOf s k)
+      → reservationOf (apply s act) k ≡ observeOf (s .settings) k (actNotice act) (reservationOf s k)
   unfolding apply
-  res-apply (refuse number) u l = sym (observe-quiet size k (reservationOf s k))
-  res-apply (fault cause value) u l = sym (observe-quiet size k (reservationOf s k))
+  res-apply (refuse number) u l = sym (observe-quiet (s .settings) k (reservationOf s k))
+  res-apply (fault cause value) u l = sym (observe-quiet (s .settings) k (reservationOf s k))
   res-apply (change g ws to t) u l = slots-at (noticeOf g t) u l
   res-apply (put a bs) u l = slots-at (DeviceWrite a (length bs)) u l
   res-apply (release g) u l = slots-at (Yield g) u l
 
-  slots-past : (n : Notice) → s .count ≤ k → getD (observeAllOf size (s .count) n (s .res) .slots) k (slot None) ≡ getD (s .res) k (slot None)
+  slots-past : (n : Notice) → s .count ≤ k → getD (observeAllOf (s .settings) (s .count) n (s .res) .slots) k (slot None) ≡ getD (s .res) k (slot None)
   unfolding observeAllOf
-  slots-past n u = each-past (observeSlot size n) (s .count) k (s .res) (slot None) u
+  slots-past n u = each-past (observeSlot (s .settings) n) (s .count) k (s .res) (slot None) u
 
   -- an unused hart's never changes
-  pub res-past : (act : Act) → s .count ≤ k → getD (apply size s act .res) k (slot None) ≡ getD (s .res) k (slot None)
+  pub res-past : (act : Act) → s .count ≤ k → getD (apply s act .res) k (slot None) ≡ getD (s .res) k (slot None)
   unfolding apply
   res-past (refuse number) u = refl
   res-past (fault cause value) u = refl
@@ -214,9 +215,14 @@ module _ (base : ℕ) (m : Machine) (e : Event) where
   unfolding nextOf answerOf apply
   count-next = refl
 
+  -- no event changes the settings
+  pub settings-next : nextOf base m e .state .settings ≡ m .state .settings
+  unfolding nextOf answerOf apply
+  settings-next = refl
+
   pub shaped-next : Shaped (m .state) → Shaped (nextOf base m e .state)
   unfolding nextOf answerOf
-  shaped-next h = shaped-apply 64 (m .state) (actOf base (m .mem) (m .state) e) h
+  shaped-next h = shaped-apply (m .state) (actOf base (m .mem) (m .state) e) h
 
   -- 01: "unused harts' fields aren't looked at and never change"
   pub unused-reg : (k r : ℕ) → m .state .count ≤ k → regAt (nextOf base m e .state .x) k r ≡ regAt (m .state .x) k r
@@ -233,7 +239,7 @@ module _ (base : ℕ) (m : Machine) (e : Event) where
 
   pub unused-res : (k : ℕ) → m .state .count ≤ k → getD (nextOf base m e .state .res) k (slot None) ≡ getD (m .state .res) k (slot None)
   unfolding nextOf answerOf
-  unused-res k u = res-past 64 (m .state) k (actOf base (m .mem) (m .state) e) u
+  unused-res k u = res-past (m .state) k (actOf base (m .mem) (m .state) e) u
 
   -- an event that isn't a step of hart h leaves its registers and its pc, and is no LR, SC or write of it
   module _ (h : ℕ) (other : e ≢ Step h) where
@@ -267,11 +273,11 @@ module _ (base : ℕ) (m : Machine) (e : Event) where
   module _ (v : Valid base m) where
     -- a used hart's reservation follows the notice
     pub res-next : Shaped (m .state) → (h : ℕ) → h < m .state .count
-        → reservationOf (nextOf base m e .state) h ≡ observeOf 64 h (noticeAt base m e) (reservationOf (m .state) h)
+        → reservationOf (nextOf base m e .state) h ≡ observeOf (m .state .settings) h (noticeAt base m e) (reservationOf (m .state) h)
     unfolding nextOf answerOf
     res-next s h u =
         let l : h < length (m .state .res) = omega (arith, v .1 .1, s .reservations) in
-        res-apply 64 (m .state) h (actOf base (m .mem) (m .state) e) u l
+        res-apply (m .state) h (actOf base (m .mem) (m .state) e) u l
 
     act-fine : ActOk base (length (m .mem)) (actOf base (m .mem) (m .state) e)
     act-fine = rw (act-valid base m v e) (act-ok base (m .mem) (m .state) (v .1) e)
@@ -301,7 +307,7 @@ module _ (base : ℕ) (m : Machine) (v : Valid base m) (h : ℕ) (u : h < m .sta
       → actOf base (m .mem) (m .state) (Step h)
       ≡ ofExec h
       (execute 64 i (valueAt base (m .mem) (getD (m .state .pc) h 0) 4) (regAt (m .state .x) h) (getD (m .state .pc) h 0) base (m .mem)
-      (coversOf 64 (reservationOf (m .state) h)))
+      (coversOf (m .state .settings) (reservationOf (m .state) h)))
   unfolding actOn fetchOf executeWord
   step-act i f =
       let inside = of-inside base (length (m .mem)) (getD (m .state .pc) h 0) 4 (f .inside) in
@@ -314,6 +320,11 @@ module _ (base : ℕ) where
   unfolding runOf
   count-run m [] = refl
   count-run m (e ∷ es) = count-run (nextOf base m e) es ∙ count-next base m e
+
+  pub settings-run : (m : Machine) (es : List Event) → runOf base m es .state .settings ≡ m .state .settings
+  unfolding runOf
+  settings-run m [] = refl
+  settings-run m (e ∷ es) = settings-run (nextOf base m e) es ∙ settings-next base m e
 
   pub shaped-run : (m : Machine) → Shaped (m .state) → (es : List Event) → Shaped (runOf base m es .state)
   unfolding runOf

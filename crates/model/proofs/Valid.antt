@@ -17,7 +17,8 @@ use Rattle.word.proofs.WordLaws.{split-lt}
 use Rattle.word.proofs.ChooseLaws.{cond-all, cond-cases}
 use Rattle.word.proofs.TestLaws.{bool-cases}
 use Rattle.word.proofs.EachLaws.{each-at, length-each}
-use Rattle.reserve.specs.Range.{Inside, insideOf}
+use Rattle.settings.specs.declared.Settings.{Settings}
+use Rattle.reserve.specs.Range.{Inside, insideOf, setOf}
 use Rattle.reserve.specs.Reserve.{slot, coversOf, breaksOf, ownOf, observeOf, observeSlot, observeAllOf}
 use Rattle.reserve.specs.declared.Reservation.{Reservation}
 use Rattle.reserve.specs.declared.Reservation.the-variants.{None, Held}
@@ -26,7 +27,7 @@ use Rattle.reserve.specs.declared.Notice.the-variants.{Quiet, LoadReserved, ScS
 use Rattle.reserve.proofs.RangeLaws.{inside-of}
 use Rattle.machine.specs.Rules.{ReservationRules, StateRules}
 use Rattle.machine.specs.declared.State.{State}
-use Rattle.machine.proofs.StateLaws.{refusal-0}
+use Rattle.machine.proofs.StateLaws.{refusal-0, set-in-memory}
 use Rattle.effect.specs.Effect.{Writes, none, one, pair, Access, nothing, reserve, store, scStored, scFailed, Exec, trap, effect, noticeOf}
 use Rattle.effect.specs.Execute.{regAt}
 use Rattle.effect.specs.Memory.{valueAt}
@@ -36,7 +37,7 @@ use Rattle.effect.proofs.Fits.{length-stored}
 use Rattle.events.specs.declared.Event.{Event}
 use Rattle.events.specs.declared.Event.the-variants.{Step, Device, Yield as YieldOf}
 use Rattle.model.specs.Act.{Act, refuse, fault, change, put, release, setReg, written, apply, leaves}
-use Rattle.model.specs.Perform.{Machine, reservationOf, fetchOf, stepOf, ofExec, deviceOf, actOn, actOf, answerOf, memoryOf, nextOf, runOf}
+use Rattle.model.specs.Perform.{Machine, setSize, reservationOf, fetchOf, stepOf, ofExec, deviceOf, actOn, actOf, answerOf, memoryOf, nextOf, runOf}
 use Rattle.model.specs.Valid.{Valid, ActOk}
 
 -- what holds of the value set and of the element before holds of the element after
@@ -80,19 +81,19 @@ module _ (base len : ℕ) where
   own-ok h (DeviceWrite b n) r o k = k
   own-ok h (Yield g) r o k = cond-all (ReservationRules base len) (eqb g h) None r tt k
 
-  observed-ok : (size h : ℕ) (n : Notice) (r : Reservation) → NoticeOk n → ReservationRules base len r → ReservationRules base len (observeOf size h n r)
+  observed-ok : (settings : Settings) (h : ℕ) (n : Notice) (r : Reservation) → NoticeOk n → ReservationRules base len r → ReservationRules base len (observeOf settings h n r)
   unfolding observeOf
-  observed-ok size h n r o k = cond-all (ReservationRules base len) (breaksOf size h n r) None (ownOf h n r) tt (own-ok h n r o k)
+  observed-ok settings h n r o k = cond-all (ReservationRules base len) (breaksOf settings h n r) None (ownOf h n r) tt (own-ok h n r o k)
 
-  noticed-ok : (size : ℕ) (s : State) (n : Notice) (k : ℕ) → NoticeOk n → k < s .count → ReservationRules base len (reservationOf s k)
-      → ReservationRules base len (getD (observeAllOf size (s .count) n (s .res) .slots) k (slot None) .reservation)
+  noticed-ok : (settings : Settings) (s : State) (n : Notice) (k : ℕ) → NoticeOk n → k < s .count → ReservationRules base len (reservationOf s k)
+      → ReservationRules base len (getD (observeAllOf settings (s .count) n (s .res) .slots) k (slot None) .reservation)
   unfolding observeAllOf
-  noticed-ok size s n k o h r =
+  noticed-ok settings s n k o h r =
       ⊎-elim
-      (λ (l : k < length (s .res)). rw (each-at (observeSlot size n) (s .count) k (s .res) (slot None) h l) (observed-ok size k n (reservationOf s k) o r))
+      (λ (l : k < length (s .res)). rw (each-at (observeSlot settings n) (s .count) k (s .res) (slot None) h l) (observed-ok settings k n (reservationOf s k) o r))
       (λ (g : length (s .res) ≤ k).
-      let l = each (observeSlot size n) (s .count) (s .res) in
-      let past : length l ≤ k = rw (length-each (observeSlot size n) (s .count) (s .res)) g in
+      let l = each (observeSlot settings n) (s .count) (s .res) in
+      let past : length l ≤ k = rw (length-each (observeSlot settings n) (s .count) (s .res)) g in
       rw (List·getD-eq-default l (slot None) {n = k} past) tt)
       (split-lt k (length (s .res)))
 
@@ -105,22 +106,22 @@ module _ (base len : ℕ) where
   access-notice h scFailed o = tt
 
   -- an act keeps the rules of the state
-  pub apply-rules : (size : ℕ) (s : State) (act : Act) → ActOk base len act → StateRules base len s → StateRules base len (apply size s act)
+  pub apply-rules : (s : State) (act : Act) → ActOk base len act → StateRules base len s → StateRules base len (apply s act)
   unfolding apply NoticeOk
-  apply-rules size s (refuse number) o r = r
-  apply-rules size s (fault cause value) o r = r
-  apply-rules size s (change h ws to t) o r = (
+  apply-rules s (refuse number) o r = r
+  apply-rules s (fault cause value) o r = r
+  apply-rules s (change h ws to t) o r = (
     r .0,
     r .1,
     λ k l. (
       x0-written h ws k (s .x) ∙ r .2 k l .0,
       set-all (λ (p : ℕ). p % 4 ≡ 0) (s .pc) h k to 0 (o .0) (r .2 k l .1),
-      noticed-ok size s (noticeOf h t) k (access-notice h t (o .1)) l (r .2 k l .2),
+      noticed-ok (s .settings) s (noticeOf h t) k (access-notice h t (o .1)) l (r .2 k l .2),
     ),
   )
-  apply-rules size s (put a bs) o r =
-      (r .0, r .1, λ k l. (r .2 k l .0, r .2 k l .1, noticed-ok size s (DeviceWrite a (length bs)) k tt l (r .2 k l .2)))
-  apply-rules size s (release h) o r = (r .0, r .1, λ k l. (r .2 k l .0, r .2 k l .1, noticed-ok size s (Yield h) k tt l (r .2 k l .2)))
+  apply-rules s (put a bs) o r =
+      (r .0, r .1, λ k l. (r .2 k l .0, r .2 k l .1, noticed-ok (s .settings) s (DeviceWrite a (length bs)) k tt l (r .2 k l .2)))
+  apply-rules s (release h) o r = (r .0, r .1, λ k l. (r .2 k l .0, r .2 k l .1, noticed-ok (s .settings) s (Yield h) k tt l (r .2 k l .2)))
 
 -- and the memory's length
 pub length-leaves : (base : ℕ) (mem : List ℕ) (act : Act) → ActOk base (length mem) act → length (leaves base mem act) ≡ length mem
@@ -140,7 +141,7 @@ module _ (base : ℕ) (mem : List ℕ) (s : State) (sr : StateRules base (length
   unfolding fetchOf
   fetch-sound h l =
       cond-all (Sound base (length mem)) (insideOf base (length mem) (getD (s .pc) h 0) 4) _ (trap 1 (getD (s .pc) h 0))
-      (sound (valueAt base mem (getD (s .pc) h 0) 4) (regAt (s .x) h) (getD (s .pc) h 0) base mem (coversOf 64 (reservationOf s h)) (sr .2 h l .1)) tt
+      (sound (valueAt base mem (getD (s .pc) h 0) 4) (regAt (s .x) h) (getD (s .pc) h 0) base mem (coversOf (s .settings) (reservationOf s h)) (sr .2 h l .1)) tt
 
   pub act-ok : (e : Event) → ActOk base (length mem) (actOn base mem s e)
   unfolding actOn deviceOf
@@ -168,9 +169,15 @@ module _ (base : ℕ) (m : Machine) (v : Valid base m) (e : Event) where
 
   -- 01: from a state that 1 and 2 don't refuse, no event leads to one that they refuse
   pub valid-next : Valid base (nextOf base m e)
-  unfolding nextOf answerOf
+  unfolding nextOf answerOf apply
   valid-next =
-      rw length-next (v .0, apply-rules base (length (m .mem)) 64 (m .state) (actOf base (m .mem) (m .state) e) ok (v .1))
+      rw length-next (v .0, apply-rules base (length (m .mem)) (m .state) (actOf base (m .mem) (m .state) e) ok (v .1))
+
+-- the set of a reservation that a used hart holds lies wholly in memory; after any events too, by valid-run
+pub held-set-inside : (base : ℕ) (m : Machine) → Valid base m → (k a w : ℕ) → k < m .state .count → reservationOf (m .state) k ≡ Held a w
+    → Inside base (length (m .mem)) (setOf (setSize m) a) (setSize m)
+held-set-inside base m v k a w u held =
+    set-in-memory (m .state .settings) base (length (m .mem)) (v .0) a w (subst (ReservationRules base (length (m .mem))) held (v .1 .2 k u .2))
 
 pub valid-run : (base : ℕ) (m : Machine) → Valid base m → (es : List Event) → Valid base (runOf base m es)
 unfolding runOf

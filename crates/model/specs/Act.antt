@@ -7,6 +7,7 @@ use mathlib.Core.List.{List}
 use lib.Dec.{eqb}
 use lib.ListN.{length, set}
 use Rattle.word.specs.Memory.{splice}
+use Rattle.settings.specs.declared.Settings.{Settings}
 use Rattle.reserve.specs.Reserve.{observeAllOf}
 use Rattle.reserve.specs.declared.Slot.{Slot}
 use Rattle.reserve.specs.declared.Notice.{Notice}
@@ -73,21 +74,21 @@ pcsAfter (change h ws to t) pc = set pc h to
 pcsAfter (put a bs) pc = pc
 pcsAfter (release h) pc = pc
 
--- the reservations of the first count harts follow the notice, at a set size
-abbrev pub slotsAfter : ℕ → ℕ → Act → List Slot → List Slot
-slotsAfter size count (refuse number) l = l
-slotsAfter size count (fault cause value) l = l
-slotsAfter size count (change h ws to t) l = observeAllOf size count (noticeOf h t) l .slots
-slotsAfter size count (put a bs) l = observeAllOf size count (DeviceWrite a (length bs)) l .slots
-slotsAfter size count (release h) l = observeAllOf size count (Yield h) l .slots
+-- the reservations of the first count harts follow the notice, by the settings
+abbrev pub slotsAfter : Settings → ℕ → Act → List Slot → List Slot
+slotsAfter settings count (refuse number) l = l
+slotsAfter settings count (fault cause value) l = l
+slotsAfter settings count (change h ws to t) l = observeAllOf settings count (noticeOf h t) l .slots
+slotsAfter settings count (put a bs) l = observeAllOf settings count (DeviceWrite a (length bs)) l .slots
+slotsAfter settings count (release h) l = observeAllOf settings count (Yield h) l .slots
 
 -- 02 [3]: "the set of harts whose reservation it broke, one bit each, bit 0 for hart 0": of the first count harts, by their reservations before
-abbrev pub brokenAfter : ℕ → ℕ → Act → List Slot → ℕ
-brokenAfter size count (refuse number) l = 0
-brokenAfter size count (fault cause value) l = 0
-brokenAfter size count (change h ws to t) l = observeAllOf size count (noticeOf h t) l .broken
-brokenAfter size count (put a bs) l = observeAllOf size count (DeviceWrite a (length bs)) l .broken
-brokenAfter size count (release h) l = observeAllOf size count (Yield h) l .broken
+abbrev pub brokenAfter : Settings → ℕ → Act → List Slot → ℕ
+brokenAfter settings count (refuse number) l = 0
+brokenAfter settings count (fault cause value) l = 0
+brokenAfter settings count (change h ws to t) l = observeAllOf settings count (noticeOf h t) l .broken
+brokenAfter settings count (put a bs) l = observeAllOf settings count (DeviceWrite a (length bs)) l .broken
+brokenAfter settings count (release h) l = observeAllOf settings count (Yield h) l .broken
 
 unfoldable pub leaves : ℕ → List ℕ → Act → List ℕ
 leaves base mem (refuse number) = mem
@@ -97,11 +98,12 @@ leaves base mem (put a bs) = splice mem (a - base) bs
 leaves base mem (release h) = mem
 
 -- the state afterwards
-unfoldable pub apply : ℕ → State → Act → State
-apply size s act =
+unfoldable pub apply : State → Act → State
+apply s act =
     record {
       count = s .count;
+      settings = s .settings;
       x = registersAfter act (s .x);
       pc = pcsAfter act (s .pc);
-      res = slotsAfter size (s .count) act (s .res);
+      res = slotsAfter (s .settings) (s .count) act (s .res);
     }

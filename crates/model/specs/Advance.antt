@@ -3,6 +3,7 @@ use mathlib.Core.Path.{_≡_}
 use Prim.Native.Nat.{ℕ}
 use mathlib.Core.List.{List}
 use lib.ListN.{set}
+use Rattle.settings.specs.declared.Settings.{Settings}
 use Rattle.reserve.specs.Reserve.{observeAllOf}
 use Rattle.reserve.specs.Packed.{slotsIn}
 use Rattle.reserve.specs.declared.Slot.{Slot}
@@ -15,9 +16,10 @@ use Rattle.model.specs.declared.Reply.{Reply}
 use Rattle.model.specs.declared.Outcome.{Outcome}
 use Rattle.model.specs.declared.Outcome.the-variants as O
 
--- the machine that is lent in parts: registers, pcs, reservations as 24 numbers, memory
-abbrev pub inParts : ℕ → List ℕ → List ℕ → List ℕ → List ℕ → Machine
-inParts count x pc t mem = record { state = record { count = count; x = x; pc = pc; res = slotsIn t }; mem = mem }
+-- the machine that is lent in parts: count and settings, registers, pcs, reservations as 24 numbers, memory
+abbrev pub inParts : ℕ → Settings → List ℕ → List ℕ → List ℕ → List ℕ → Machine
+inParts count settings x pc t mem =
+    record { state = record { count = count; settings = settings; x = x; pc = pc; res = slotsIn t }; mem = mem }
 
 -- the reply r to event e, and the machine afterwards: registers, pcs, reservations and memory
 pub record Advances (base : ℕ) (e : Event) (m : Machine) (r : Reply) (m′ : Machine) : Type 0 where
@@ -34,13 +36,13 @@ unfoldable pub pcsBy : ℕ → Done → List ℕ → List ℕ
 pcsBy h (Retired e) pc = set pc h (e .next)
 pcsBy h (Trap cause value) pc = pc
 
-unfoldable pub slotsBy : ℕ → Done → List Slot → List Slot
-slotsBy count (Retired e) l = observeAllOf 64 count (e .notice) l .slots
-slotsBy count (Trap cause value) l = l
+unfoldable pub slotsBy : Settings → ℕ → Done → List Slot → List Slot
+slotsBy settings count (Retired e) l = observeAllOf settings count (e .notice) l .slots
+slotsBy settings count (Trap cause value) l = l
 
-unfoldable pub brokenBy : ℕ → Done → List Slot → ℕ
-brokenBy count (Retired e) l = observeAllOf 64 count (e .notice) l .broken
-brokenBy count (Trap cause value) l = 0
+unfoldable pub brokenBy : Settings → ℕ → Done → List Slot → ℕ
+brokenBy settings count (Retired e) l = observeAllOf settings count (e .notice) l .broken
+brokenBy settings count (Trap cause value) l = 0
 
 unfoldable pub outcomeBy : Done → Outcome
 outcomeBy (Retired e) = retiredAs (e .notice)

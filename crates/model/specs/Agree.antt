@@ -11,9 +11,10 @@ use Rattle.model.specs.Perform.{Machine, reservationOf, replyAt, nextOf}
 use Rattle.model.specs.Run.{Result}
 use Rattle.model.specs.declared.Reply.{Reply}
 
--- The counts are the same, and so are all registers, the pc and the reservation of each hart below the count. Nothing is asked of unused harts.
+-- The counts and the settings are the same, and so are all registers, the pc and the reservation of each hart below the count. Nothing is asked of unused harts.
 pub record Agree (s t : State) : Type 0 where
   pub counts : s .count ≡ t .count
+  pub settings : s .settings ≡ t .settings
   pub registers : (k : ℕ) → k < s .count → (r : ℕ) → regAt (s .x) k r ≡ regAt (t .x) k r
   pub pcs : (k : ℕ) → k < s .count → getD (s .pc) k 0 ≡ getD (t .pc) k 0
   pub reservations : (k : ℕ) → k < s .count → reservationOf s k ≡ reservationOf t k

@@ -33,7 +33,7 @@ fetchOf x pc base mem covered =
 
 -- hart h's step
 abbrev pub stepOf : ℕ → List ℕ → State → ℕ → Exec
-stepOf base mem s h = fetchOf (regAt (s .x) h) (getD (s .pc) h 0) base mem (coversOf 64 (reservationOf s h))
+stepOf base mem s h = fetchOf (regAt (s .x) h) (getD (s .pc) h 0) base mem (coversOf (s .settings) (reservationOf s h))
 
 abbrev pub ofExec : ℕ → Exec → Act
 ofExec h (trap cause value) = fault cause value
@@ -60,13 +60,17 @@ pub record Machine : Type 0 where
   pub state : State
   pub mem : List ℕ
 
+-- the number of bytes of a reservation's set
+abbrev pub setSize : Machine → ℕ
+setSize m = m .state .settings .size
+
 -- the answer to an event, with the harts whose reservation it broke and the state, and the memory afterwards
 unfoldable pub answerOf : ℕ → List ℕ → State → Event → Answer
 answerOf base mem s e =
     record {
       outcome = outcomeOf (actOf base mem s e);
-      broke = brokenAfter 64 (s .count) (actOf base mem s e) (s .res);
-      state = apply 64 s (actOf base mem s e);
+      broke = brokenAfter (s .settings) (s .count) (actOf base mem s e) (s .res);
+      state = apply s (actOf base mem s e);
     }
 
 unfoldable pub memoryOf : ℕ → List ℕ → State → Event → List ℕ

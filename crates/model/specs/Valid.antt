@@ -11,7 +11,7 @@ use Rattle.model.specs.Perform.{Machine}
 
 -- neither 1 nor 2 refuses the machine
 abbrev pub Valid : ℕ → Machine → Type 0
-Valid base m = MemoryRules base (length (m .mem)) × StateRules base (length (m .mem)) (m .state)
+Valid base m = MemoryRules (m .state .settings) base (length (m .mem)) × StateRules base (length (m .mem)) (m .state)
 
 -- an act whose next pc is aligned, whose reservation is well formed and whose bytes lie in the len bytes at base
 abbrev pub ActOk : ℕ → ℕ → Act → Type 0

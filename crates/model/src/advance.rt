@@ -1,4 +1,4 @@
-// Events performed in place, on registers, pcs and reservations that refusals 1 and 2 do not refuse. Reservations are lent as 24 numbers.
+// Events performed in place, on settings, registers, pcs, reservations and a memory that refusals 1 and 2 do not refuse. Reservations are lent as 24 numbers.
 use crate::Outcome;
 use crate::Reply;
 use effect::Done;
@@ -6,8 +6,10 @@ use events::Event;
 use reserve::Notice;
 use reserve::Reservation;
 use reserve::packed;
+use settings::Settings;
 ghost use mathlib.Core.Path.{_≡_};
 ghost use Prim.Native.Nat.{_<_, _≤_};
+ghost use Rattle.settings.specs.Settings.{SizeRules};
 ghost use Rattle.reserve.specs.Reserve.{coversOf};
 ghost use Rattle.reserve.specs.Packed.{slotsIn};
 ghost use Rattle.effect.specs.Effect.{Meets};
@@ -19,9 +21,17 @@ ghost use Rattle.model.specs.Valid.{Valid};
 ghost use Rattle.model.specs.Advance.{inParts, Advances, registersBy, pcsBy, slotsBy, brokenBy, outcomeBy};
 
 // Fetches the word at pc and does what it says, for hart h, whose registers are among x and whose reservation is res.
-fn fetch(x: &[u64; 256], h: usize, pc: u64, base: u64, res: Reservation, mem: &mut [u8]) -> Done
-    requires { ⌜ h < 8 ⌝ }
-    ensures { λ r. ⌜ Meets h (fetchOf (regAt (now (x .entry)) h) pc base (now (mem .entry)) (coversOf 64 res)) base (now (mem .entry)) r (now (mem .exit)) ⌝ }
+fn fetch(
+    x: &[u64; 256],
+    h: usize,
+    pc: u64,
+    base: u64,
+    settings: Settings,
+    res: Reservation,
+    mem: &mut [u8],
+) -> Done
+    requires { ⌜ (h < 8) × SizeRules settings ⌝ }
+    ensures { λ r. ⌜ Meets h (fetchOf (regAt (now (x .entry)) h) pc base (now (mem .entry)) (coversOf settings res)) base (now (mem .entry)) r (now (mem .exit)) ⌝ }
 {
     if !reserve::inside(base, mem.len() as u64, pc, 4) {
         return Done::Trap {
@@ -30,7 +40,7 @@ fn fetch(x: &[u64; 256], h: usize, pc: u64, base: u64, res: Reservation, mem: &m
         };
     }
     let word = word::bytes::load_at(mem, (pc - base) as usize, 4) as u32;
-    dispatch::execute_word(word, x, h, pc, base, res, mem)
+    dispatch::execute_word(word, x, h, pc, base, settings, res, mem)
 }
 
 // Sets register r of hart h; x0 never changes.
@@ -82,15 +92,15 @@ fn broke_none(o: Outcome) -> Reply
 }
 
 // The reservations after a step, and its reply.
-fn settle(t: &mut [u64; 24], count: usize, d: Done) -> Reply
-    requires { ⌜ count ≤ 8 ⌝ }
-    ensures { λ r. ⌜ (r .outcome ≡ outcomeBy d) × (r .broke ≡ brokenBy count d (slotsIn (now (t .entry)))) ⌝ }
-    ensures { λ _. ⌜ slotsIn (now (t .exit)) ≡ slotsBy count d (slotsIn (now (t .entry))) ⌝ }
+fn settle(t: &mut [u64; 24], count: usize, settings: Settings, d: Done) -> Reply
+    requires { ⌜ (count ≤ 8) × SizeRules settings ⌝ }
+    ensures { λ r. ⌜ (r .outcome ≡ outcomeBy d) × (r .broke ≡ brokenBy settings count d (slotsIn (now (t .entry)))) ⌝ }
+    ensures { λ _. ⌜ slotsIn (now (t .exit)) ≡ slotsBy settings count d (slotsIn (now (t .entry))) ⌝ }
 {
     match d {
         Done::Retired(e) => {
             let n = e.notice;
-            let broke = packed::observe(t, count, 64, n);
+            let broke = packed::observe(t, count, settings, n);
             Reply {
                 outcome: retired_as(n),
                 broke,
@@ -106,38 +116,40 @@ fn step_hart(
     pc: &mut [u64; 8],
     t: &mut [u64; 24],
     count: usize,
+    settings: Settings,
     h: usize,
     base: u64,
     mem: &mut [u8],
 ) -> Reply
-    requires { ⌜ Valid base (inParts count (now x) (now pc) (now t) (now mem)) ⌝ }
+    requires { ⌜ Valid base (inParts count settings (now x) (now pc) (now t) (now mem)) ⌝ }
     requires { ⌜ h < count ⌝ }
     ensures { λ r. ⌜ Advances base (Step h)
-        (inParts count (now (x .entry)) (now (pc .entry)) (now (t .entry)) (now (mem .entry))) r
-        (inParts count (now (x .exit)) (now (pc .exit)) (now (t .exit)) (now (mem .exit)))
+        (inParts count settings (now (x .entry)) (now (pc .entry)) (now (t .entry)) (now (mem .entry))) r
+        (inParts count settings (now (x .exit)) (now (pc .exit)) (now (t .exit)) (now (mem .exit)))
         ⌝ }
 {
     let r = packed::reservation(t, h);
     let at = pc[h];
-    let d = fetch(x, h, at, base, r, mem);
+    let d = fetch(x, h, at, base, settings, r, mem);
     move_hart(x, pc, h, d);
-    settle(t, count, d)
+    settle(t, count, settings, d)
 }
 
 // A device write of the size lowest bytes of value.
 fn write_device(
     t: &mut [u64; 24],
     count: usize,
+    settings: Settings,
     addr: u64,
     size: usize,
     value: u64,
     base: u64,
     mem: &mut [u8],
 ) -> Reply
-    requires { ⌜ count ≤ 8 ⌝ }
+    requires { ⌜ (count ≤ 8) × SizeRules settings ⌝ }
     ensures { λ r. ⌜ r .outcome ≡ outcomeOf (deviceOf base (now (mem .entry)) addr size value) ⌝ }
-    ensures { λ r. ⌜ r .broke ≡ brokenAfter 64 count (deviceOf base (now (mem .entry)) addr size value) (slotsIn (now (t .entry))) ⌝ }
-    ensures { λ _. ⌜ slotsIn (now (t .exit)) ≡ slotsAfter 64 count (deviceOf base (now (mem .entry)) addr size value) (slotsIn (now (t .entry))) ⌝ }
+    ensures { λ r. ⌜ r .broke ≡ brokenAfter settings count (deviceOf base (now (mem .entry)) addr size value) (slotsIn (now (t .entry))) ⌝ }
+    ensures { λ _. ⌜ slotsIn (now (t .exit)) ≡ slotsAfter settings count (deviceOf base (now (mem .entry)) addr size value) (slotsIn (now (t .entry))) ⌝ }
     ensures { λ _. ⌜ now (mem .exit) ≡ leaves base (now (mem .entry)) (deviceOf base (now (mem .entry)) addr size value) ⌝ }
 {
     if size == 0 {
@@ -152,15 +164,16 @@ fn write_device(
     word::bytes::store_at(mem, (addr - base) as usize, size, value);
     Reply {
         outcome: Outcome::Retired,
-        broke: packed::device_write(t, count, 64, addr, size as u64),
+        broke: packed::device_write(t, count, settings, addr, size as u64),
     }
 }
 
-// A yield of hart h.
+// A yield of hart h, at any settings.
 fn release_hart(t: &mut [u64; 24], count: usize, h: usize) -> Reply
     requires { ⌜ count ≤ 8 ⌝ }
-    ensures { λ r. ⌜ (r .outcome ≡ outcomeOf (release h)) × (r .broke ≡ brokenAfter 64 count (release h) (slotsIn (now (t .entry)))) ⌝ }
-    ensures { λ _. ⌜ slotsIn (now (t .exit)) ≡ slotsAfter 64 count (release h) (slotsIn (now (t .entry))) ⌝ }
+    ensures { λ r. ⌜ r .outcome ≡ outcomeOf (release h) ⌝ }
+    ensures { λ r. ⌜ ((settings : Settings) → r .broke ≡ brokenAfter settings count (release h) (slotsIn (now (t .entry)))) ⌝ }
+    ensures { λ _. ⌜ ((settings : Settings) → slotsIn (now (t .exit)) ≡ slotsAfter settings count (release h) (slotsIn (now (t .entry)))) ⌝ }
 {
     packed::release(t, count, h);
     broke_none(Outcome::Retired)
@@ -172,20 +185,21 @@ pub fn advance(
     pc: &mut [u64; 8],
     t: &mut [u64; 24],
     count: usize,
+    settings: Settings,
     base: u64,
     mem: &mut [u8],
     e: Event,
 ) -> Reply
-    requires { ⌜ Valid base (inParts count (now x) (now pc) (now t) (now mem)) ⌝ }
+    requires { ⌜ Valid base (inParts count settings (now x) (now pc) (now t) (now mem)) ⌝ }
     ensures { λ r. ⌜ Advances base e
-        (inParts count (now (x .entry)) (now (pc .entry)) (now (t .entry)) (now (mem .entry))) r
-        (inParts count (now (x .exit)) (now (pc .exit)) (now (t .exit)) (now (mem .exit)))
+        (inParts count settings (now (x .entry)) (now (pc .entry)) (now (t .entry)) (now (mem .entry))) r
+        (inParts count settings (now (x .exit)) (now (pc .exit)) (now (t .exit)) (now (mem .exit)))
         ⌝ }
 {
     match e {
         Event::Step { hart } => {
             if hart < count {
-                return step_hart(x, pc, t, count, hart, base, mem);
+                return step_hart(x, pc, t, count, settings, hart, base, mem);
             }
             broke_none(Outcome::Refused { number: 3 })
         }
@@ -193,7 +207,7 @@ pub fn advance(
             addr,
             size,
             data: value,
-        } => write_device(t, count, addr, size, value, base, mem),
+        } => write_device(t, count, settings, addr, size, value, base, mem),
         Event::Yield { hart } => {
             if hart < count {
                 return release_hart(t, count, hart);

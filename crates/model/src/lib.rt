@@ -50,10 +50,11 @@ pub fn perform(s: State, base: u64, mem: &mut [u8], e: Event) -> Answer
     ensures { λ _. ⌜ now (mem .exit) ≡ memoryOf base (now (mem .entry)) s e ⌝ }
 {
     let count = s.count;
+    let settings = s.settings;
     let mut x = s.x;
     let mut pc = s.pc;
     let res = s.res;
-    let number = machine::refusal(base, mem.len(), count, &x, &pc, res);
+    let number = machine::refusal(base, mem.len(), count, settings, &x, &pc, res);
     if number != 0 {
         return Answer {
             outcome: Outcome::Refused { number },
@@ -62,7 +63,7 @@ pub fn perform(s: State, base: u64, mem: &mut [u8], e: Event) -> Answer
         };
     }
     let mut t = packed::pack(res);
-    let r = advance::advance(&mut x, &mut pc, &mut t, count, base, mem, e);
+    let r = advance::advance(&mut x, &mut pc, &mut t, count, settings, base, mem, e);
     let outcome = r.outcome;
     let after = packed::unpack(&t);
     Answer {
@@ -70,6 +71,7 @@ pub fn perform(s: State, base: u64, mem: &mut [u8], e: Event) -> Answer
         broke: r.broke,
         state: State {
             count,
+            settings,
             x,
             pc,
             res: after,

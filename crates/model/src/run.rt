@@ -5,6 +5,7 @@ use crate::advance::advance;
 use events::Checked;
 use machine::State;
 use reserve::packed;
+use settings::Settings;
 ghost use mathlib.Core.Path.{_≡_};
 ghost use Prim.Native.Nat.{_*_, _≤_, min};
 ghost use lib.ListN.{length};
@@ -36,22 +37,23 @@ fn perform_first(
     pc: &mut [u64; 8],
     t: &mut [u64; 24],
     count: usize,
+    settings: Settings,
     base: u64,
     mem: &mut [u8],
     body: &[u8],
     n: usize,
 )
-    requires { ⌜ Valid base (inParts count (now x) (now pc) (now t) (now mem)) ⌝ }
+    requires { ⌜ Valid base (inParts count settings (now x) (now pc) (now t) (now mem)) ⌝ }
     requires { ⌜ n * 24 ≤ length (now body) ⌝ }
-    ensures { λ _. ⌜ inParts count (now (x .exit)) (now (pc .exit)) (now (t .exit)) (now (mem .exit))
-        ≡ runOf base (inParts count (now (x .entry)) (now (pc .entry)) (now (t .entry)) (now (mem .entry))) (firstEvents n (now (body .entry)))
+    ensures { λ _. ⌜ inParts count settings (now (x .exit)) (now (pc .exit)) (now (t .exit)) (now (mem .exit))
+        ≡ runOf base (inParts count settings (now (x .entry)) (now (pc .entry)) (now (t .entry)) (now (mem .entry))) (firstEvents n (now (body .entry)))
         ⌝ }
 {
     let mut i: usize = 0;
     while i < n {
         let at = i * 24;
         let e = events::read_event(&body[at..at + 24]);
-        advance(x, pc, t, count, base, mem, e);
+        advance(x, pc, t, count, settings, base, mem, e);
         i += 1;
     }
 }
@@ -62,10 +64,11 @@ pub fn run(s: State, base: u64, mem: &mut [u8], body: &[u8], budget: usize) -> R
     ensures { λ _. ⌜ now (mem .exit) ≡ resultOf base (now (mem .entry)) s (now (body .entry)) budget .mem ⌝ }
 {
     let count = s.count;
+    let settings = s.settings;
     let mut x = s.x;
     let mut pc = s.pc;
     let res = s.res;
-    let number = machine::refusal(base, mem.len(), count, &x, &pc, res);
+    let number = machine::refusal(base, mem.len(), count, settings, &x, &pc, res);
     if number != 0 {
         return refused_run(number, 0, s);
     }
@@ -74,13 +77,14 @@ pub fn run(s: State, base: u64, mem: &mut [u8], body: &[u8], budget: usize) -> R
         Checked::Good => {
             let n = smaller(budget, body.len() / 24);
             let mut t = packed::pack(res);
-            perform_first(&mut x, &mut pc, &mut t, count, base, mem, body, n);
+            perform_first(&mut x, &mut pc, &mut t, count, settings, base, mem, body, n);
             let after = packed::unpack(&t);
             Ran {
                 verdict: Verdict::Performed,
                 performed: n,
                 state: State {
                     count,
+                    settings,
                     x,
                     pc,
                     res: after,

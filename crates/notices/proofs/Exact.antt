@@ -94,7 +94,7 @@ module _ (base : ℕ) (m : Machine) (v : Valid base m) where
       let q : IsRetired (outcomeOf (actOn base (m .mem) (m .state) (Step h))) = rw (act-valid base m v (Step h)) at l in
       go (ltb h (m .state .count)) refl (insideOf base (length (m .mem)) (getD (m .state .pc) h 0) 4) refl
       (executeWord 64 (valueAt base (m .mem) (getD (m .state .pc) h 0) 4) (regAt (m .state .x) h) (getD (m .state .pc) h 0) base (m .mem)
-      (coversOf 64 (reservationOf (m .state) h))) q
+      (coversOf (m .state .settings) (reservationOf (m .state) h))) q
     where
       go : (s : Bool) → ltb h (m .state .count) ≡ s → (t : Bool) → insideOf base (length (m .mem)) (getD (m .state .pc) h 0) 4 ≡ t
           → (x : Exec) → IsRetired (outcomeOf (cond s (ofExec h (cond t x (trap 1 (getD (m .state .pc) h 0)))) (refuse 3)))
@@ -122,7 +122,7 @@ module _ (base : ℕ) (m : Machine) (v : Valid base m) where
       performs : actOf base (m .mem) (m .state) e
           ≡ ofExec h
           (execute 64 i (valueAt base (m .mem) (getD (m .state .pc) h 0) 4) (regAt (m .state .x) h) (getD (m .state .pc) h 0) base (m .mem)
-          (coversOf 64 (reservationOf (m .state) h)))
+          (coversOf (m .state .settings) (reservationOf (m .state) h)))
       performs = ap (actOf base (m .mem) (m .state)) (r .theStep) ∙ step-act base m v h (fetched h answers .0) i (r .fetches)
 
       pub tells-step : noticeAt base m e ≡ noticeBy h (regAt (m .state .x) h) base (m .mem) i (outcomeAt base m e)
@@ -180,7 +180,7 @@ module _ (base : ℕ) (m : Machine) (v : Valid base m) where
     module _ (h : ℕ) where
       performs-sc : (i : Atomic) → Retires base m e h (Amo i) → i .op ≡ Sc → Ends h
           (execSc 64 (i .width) (i .rd) (atomicAddress m h i) (regAt (m .state .x) h (i .rs2)) (getD (m .state .pc) h 0) base (m .mem)
-          (coversOf 64 (reservationOf (m .state) h)))
+          (coversOf (m .state .settings) (reservationOf (m .state) h)))
           → NotPlain (outcomeAt base m e)
       unfolding answerOf execute execAtomic Ends
       performs-sc i r q n =
@@ -189,7 +189,7 @@ module _ (base : ℕ) (m : Machine) (v : Valid base m) where
           (performs h (Amo i) r
           ∙ ap
           (λ (op : AtomicOp).
-          ofExec h (atomicBy 64 op i (regAt (m .state .x) h) (getD (m .state .pc) h 0) base (m .mem) (coversOf 64 (reservationOf (m .state) h)))) q)))
+          ofExec h (atomicBy 64 op i (regAt (m .state .x) h) (getD (m .state .pc) h 0) base (m .mem) (coversOf (m .state .settings) (reservationOf (m .state) h)))) q)))
           n
 
       plain-sc : (i : Atomic) → Retires base m e h (Amo i) → i .op ≡ Sc → outcomeAt base m e ≡ O.Retired → ⊥

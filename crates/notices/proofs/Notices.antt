@@ -159,7 +159,7 @@ module _ (base : ℕ) (m : Machine) (v : Valid base m) where
       subst
       (λ (act : Act). (Traps (outcomeOf act) → ⊥) → actNotice act ≡ noticeBy h (regAt (m .state .x) h) base (m .mem) i (outcomeOf act))
       (sym (step-act base m v h u i f))
-      (tells h (regAt (m .state .x) h) (getD (m .state .pc) h 0) base (m .mem) (coversOf 64 (reservationOf (m .state) h)) i
+      (tells h (regAt (m .state .x) h) (getD (m .state .pc) h 0) base (m .mem) (coversOf (m .state .settings) (reservationOf (m .state) h)) i
       (valueAt base (m .mem) (getD (m .state .pc) h 0) 4))
 
   -- a device write that isn't refused, its address and number of bytes

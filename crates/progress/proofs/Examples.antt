@@ -12,6 +12,7 @@ use Rattle.word.specs.Bytes.{le, toLe}
 use Rattle.word.specs.Memory.{part, splice}
 use Rattle.word.specs.Each.{allBelow}
 use Rattle.word.proofs.TestLaws.{contrary}
+use Rattle.settings.specs.Settings.{defaults, sizeOk}
 use Rattle.reserve.specs.Range.{Touch, touches, insideOf, setOf}
 use Rattle.reserve.specs.Reserve.{slot, coversOf, breaksOf, ownOf, observeOf, observeAllOf}
 use Rattle.reserve.specs.declared.Reservation.the-variants.{None, Held}
@@ -22,7 +23,7 @@ use Rattle.isa.specs.declared.Width.the-variants.{Word}
 use Rattle.isa.specs.declared.Atomic.{Atomic}
 use Rattle.isa.specs.declared.AtomicOp.the-variants as A
 use Rattle.reserve.proofs.RangeLaws.{inside-of}
-use Rattle.machine.specs.State.{memoryOk, reservationOk, hartOk, stateOk, refusalOf}
+use Rattle.machine.specs.State.{lentOk, memoryOk, reservationOk, hartOk, stateOk, refusalOf}
 use Rattle.machine.proofs.StateLaws.{refusal-0}
 use Rattle.effect.specs.Integer.{holdsOf, execBranch}
 use Rattle.effect.specs.Memory.{faultOf, checked, valueAt, execStore}
@@ -43,7 +44,7 @@ use Rattle.retry.specs.Reasons.{LrAt}
 use Rattle.retry.specs.declared.LoopAnswer.the-variants.{Accepted}
 use Rattle.retry.specs.Loop.{viewOf, pastSc, wrongOffset, clobbers, lowestOf, scanOf, startOf, checkOf}
 use Rattle.progress.specs.Claim.{Start, LeftAlone, Harmless, Finish, bySc, left, back, Safe, Finishes, Calm, Unfinished}
-use Rattle.progress.proofs.Alone.{calm-alone, retry-alone}
+use Rattle.progress.proofs.Alone.{alone-exact, calm-alone, retry-alone}
 
 -- Edge 12's loop: lr.w x6,(x5); bne x6,x0,+12; sc.w x7,x8,(x5); bne x7,x0,-12.
 abbrev leaving : List ℕ
@@ -80,6 +81,7 @@ begin words v =
       state =
           record {
             count = 3;
+            settings = defaults;
             x = registers ++ (registers ++ replicate 192 0);
             pc = 1024 ∷ 1056 ∷ replicate 6 0;
             res = slot (Held 1144 8) ∷ replicate 7 (slot None);
@@ -99,7 +101,7 @@ checking = tt
 
 -- and running events
 running : Unit {0}
-unfolding reading splice regAt setReg insideOf allBelow memoryOk reservationOk hartOk stateOk refusalOf touches coversOf breaksOf ownOf observeOf observeAllOf
+unfolding reading splice regAt setReg insideOf allBelow sizeOk lentOk memoryOk reservationOk hartOk stateOk refusalOf touches coversOf breaksOf ownOf observeOf observeAllOf
     holdsOf execBranch faultOf checked execLr execSc execAtomic execute executeWord apply leaves fetchOf deviceOf actOn actOf answerOf memoryOf nextOf runOf
 running = tt
 
@@ -107,7 +109,7 @@ running = tt
 meets : (words : List ℕ) (v : ℕ) → length (begin words v .mem) ≡ 128 → length words ≤ 8 → checkOf words ≡ Accepted → LrAt words 0 lr
     → ((k : ℕ) → k < length words → valueAt 1024 (begin words v .mem) (1024 + 4 * k) 4 ≡ getD words k 0)
     → Start 1024 0 1024 1096 words lr (begin words v)
-unfolding refusalOf memoryOk stateOk hartOk reservationOk insideOf allBelow regAt
+unfolding refusalOf sizeOk lentOk memoryOk stateOk hartOk reservationOk insideOf allBelow regAt
 meets words v len few accepted first placed =
     record {
       valid = refusal-0 1024 (length (begin words v .mem)) (begin words v .state) .0 (rw len refl);
@@ -300,3 +302,75 @@ pub record Broken : Type 0 where
 pub broken : Broken
 unfolding running systemOf
 broken = record { yields = refl; device = refl; code-changes = refl }
+
+-- ---- the set is as large as the state says
+
+-- the machine of edge 12's loop with another set size
+abbrev sized : ℕ → Machine
+sized size =
+    let s = begin leaving 0 .state in
+    record { state = record { count = s .count; settings = record { size = size }; x = s .x; pc = s .pc; res = s .res }; mem = begin leaving 0 .mem }
+
+-- it meets the start too
+pub starts-sized : (size : ℕ) → refusalOf 1024 128 (sized size .state) ≡ 0 → Start 1024 0 1024 1096 leaving lr (sized size)
+unfolding toLe
+starts-sized size none =
+    let start = starts-leaving 0 in
+    record {
+      valid = refusal-0 1024 128 (sized size .state) .0 none;
+      shaped = record { registers = refl; pcs = refl; reservations = refl };
+      used = start .used;
+      here = start .here;
+      accepted = start .accepted;
+      placed = start .placed;
+      mapped = start .mapped;
+      first = start .first;
+      address = start .address;
+      aligned = start .aligned;
+      reachable = start .reachable;
+    }
+
+-- after the LR, with sets of 16 bytes
+abbrev reserved-16 : Machine
+reserved-16 = runOf 1024 (sized 16) (Step 0 ∷ [])
+
+start-16 : Start 1024 0 1024 1096 leaving lr (sized 16)
+unfolding refusalOf sizeOk lentOk memoryOk stateOk hartOk reservationOk insideOf allBelow
+start-16 = starts-sized 16 refl
+
+used-16 : 0 < reserved-16 .state .count
+unfolding running
+used-16 = omega arith
+
+written-16 : noticeAt 1024 reserved-16 (Step 1) ≡ N.Write 1 1104 4
+unfolding running storeOf execStore
+written-16 = refl
+
+harmless-16 : Harmless 1024 0 1024 1096 leaving lr reserved-16 (Step 1)
+unfolding running storeOf execStore Touch
+harmless-16 =
+    record { block = λ t. absurd (omega arith); reserved = λ t. absurd (omega arith); stays = λ y. let z : _≡_ {A = ℕ} 0 1 = cc in omega arith }
+
+-- hart 0's step after these events
+abbrev next-sized : ℕ → List Event → Outcome
+next-sized size es = outcomeAt 1024 (runOf 1024 (sized size) es) (Step 0)
+
+-- After the LR at 1096 hart 1 stores at 1104. That is behind sets of 8 and of 16 bytes, so with these it leaves the loop alone, and the SC stores; it is
+-- inside sets of 64 and of 128, and the SC fails.
+pub record BySize : Type 0 where
+  pub alone : LeftAlone 1024 0 1024 1096 leaving lr reserved-16 (Step 1)
+  pub stores-8 : next-sized 8 (Step 0 ∷ Step 1 ∷ Step 0 ∷ []) ≡ O.ScStored
+  pub stores-16 : next-sized 16 (Step 0 ∷ Step 1 ∷ Step 0 ∷ []) ≡ O.ScStored
+  pub fails-64 : next-sized 64 (Step 0 ∷ Step 1 ∷ Step 0 ∷ []) ≡ O.ScFailed
+  pub fails-128 : next-sized 128 (Step 0 ∷ Step 1 ∷ Step 0 ∷ []) ≡ O.ScFailed
+
+pub by-size : BySize
+unfolding running storeOf execStore
+by-size =
+    record {
+      alone = alone-exact 1024 0 1024 1096 leaving lr reserved-16 (valid-run 1024 (sized 16) (start-16 .valid) (Step 0 ∷ [])) used-16 (Step 1) .1 harmless-16;
+      stores-8 = refl;
+      stores-16 = refl;
+      fails-64 = refl;
+      fails-128 = refl;
+    }

@@ -13,13 +13,14 @@ use Rattle.word.specs.Bytes.{toLe}
 use Rattle.word.specs.Memory.{part}
 use Rattle.word.proofs.BytesLaws.{length-toLe}
 use Rattle.word.proofs.MemoryLaws.{part-splice}
+use Rattle.settings.specs.declared.Settings.{Settings}
 use Rattle.reserve.specs.Range.{Touch, Inside, setOf}
 use Rattle.reserve.specs.Reserve.{coversOf, observeOf}
 use Rattle.reserve.specs.declared.Reservation.{Reservation}
 use Rattle.reserve.specs.declared.Reservation.the-variants.{Held}
 use Rattle.reserve.specs.declared.Notice.{Notice}
 use Rattle.reserve.specs.declared.Notice.the-variants as N
-use Rattle.reserve.proofs.RangeLaws.{of-inside}
+use Rattle.reserve.proofs.RangeLaws.{covers-exact, reserved-in-set}
 use Rattle.isa.specs.Width.{bytesOf}
 use Rattle.isa.specs.Wf.{Regs}
 use Rattle.isa.specs.Decode.{decodeOf}
@@ -36,7 +37,7 @@ use Rattle.effect.proofs.Sound.{width-is}
 use Rattle.events.specs.declared.Event.{Event}
 use Rattle.events.specs.declared.Event.the-variants.{Step, Device, Yield}
 use Rattle.model.specs.Act.{Act, change, outcomeOf, retiredAs, actNotice, written, pcsAfter, registersAfter, apply, leaves}
-use Rattle.model.specs.Perform.{Machine, reservationOf, ofExec, actOf, answerOf, memoryOf, nextOf, runOf, outcomeAt}
+use Rattle.model.specs.Perform.{Machine, setSize, reservationOf, ofExec, actOf, answerOf, memoryOf, nextOf, runOf, outcomeAt}
 use Rattle.model.specs.Valid.{Valid}
 use Rattle.model.specs.Trace.{noticeAt, WritesInto, NotBy}
 use Rattle.model.specs.Fetch.{Fetches}
@@ -74,21 +75,16 @@ writes-in (N.DeviceWrite b k) a n c l low high t = touch-in b k a n c l low high
 writes-in (N.Yield g) a n c l low high t = t
 
 -- An event of others that doesn't write into the set, and no yield of the hart, spares what its LR reserved.
-spares : (h addr w : ℕ) → Inside (setOf 64 addr) 64 addr w → (nt : Notice) → NotBy h nt → (WritesInto nt (setOf 64 addr) 64 → ⊥) → nt ≢ N.Yield h
-    → Spares 64 h addr w nt
+spares : (settings : Settings) (h addr w : ℕ) → Inside (setOf (settings .size) addr) (settings .size) addr w → (nt : Notice) → NotBy h nt
+    → (WritesInto nt (setOf (settings .size) addr) (settings .size) → ⊥) → nt ≢ N.Yield h → Spares settings h addr w nt
 unfolding Spares
-spares h addr w i N.Quiet d r y = tt
-spares h addr w i (N.LoadReserved g b v) d r y = d
-spares h addr w i (N.ScStored g b k) d r y = (d, r)
-spares h addr w i (N.ScFailed g) d r y = d
-spares h addr w i (N.Write g b k) d r y = λ z. r
-spares h addr w i (N.DeviceWrite b k) d r y = λ t. r (touch-in b k addr w (setOf 64 addr) 64 (i .0) (i .1) t)
-spares h addr w i (N.Yield g) d r y = λ z. y (ap N.Yield z)
-
--- the bytes of an aligned LR lie in its set
-in-set : (addr w : ℕ) → (w ≡ 4) ⊎ (w ≡ 8) → addr % w ≡ 0 → Inside (setOf 64 addr) 64 addr w
-in-set addr w (inl q) e = let f : addr % 4 ≡ 0 = subst (λ (x : ℕ). addr % x ≡ 0) q e in (omega arith, omega arith)
-in-set addr w (inr q) e = let f : addr % 8 ≡ 0 = subst (λ (x : ℕ). addr % x ≡ 0) q e in (omega arith, omega arith)
+spares settings h addr w i N.Quiet d r y = tt
+spares settings h addr w i (N.LoadReserved g b v) d r y = d
+spares settings h addr w i (N.ScStored g b k) d r y = (d, r)
+spares settings h addr w i (N.ScFailed g) d r y = d
+spares settings h addr w i (N.Write g b k) d r y = λ z. r
+spares settings h addr w i (N.DeviceWrite b k) d r y = λ t. r (touch-in b k addr w (setOf (settings .size) addr) (settings .size) (i .0) (i .1) t)
+spares settings h addr w i (N.Yield g) d r y = λ z. y (ap N.Yield z)
 
 -- ---- events
 
@@ -138,8 +134,8 @@ module _ (base h p addr : ℕ) (words : List ℕ) (lr : Atomic) (j : ℕ)
     (sc-view : viewAt words j ≡ Sc (lr .rs1) (bytesOf (lr .width)))
     (before : (k : ℕ) → 0 < k → k < j → Before (lr .rs1) (viewAt words k))
     (after : (k : ℕ) → j < k → k < length words → After k (viewAt words k)) where
-  own-set : Inside (setOf 64 addr) 64 addr (bytesOf (lr .width))
-  own-set = in-set addr (bytesOf (lr .width)) (width-is (lr .width)) aligned
+  own-set : (m : Machine) → Valid base m → Inside (setOf (setSize m) addr) (setSize m) addr (bytesOf (lr .width))
+  own-set m v = reserved-in-set (m .state .settings) (v .0 .0) addr (bytesOf (lr .width)) (width-is (lr .width)) aligned
 
   lr-regs : Regs (I.Amo lr)
   lr-regs = subst Regs first (regs-below (getD words 0 0))
@@ -185,9 +181,9 @@ module _ (base h p addr : ℕ) (words : List ℕ) (lr : Atomic) (j : ℕ)
         source = λ l. other-reg base m e h d (lr .rs1) ∙ a .source l;
         holds = λ o l.
             res-next base m e (a .ground .valid) (a .ground .shaped) h (a .ground .used)
-            ∙ ap (observeOf 64 h (noticeAt base m e)) (a .holds o l)
-            ∙ kept 64 h addr (bytesOf (lr .width)) (noticeAt base m e)
-            (spares h addr (bytesOf (lr .width)) own-set (noticeAt base m e) (not-by base m e h d) (s .reserved) (s .stays));
+            ∙ ap (observeOf (m .state .settings) h (noticeAt base m e)) (a .holds o l)
+            ∙ kept (m .state .settings) h addr (bytesOf (lr .width)) (noticeAt base m e)
+            (spares (m .state .settings) h addr (bytesOf (lr .width)) (own-set m (a .ground .valid)) (noticeAt base m e) (not-by base m e h d) (s .reserved) (s .stays));
       }
 
   -- ---- the hart's own step
@@ -202,7 +198,7 @@ module _ (base h p addr : ℕ) (words : List ℕ) (lr : Atomic) (j : ℕ)
     -- what an instruction does here, and the word at the place
     abbrev by : Instr → Exec
     by n =
-        execute 64 n (valueAt base (m .mem) (hartPc m h) 4) (regAt (m .state .x) h) (hartPc m h) base (m .mem) (coversOf 64 (reservationOf (m .state) h))
+        execute 64 n (valueAt base (m .mem) (hartPc m h) 4) (regAt (m .state .x) h) (hartPc m h) base (m .mem) (coversOf (m .state .settings) (reservationOf (m .state) h))
 
     abbrev exec : Exec
     exec = by (decodeOf (getD words i 0))
@@ -221,7 +217,7 @@ module _ (base h p addr : ℕ) (words : List ℕ) (lr : Atomic) (j : ℕ)
     hart-8 = omega (arith, a .ground .used, a .ground .valid .1 .1)
 
     low : p + 4 * i + 4 ≤ 2 ^ 41
-    low = omega (arith, a .ground .mapped i (a .inLoop) .1, a .ground .valid .0 .1, a .ground .valid .0 .4)
+    low = omega (arith, a .ground .mapped i (a .inLoop) .1, a .ground .valid .0 .1 .1, a .ground .valid .0 .1 .4)
 
     pc-low : hartPc m h + 4 < 2 ^ 64
     pc-low = omega (arith, a .here, low)
@@ -232,7 +228,7 @@ module _ (base h p addr : ℕ) (words : List ℕ) (lr : Atomic) (j : ℕ)
     -- it retires and goes to a later place: there, or out of the loop
     module _ (rd i′ : ℕ) (t : Access) (mv : Moves exec rd (p + 4 * i′) t) (on : i < i′)
         (quiet : WritesInto (noticeOf h t) p (4 * length words) → ⊥) (rs1-kept : i′ ≤ j → Keeps (lr .rs1) rd)
-        (res-held : i′ ≤ j → observeOf 64 h (noticeOf h t) (reservationOf (m .state) h) ≡ Held addr (bytesOf (lr .width))) where
+        (res-held : i′ ≤ j → observeOf (m .state .settings) h (noticeOf h t) (reservationOf (m .state) h) ≡ Held addr (bytesOf (lr .width))) where
       changed : actOf base (m .mem) (m .state) (Step h) ≡ change h (mv .ws) (p + 4 * i′) t
       changed = act-is ∙ ap (ofExec h) (mv .is)
 
@@ -258,7 +254,7 @@ module _ (base h p addr : ℕ) (words : List ℕ) (lr : Atomic) (j : ℕ)
                       ∙ a .source (omega arith);
                   holds = λ z l.
                       res-next base m (Step h) (a .ground .valid) (a .ground .shaped) h (a .ground .used)
-                      ∙ ap (λ (n : Notice). observeOf 64 h n (reservationOf (m .state) h)) (noticed base m h (mv .ws) (p + 4 * i′) t changed)
+                      ∙ ap (λ (n : Notice). observeOf (m .state .settings) h n (reservationOf (m .state) h)) (noticed base m h (mv .ws) (p + 4 * i′) t changed)
                       ∙ res-held l;
                 },
               )
@@ -271,8 +267,8 @@ module _ (base h p addr : ℕ) (words : List ℕ) (lr : Atomic) (j : ℕ)
     silent : (rd i′ : ℕ) → Moves exec rd (p + 4 * i′) nothing → i < i′ → 0 < i → (i < j → Keeps (lr .rs1) rd) → Good m i
     unfolding Good
     silent rd i′ mv on z ks = (
-      fine rd i′ nothing mv on (λ t. t) (λ l. ks (omega arith)) (λ l. observe-quiet 64 h _ ∙ a .holds z (omega arith)) tt,
-      arrive rd i′ nothing mv on (λ t. t) (λ l. ks (omega arith)) (λ l. observe-quiet 64 h _ ∙ a .holds z (omega arith)),
+      fine rd i′ nothing mv on (λ t. t) (λ l. ks (omega arith)) (λ l. observe-quiet (m .state .settings) h _ ∙ a .holds z (omega arith)) tt,
+      arrive rd i′ nothing mv on (λ t. t) (λ l. ks (omega arith)) (λ l. observe-quiet (m .state .settings) h _ ∙ a .holds z (omega arith)),
     )
 
     forward : (rd off : ℕ) → Moves exec rd ((hartPc m h + off) % 2 ^ 64) nothing → Ahead off → 0 < i → (i < j → Keeps (lr .rs1) rd) → Good m i
@@ -330,8 +326,8 @@ module _ (base h p addr : ℕ) (words : List ℕ) (lr : Atomic) (j : ℕ)
     opening : i ≡ 0 → Good m i
     unfolding Good
     opening z = (
-      fine (lr .rd) 1 (reserve addr (bytesOf (lr .width))) mv (omega arith) (λ t. t) (λ l. keeps) (λ l. made 64 h addr (bytesOf (lr .width)) _) tt,
-      arrive (lr .rd) 1 (reserve addr (bytesOf (lr .width))) mv (omega arith) (λ t. t) (λ l. keeps) (λ l. made 64 h addr (bytesOf (lr .width)) _),
+      fine (lr .rd) 1 (reserve addr (bytesOf (lr .width))) mv (omega arith) (λ t. t) (λ l. keeps) (λ l. made (m .state .settings) h addr (bytesOf (lr .width)) _) tt,
+      arrive (lr .rd) 1 (reserve addr (bytesOf (lr .width))) mv (omega arith) (λ t. t) (λ l. keeps) (λ l. made (m .state .settings) h addr (bytesOf (lr .width)) _),
     )
       where
         src : regAt (m .state .x) h (lr .rs1) ≡ addr
@@ -343,7 +339,7 @@ module _ (base h p addr : ℕ) (words : List ℕ) (lr : Atomic) (j : ℕ)
         at-lr : Moves (by (I.Amo lr)) (lr .rd) (hartPc m h + 4) (reserve (regAt (m .state .x) h (lr .rs1)) (bytesOf (lr .width)))
         at-lr =
             does-lr (hartPc m h) pc-aligned pc-low (valueAt base (m .mem) (hartPc m h) 4) (regAt (m .state .x) h) base (m .mem)
-            (coversOf 64 (reservationOf (m .state) h)) lr isLr lr-regs (ap (λ (x : ℕ). x % bytesOf (lr .width)) src ∙ aligned)
+            (coversOf (m .state .settings) (reservationOf (m .state) h)) lr isLr lr-regs (ap (λ (x : ℕ). x % bytesOf (lr .width)) src ∙ aligned)
             (subst (λ (x : ℕ). Inside base (length (m .mem)) x (bytesOf (lr .width))) (sym src) (a .ground .reachable))
 
         next : hartPc m h + 4 ≡ p + 4 * 1
@@ -372,10 +368,10 @@ module _ (base h p addr : ℕ) (words : List ℕ) (lr : Atomic) (j : ℕ)
         src : regAt (m .state .x) h (s .of .rs1) ≡ addr
         src = ap (regAt (m .state .x) h) (s .rs1-is) ∙ a .source (omega arith)
 
-        covered : coversOf 64 (reservationOf (m .state) h) addr (bytesOf (lr .width)) ≡ true
+        covered : coversOf (m .state .settings) (reservationOf (m .state) h) addr (bytesOf (lr .width)) ≡ true
         covered =
-            ap (λ (r : Reservation). coversOf 64 r addr (bytesOf (lr .width))) (a .holds (omega arith) (omega arith))
-            ∙ of-inside (setOf 64 addr) 64 addr (bytesOf (lr .width)) own-set
+            ap (λ (r : Reservation). coversOf (m .state .settings) r addr (bytesOf (lr .width))) (a .holds (omega arith) (omega arith))
+            ∙ covers-exact (m .state .settings) addr (bytesOf (lr .width)) addr (bytesOf (lr .width)) .1 (own-set m (a .ground .valid))
 
         act : actOf base (m .mem) (m .state) (Step h) ≡ change h (one (s .of .rd) 0) (nextPc 64 (hartPc m h)) (scStored addr new)
         act =
@@ -383,7 +379,7 @@ module _ (base h p addr : ℕ) (words : List ℕ) (lr : Atomic) (j : ℕ)
             ∙ ap (λ (n : Instr). ofExec h (by n)) (s .is)
             ∙ ap (ofExec h)
             (does-sc (hartPc m h) pc-aligned pc-low (valueAt base (m .mem) (hartPc m h) 4) (regAt (m .state .x) h) base (m .mem)
-            (coversOf 64 (reservationOf (m .state) h)) (s .of) (s .kind) addr (bytesOf (lr .width)) src (s .width-is) aligned (a .ground .reachable) covered)
+            (coversOf (m .state .settings) (reservationOf (m .state) h)) (s .of) (s .kind) addr (bytesOf (lr .width)) src (s .width-is) aligned (a .ground .reachable) covered)
 
         answers : outcomeAt base m (Step h) ≡ O.ScStored
         answers = said base m h (one (s .of .rd) 0) (nextPc 64 (hartPc m h)) (scStored addr new) act
@@ -435,7 +431,7 @@ module _ (base h p addr : ℕ) (words : List ℕ) (lr : Atomic) (j : ℕ)
         d : Does (viewAt words i) (hartPc m h) exec
         d =
             does (hartPc m h) pc-aligned pc-low (valueAt base (m .mem) (hartPc m h) 4) (regAt (m .state .x) h) base (m .mem)
-            (coversOf 64 (reservationOf (m .state) h)) (decodeOf (getD words i 0)) (regs-below (getD words i 0))
+            (coversOf (m .state .settings) (reservationOf (m .state) h)) (decodeOf (getD words i 0)) (regs-below (getD words i 0))
 
         go : Place → Good m i
         go (at-lr z) = opening z

@@ -19,7 +19,7 @@ use Rattle.effect.specs.Execute.{regAt}
 use Rattle.effect.specs.Memory.{valueAt}
 use Rattle.events.specs.declared.Event.{Event}
 use Rattle.events.specs.declared.Event.the-variants.{Step, Device, Yield}
-use Rattle.model.specs.Perform.{Machine, nextOf, runOf, outcomeAt}
+use Rattle.model.specs.Perform.{Machine, setSize, nextOf, runOf, outcomeAt}
 use Rattle.model.specs.Valid.{Valid}
 use Rattle.model.specs.Trace.{noticeAt, WritesInto}
 use Rattle.model.specs.declared.Outcome.{Outcome}
@@ -69,18 +69,18 @@ module _ (base h p addr : ℕ) (words : List ℕ) (lr : Atomic) where
     -- "its 4 or 8 bytes inside memory"
     pub reachable : Inside base (length (m .mem)) addr (bytesOf (lr .width))
 
-  -- The event leaves the loop alone: it writes into neither the loop's words nor the reserved set, "the set around it, from the first event on", and is
-  -- no yield of the hart. "Something writes into bytes if it touches at least one of them, even with the same bytes, and is a retired store, AMO, equal
+  -- The event leaves the loop alone: it writes into neither the loop's words nor the reserved set, and is no yield of the hart. The reserved set is "the
+  -- set around it, from the first event on": as many bytes as the state's set size (02 [5]), which no event changes. "Something writes into bytes if it touches at least one of them, even with the same bytes, and is a retired store, AMO, equal
   -- AMOCAS or successful SC, or a device write that isn't refused": that is `WritesBytes`, of n bytes at b.
   pub record LeftAlone (m : Machine) (e : Event) : Type 0 where
     pub noWord : (b n : ℕ) → WritesBytes base m e b n → Touch b n p (4 * length words) → ⊥
-    pub noSet : (b n : ℕ) → WritesBytes base m e b n → Touch b n (setOf 64 addr) 64 → ⊥
+    pub noSet : (b n : ℕ) → WritesBytes base m e b n → Touch b n (setOf (setSize m) addr) (setSize m) → ⊥
     pub noYield : e ≢ Yield h
 
   -- The same in terms of what reservations learn of the event. A refused event and a trap do none of these.
   pub record Harmless (m : Machine) (e : Event) : Type 0 where
     pub block : WritesInto (noticeAt base m e) p (4 * length words) → ⊥
-    pub reserved : WritesInto (noticeAt base m e) (setOf 64 addr) 64 → ⊥
+    pub reserved : WritesInto (noticeAt base m e) (setOf (setSize m) addr) (setSize m) → ⊥
     pub stays : noticeAt base m e ≢ N.Yield h
 
   -- With the event hart h makes an SC that succeeds at the LR's address: "An SC succeeds or fails by the rule above, also where its rd is x0; the

@@ -12,6 +12,7 @@ use Rattle.word.specs.Each.{each}
 use Rattle.word.proofs.BytesLaws.{bytes-toLe}
 use Rattle.word.proofs.ChooseLaws.{cond-all}
 use Rattle.word.proofs.MemoryLaws.{bytes-splice}
+use Rattle.settings.specs.declared.Settings.{Settings}
 use Rattle.reserve.specs.Range.{insideOf}
 use Rattle.reserve.specs.Reserve.{slot, coversOf, breaksOf, ownOf, observeOf, observeSlot, observeAllOf}
 use Rattle.reserve.specs.declared.Reservation.{Reservation}
@@ -19,7 +20,7 @@ use Rattle.reserve.specs.declared.Reservation.the-variants.{None, Held}
 use Rattle.reserve.specs.declared.Slot.{Slot}
 use Rattle.reserve.specs.declared.Notice.{Notice}
 use Rattle.reserve.specs.declared.Notice.the-variants.{Quiet, LoadReserved, ScStored, ScFailed, Write, DeviceWrite, Yield}
-use Rattle.machine.specs.Rules.{MemoryRules}
+use Rattle.machine.specs.Rules.{LentRules}
 use Rattle.machine.specs.State.{refusalOf}
 use Rattle.machine.specs.declared.State.{State}
 use Rattle.machine.proofs.StateLaws.{refusal-0}
@@ -91,12 +92,12 @@ own-numbers h (Write g b n) r o k = k
 own-numbers h (DeviceWrite b n) r o k = k
 own-numbers h (Yield g) r o k = cond-all Fits64 (eqb g h) None r tt k
 
-slot-numbers : (size count : ℕ) (n : Notice) (l : List Slot) → Reserves n → ((k : ℕ) → Fits64 (getD l k (slot None) .reservation))
-    → (k : ℕ) → Fits64 (getD (observeAllOf size count n l .slots) k (slot None) .reservation)
+slot-numbers : (settings : Settings) (count : ℕ) (n : Notice) (l : List Slot) → Reserves n → ((k : ℕ) → Fits64 (getD l k (slot None) .reservation))
+    → (k : ℕ) → Fits64 (getD (observeAllOf settings count n l .slots) k (slot None) .reservation)
 unfolding observeAllOf observeOf
-slot-numbers size count n l o q k =
-    each-all (λ (c : Slot). Fits64 (c .reservation)) (observeSlot size n) count l (slot None) k
-    (λ j c p. cond-all Fits64 (breaksOf size j n (c .reservation)) None (ownOf j n (c .reservation)) tt (own-numbers j n (c .reservation) o p))
+slot-numbers settings count n l o q k =
+    each-all (λ (c : Slot). Fits64 (c .reservation)) (observeSlot settings n) count l (slot None) k
+    (λ j c p. cond-all Fits64 (breaksOf settings j n (c .reservation)) None (ownOf j n (c .reservation)) tt (own-numbers j n (c .reservation) o p))
     (q k)
 
 -- ---- acts
@@ -123,7 +124,7 @@ pcs-small (change h ws to t) pc f q = λ i. set-all (λ (w : ℕ). w < 2 ^ 64) p
 pcs-small (put a bs) pc f q = q
 pcs-small (release h) pc f q = q
 
-module _ (base : ℕ) (mem : List ℕ) (rules : MemoryRules base (length mem)) where
+module _ (settings : Settings) (base : ℕ) (mem : List ℕ) (rules : LentRules settings base (length mem)) where
   -- what an LR reserves lies in memory
   reserves : (h : ℕ) (t : Access) → AccessOk base (length mem) t → Reserves (noticeOf h t)
   reserves h nothing o = tt
@@ -133,21 +134,22 @@ module _ (base : ℕ) (mem : List ℕ) (rules : MemoryRules base (length mem)) w
   reserves h scFailed o = tt
 
   slots-small : (count : ℕ) (act : Act) (l : List Slot) → ActOk base (length mem) act → ((k : ℕ) → Fits64 (getD l k (slot None) .reservation))
-      → (k : ℕ) → Fits64 (getD (slotsAfter 64 count act l) k (slot None) .reservation)
+      → (k : ℕ) → Fits64 (getD (slotsAfter settings count act l) k (slot None) .reservation)
   slots-small count (refuse number) l o q = q
   slots-small count (fault cause value) l o q = q
-  slots-small count (change h ws to t) l o q = slot-numbers 64 count (noticeOf h t) l (reserves h t (o .1)) q
-  slots-small count (put a bs) l o q = slot-numbers 64 count (DeviceWrite a (length bs)) l tt q
-  slots-small count (release h) l o q = slot-numbers 64 count (Yield h) l tt q
+  slots-small count (change h ws to t) l o q = slot-numbers settings count (noticeOf h t) l (reserves h t (o .1)) q
+  slots-small count (put a bs) l o q = slot-numbers settings count (DeviceWrite a (length bs)) l tt q
+  slots-small count (release h) l o q = slot-numbers settings count (Yield h) l tt q
 
-  ranged-apply : (s : State) (act : Act) → ActOk base (length mem) act → ActFits act → Ranged s → Ranged (apply 64 s act)
-  unfolding apply
-  ranged-apply s act o f r = record {
-    shaped = shaped-apply 64 s act (r .shaped);
-    registers = registers-small act (s .x) f (r .registers);
-    pcs = pcs-small act (s .pc) f (r .pcs);
-    reservations = slots-small (s .count) act (s .res) o (r .reservations);
-  }
+ranged-apply : (base : ℕ) (mem : List ℕ) (s : State) → LentRules (s .settings) base (length mem) → (act : Act) → ActOk base (length mem) act
+    → ActFits act → Ranged s → Ranged (apply s act)
+unfolding apply
+ranged-apply base mem s rules act o f r = record {
+  shaped = shaped-apply s act (r .shaped);
+  registers = registers-small act (s .x) f (r .registers);
+  pcs = pcs-small act (s .pc) f (r .pcs);
+  reservations = slots-small (s .settings) base mem rules (s .count) act (s .res) o (r .reservations);
+}
 
 bytes-stored : (base : ℕ) (mem : List ℕ) (t : Access) → AccessOk base (length mem) t → AccessFits t → IsBytes mem → IsBytes (stored base mem t)
 bytes-stored base mem nothing o f b = b
@@ -176,7 +178,7 @@ module _ (base : ℕ) (mem : List ℕ) (bytes : IsBytes mem) (s : State) where
   step-fits h =
       let pc = getD (s .pc) h 0 in
       cond-all (Fits 64) (insideOf base (length mem) pc 4) _ (trap 1 pc)
-      (fits (valueAt base mem pc 4) (regAt (s .x) h) pc base mem (coversOf 64 (reservationOf s h)) bytes) tt
+      (fits (valueAt base mem pc 4) (regAt (s .x) h) pc base mem (coversOf (s .settings) (reservationOf s h)) bytes) tt
 
   act-fits : (e : Event) → ActFits (actOn base mem s e)
   unfolding actOn deviceOf
@@ -191,10 +193,10 @@ module _ (base : ℕ) (mem : List ℕ) (bytes : IsBytes mem) (s : State) where
   ranged-answer e r = go (eqb (refusalOf base (length mem) s) 0) refl
     where
       go : (t : Bool) → eqb (refusalOf base (length mem) s) 0 ≡ t
-          → Ranged (apply 64 s (cond t (actOn base mem s e) (refuse (refusalOf base (length mem) s))))
+          → Ranged (apply s (cond t (actOn base mem s e) (refuse (refusalOf base (length mem) s))))
       go true q =
           let v = refusal-0 base (length mem) s .0 (eqb-true (refusalOf base (length mem) s) 0 q) in
-          ranged-apply base mem (v .0) s (actOn base mem s e) (act-ok base mem s (v .1) e) (act-fits e) r
+          ranged-apply base mem s (v .0 .1) (actOn base mem s e) (act-ok base mem s (v .1) e) (act-fits e) r
       go false q = r
 
   pub bytes-memory : (e : Event) → IsBytes (memoryOf base mem s e)

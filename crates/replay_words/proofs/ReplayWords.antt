@@ -111,12 +111,12 @@ module _ (base : ℕ) (mem : List ℕ) (s : State) (log : List ℕ) where
   replayable-or-not : Replayable base mem s log ⊎ Refusal
   unfolding refusalOf
   replayable-or-not =
-      bool-cases (memoryOk base (length mem))
+      bool-cases (memoryOk (s .settings) base (length mem))
       (λ m. bool-cases (stateOk base (length mem) s) (λ t. by-log (refusal-0 base (length mem) s .0 (rw (m, t) refl)))
       (λ f. let p = refusal-2 base (length mem) s .0 (rw (m, f) refl) in inr (2, state refl (p .0) (p .1))))
       (λ f. inr (1, memory refl (refusal-1 base (length mem) s .0 (rw f refl))))
     where
-      by-log : MemoryRules base (length mem) × StateRules base (length mem) s → Replayable base mem s log ⊎ Refusal
+      by-log : MemoryRules (s .settings) base (length mem) × StateRules base (length mem) s → Replayable base mem s log ⊎ Refusal
       by-log p =
           bool-cases (eqb (length log % 48) 0)
           (λ w. bool-cases (eqb (length log) 0) (λ z. inr (13, empty refl (p .0) (p .1) (eqb-true (length log) 0 z)))

@@ -5,7 +5,7 @@ use Prim.Native.Nat.{ℕ, zero, suc, _*_, _%_, _<_}
 use lib.ListN.{length}
 use Rattle.word.specs.Memory.{part}
 use Rattle.reserve.specs.Range.{Inside}
-use Rattle.machine.specs.Rules.{MemoryRules, StateRules}
+use Rattle.machine.specs.Rules.{MemoryRules, WrongMemory, StateRules}
 use Rattle.machine.specs.declared.State.{State}
 use Rattle.events.specs.declared.Event.the-variants.{Step}
 use Rattle.model.specs.Perform.{Machine, outcomeAt, nextOf}
@@ -72,17 +72,17 @@ AgreeTo base m log (suc k) m′ =
 
 -- none of 1, 2, 12 and 13
 pub record Replayable (base : ℕ) (mem : List ℕ) (s : State) (log : List ℕ) : Type 0 where
-  pub memory : MemoryRules base (length mem)
+  pub memory : MemoryRules (s .settings) base (length mem)
   pub state : StateRules base (length mem) s
   pub whole : length log % 48 ≡ 0
   pub some : 0 < length log
 
--- the refusals of a replay, in the order they are tried: 1 and 2 (01), then "12, log length not a multiple of 48", then "13, a log of no rows"
+-- the refusals of a replay, in the order they are tried: 1 and 2 (01, with 02 [5]), then "12, log length not a multiple of 48", then "13, a log of no rows"
 pub data RefusedBy (base : ℕ) (mem : List ℕ) (s : State) (log : List ℕ) (number : ℕ) : Type 0 where
-  memory : number ≡ 1 → (MemoryRules base (length mem) → ⊥) → RefusedBy base mem s log number
-  state : number ≡ 2 → MemoryRules base (length mem) → (StateRules base (length mem) s → ⊥) → RefusedBy base mem s log number
-  cut : number ≡ 12 → MemoryRules base (length mem) → StateRules base (length mem) s → (length log % 48 ≡ 0 → ⊥) → RefusedBy base mem s log number
-  empty : number ≡ 13 → MemoryRules base (length mem) → StateRules base (length mem) s → length log ≡ 0 → RefusedBy base mem s log number
+  memory : number ≡ 1 → WrongMemory (s .settings) base (length mem) → RefusedBy base mem s log number
+  state : number ≡ 2 → MemoryRules (s .settings) base (length mem) → (StateRules base (length mem) s → ⊥) → RefusedBy base mem s log number
+  cut : number ≡ 12 → MemoryRules (s .settings) base (length mem) → StateRules base (length mem) s → (length log % 48 ≡ 0 → ⊥) → RefusedBy base mem s log number
+  empty : number ≡ 13 → MemoryRules (s .settings) base (length mem) → StateRules base (length mem) s → length log ≡ 0 → RefusedBy base mem s log number
 
 -- a stop that a row gives: neither that all agreed nor a refusal
 abbrev pub OfRow : Stop → Type 0

@@ -10,6 +10,7 @@ use lib.ListN.{getD}
 use lib.Pow.{pow-mono, high, low, field, mod-mod-pow}
 use Rattle.word.proofs.TestLaws.{bool-cases, contrary}
 use Rattle.word.proofs.WordLaws.{split-lt}
+use Rattle.settings.specs.declared.Settings.{Settings}
 use Rattle.reserve.specs.Reserve.{slot, breaksOf, brokenOf}
 use Rattle.reserve.specs.declared.Reservation.the-variants.{None}
 use Rattle.reserve.specs.declared.Slot.{Slot}
@@ -39,39 +40,39 @@ digit-set : (b : Bool) → (digit b % 2 ≡ 1) ↔ (b ≡ true)
 digit-set true = (λ q. refl, λ q. refl)
 digit-set false = (λ q. absurd (omega arith), λ q. contrary q refl)
 
-module _ (size : ℕ) (n : Notice) (l : List Slot) where
+module _ (settings : Settings) (n : Notice) (l : List Slot) where
   abbrev hit : ℕ → Bool
-  hit k = breaksOf size k n (getD l k (slot None) .reservation)
+  hit k = breaksOf settings k n (getD l k (slot None) .reservation)
 
-  broken-more : (c : ℕ) → brokenOf size n (suc c) l ≡ digit (hit c) * 2 ^ c + brokenOf size n c l
+  broken-more : (c : ℕ) → brokenOf settings n (suc c) l ≡ digit (hit c) * 2 ^ c + brokenOf settings n c l
   unfolding brokenOf
   broken-more c = bool-cases (hit c) (λ t. rw t (omega arith)) (λ t. rw t (omega arith))
 
-  pub broken-below : (c : ℕ) → brokenOf size n c l < 2 ^ c
+  pub broken-below : (c : ℕ) → brokenOf settings n c l < 2 ^ c
   unfolding brokenOf
   broken-below zero = omega arith
   broken-below (suc c) =
       bool-cases (hit c) (λ t. rw t (omega (arith, pow-suc 2 c, broken-below c))) (λ t. rw t (omega (arith, pow-suc 2 c, broken-below c)))
 
-  bit-at : (c k : ℕ) → k < c → bit k (brokenOf size n c l) ≡ digit (hit k) % 2
+  bit-at : (c k : ℕ) → k < c → bit k (brokenOf settings n c l) ≡ digit (hit k) % 2
   bit-at zero k u = absurd (omega arith)
   bit-at (suc c) k u =
       ap (bit k) (broken-more c)
-      ∙ ⊎-elim (λ (v : k < c). bit-low k c (digit (hit c)) (brokenOf size n c l) v (broken-below c) ∙ bit-at c k v)
+      ∙ ⊎-elim (λ (v : k < c). bit-low k c (digit (hit c)) (brokenOf settings n c l) v (broken-below c) ∙ bit-at c k v)
       (λ (v : c ≤ k).
       let same : c ≡ k = omega arith in
-      subst (λ (i : ℕ). bit i (digit (hit c) * 2 ^ c + brokenOf size n c l) ≡ digit (hit i) % 2) same
+      subst (λ (i : ℕ). bit i (digit (hit c) * 2 ^ c + brokenOf settings n c l) ≡ digit (hit i) % 2) same
       (ap (λ (q : ℕ). q % 2) (high (digit (hit c)) c (broken-below c))))
       (split-lt k c)
 
   -- bit k is set exactly if k is below the count and the notice breaks the reservation at k
-  pub bit-exact : (count k : ℕ) → (bit k (brokenOf size n count l) ≡ 1) ↔ ((k < count) × (hit k ≡ true))
+  pub bit-exact : (count k : ℕ) → (bit k (brokenOf settings n count l) ≡ 1) ↔ ((k < count) × (hit k ≡ true))
   bit-exact count k =
       ⊎-elim
       (λ (u : k < count).
       let same = bit-at count k u in
       (λ q. (u, digit-set (hit k) .0 (sym same ∙ q)), λ q. same ∙ digit-set (hit k) .1 (q .1)))
       (λ (u : count ≤ k).
-      let none = bit-none k (brokenOf size n count l) (omega (arith, broken-below count, pow-mono u)) in
+      let none = bit-none k (brokenOf settings n count l) (omega (arith, broken-below count, pow-mono u)) in
       (λ q. absurd (omega (arith, none, q)), λ q. absurd (omega (arith, q .0))))
       (split-lt k count)

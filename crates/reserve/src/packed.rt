@@ -4,11 +4,13 @@ use crate::Notice;
 use crate::Reservation;
 use crate::Slot;
 use crate::breaks;
+use settings::Settings;
 ghost use mathlib.Core.Path.{_≡_};
 ghost use mathlib.Core.Bool.{cond};
 ghost use Prim.Native.Nat.{ℕ, _<_, _≤_};
 ghost use lib.ListN.{length, set, getD};
 ghost use Rattle.word.specs.Each.{each};
+ghost use Rattle.settings.specs.Settings.{SizeRules};
 ghost use Rattle.reserve.specs.Reserve.{slot, breaksOf, brokenOf, observeAllOf};
 ghost use Rattle.reserve.specs.Packed.{slotsIn, breakSlot, replaced};
 
@@ -51,15 +53,15 @@ fn replace(t: &mut [u64; 24], count: usize, h: usize, r: Reservation)
 }
 
 // Breaks hart k's reservation if the notice does, and tells so.
-fn break_one(t: &mut [u64; 24], size: u64, k: usize, n: Notice) -> bool
-    requires { ⌜ (0 < size) × (k < 8) ⌝ }
+fn break_one(t: &mut [u64; 24], settings: Settings, k: usize, n: Notice) -> bool
+    requires { ⌜ SizeRules settings × (k < 8) ⌝ }
     ensures { λ _. ⌜
         slotsIn (now (t .exit))
-        ≡ set (slotsIn (now (t .entry))) k (breakSlot size n k (getD (slotsIn (now (t .entry))) k (slot Reservation.None)))
+        ≡ set (slotsIn (now (t .entry))) k (breakSlot settings n k (getD (slotsIn (now (t .entry))) k (slot Reservation.None)))
         ⌝ }
-    ensures { λ b. ⌜ b ≡ breaksOf size k n (getD (slotsIn (now (t .entry))) k (slot Reservation.None) .reservation) ⌝ }
+    ensures { λ b. ⌜ b ≡ breaksOf settings k n (getD (slotsIn (now (t .entry))) k (slot Reservation.None) .reservation) ⌝ }
 {
-    let b = breaks(size, k, n, reservation(t, k));
+    let b = breaks(settings, k, n, reservation(t, k));
     if b {
         t[k] = 0;
     }
@@ -74,16 +76,16 @@ fn weight(t: bool, bit: u64) -> u64
 }
 
 // Breaks the reservations of the first count harts that the notice breaks, and gives a bit for each.
-fn break_all(t: &mut [u64; 24], count: usize, size: u64, n: Notice) -> u64
-    requires { ⌜ (0 < size) × (count ≤ 8) ⌝ }
-    ensures { λ _. ⌜ slotsIn (now (t .exit)) ≡ each (breakSlot size n) count (slotsIn (now (t .entry))) ⌝ }
-    ensures { λ r. ⌜ r ≡ brokenOf size n count (slotsIn (now (t .entry))) ⌝ }
+fn break_all(t: &mut [u64; 24], count: usize, settings: Settings, n: Notice) -> u64
+    requires { ⌜ SizeRules settings × (count ≤ 8) ⌝ }
+    ensures { λ _. ⌜ slotsIn (now (t .exit)) ≡ each (breakSlot settings n) count (slotsIn (now (t .entry))) ⌝ }
+    ensures { λ r. ⌜ r ≡ brokenOf settings n count (slotsIn (now (t .entry))) ⌝ }
 {
     let mut broken: u64 = 0;
     let mut bit: u64 = 1;
     let mut k: usize = 0;
     while k < count {
-        let b = break_one(t, size, k, n);
+        let b = break_one(t, settings, k, n);
         broken = broken + weight(b, bit);
         bit = bit * 2;
         k += 1;
@@ -92,22 +94,22 @@ fn break_all(t: &mut [u64; 24], count: usize, size: u64, n: Notice) -> u64
 }
 
 // What a device write of len bytes at addr does.
-pub fn device_write(t: &mut [u64; 24], count: usize, size: u64, addr: u64, len: u64) -> u64
-    requires { ⌜ (0 < size) × (count ≤ 8) ⌝ }
+pub fn device_write(t: &mut [u64; 24], count: usize, settings: Settings, addr: u64, len: u64) -> u64
+    requires { ⌜ SizeRules settings × (count ≤ 8) ⌝ }
     ensures { λ b. ⌜
         record { slots = slotsIn (now (t .exit)); broken = b }
-        ≡ observeAllOf size count (Notice.DeviceWrite addr len) (slotsIn (now (t .entry)))
+        ≡ observeAllOf settings count (Notice.DeviceWrite addr len) (slotsIn (now (t .entry)))
         ⌝ }
 {
-    break_all(t, count, size, Notice::DeviceWrite { addr, len })
+    break_all(t, count, settings, Notice::DeviceWrite { addr, len })
 }
 
 // What a yield of hart h does, at any size of the set.
 pub fn release(t: &mut [u64; 24], count: usize, h: usize)
     requires { ⌜ count ≤ 8 ⌝ }
     ensures { λ _. ⌜
-        ((size : ℕ) → record { slots = slotsIn (now (t .exit)); broken = 0 }
-        ≡ observeAllOf size count (Notice.Yield h) (slotsIn (now (t .entry))))
+        ((settings : Settings) → record { slots = slotsIn (now (t .exit)); broken = 0 }
+        ≡ observeAllOf settings count (Notice.Yield h) (slotsIn (now (t .entry))))
         ⌝ }
 {
     replace(t, count, h, Reservation::None);
@@ -116,9 +118,9 @@ pub fn release(t: &mut [u64; 24], count: usize, h: usize)
 // What a notice does to the reservations of the first count harts, and a bit for each hart whose reservation it broke. Only writes are
 // looked at hart by hart; the others concern one hart or none. A caller that knows the notice calls device_write or release instead, so that
 // this function has one caller: then it is compiled in line, and no notice is copied.
-pub fn observe(t: &mut [u64; 24], count: usize, size: u64, n: Notice) -> u64
-    requires { ⌜ (0 < size) × (count ≤ 8) ⌝ }
-    ensures { λ b. ⌜ record { slots = slotsIn (now (t .exit)); broken = b } ≡ observeAllOf size count n (slotsIn (now (t .entry))) ⌝ }
+pub fn observe(t: &mut [u64; 24], count: usize, settings: Settings, n: Notice) -> u64
+    requires { ⌜ SizeRules settings × (count ≤ 8) ⌝ }
+    ensures { λ b. ⌜ record { slots = slotsIn (now (t .exit)); broken = b } ≡ observeAllOf settings count n (slotsIn (now (t .entry))) ⌝ }
 {
     match n {
         Notice::Quiet => 0,
@@ -127,7 +129,7 @@ pub fn observe(t: &mut [u64; 24], count: usize, size: u64, n: Notice) -> u64
             0
         }
         Notice::ScStored { hart, .. } => {
-            let b = break_all(t, count, size, n);
+            let b = break_all(t, count, settings, n);
             replace(t, count, hart, Reservation::None);
             b
         }
@@ -135,8 +137,8 @@ pub fn observe(t: &mut [u64; 24], count: usize, size: u64, n: Notice) -> u64
             replace(t, count, hart, Reservation::None);
             0
         }
-        Notice::Write { .. } => break_all(t, count, size, n),
-        Notice::DeviceWrite { addr, len } => device_write(t, count, size, addr, len),
+        Notice::Write { .. } => break_all(t, count, settings, n),
+        Notice::DeviceWrite { addr, len } => device_write(t, count, settings, addr, len),
         Notice::Yield { hart } => {
             release(t, count, hart);
             0

@@ -75,19 +75,19 @@ module _ (base : ℕ) (m : Machine) (v : Valid base m) (h : ℕ) (l : h < m .sta
     word = wordAt base m h
 
     fetched : exec
-        ≡ execute 64 (decodeOf word) word (regAt (m .state .x) h) (pcAt base m h) base (m .mem) (coversOf 64 (reservationOf (m .state) h))
+        ≡ execute 64 (decodeOf word) word (regAt (m .state .x) h) (pcAt base m h) base (m .mem) (coversOf (m .state .settings) (reservationOf (m .state) h))
     unfolding fetchOf executeWord
     fetched = rw (of-inside base (length (m .mem)) (pcAt base m h) 4 inside)
 
     -- of every word, what the code takes from its class
     exec-reaches-in : (let c = reachIn word (regAt (m .state .x) h) in Reaches (c .rd) (c .at) exec)
     exec-reaches-in =
-        rw fetched (reaches-in (pcAt base m h) base (m .mem) (coversOf 64 (reservationOf (m .state) h)) word (regAt (m .state .x) h))
+        rw fetched (reaches-in (pcAt base m h) base (m .mem) (coversOf (m .state .settings) (reservationOf (m .state) h)) word (regAt (m .state .x) h))
 
     pub exec-reaches : Reaches (rdAt base m h) (writesAt (decodeOf word) (regAt (m .state .x) h)) exec
     exec-reaches =
         rw fetched
-        (reaches (pcAt base m h) base (m .mem) (coversOf 64 (reservationOf (m .state) h)) (decodeOf word) (regs-below word) word (regAt (m .state .x) h))
+        (reaches (pcAt base m h) base (m .mem) (coversOf (m .state .settings) (reservationOf (m .state) h)) (decodeOf word) (regs-below word) word (regAt (m .state .x) h))
 
 -- a row whose word can't be fetched
 pub told-unfetched : (base : ℕ) (m : Machine) (r : Row) → r .pc ≡ pcAt base m (r .hart) → Valid base m → r .hart < m .state .count
@@ -155,7 +155,7 @@ module _ (base : ℕ) (m : Machine) (r : Row) (ready : Ready base m r) {c : Reac
   row-told {o} eo ev et =
       let word = wordAt base m h in
       let after = nextOf base m (Step h) .state .x in
-      let covered = coversOf 64 (reservationOf (m .state) h) in
+      let covered = coversOf (m .state .settings) (reservationOf (m .state) h) in
       let value = ev ∙ ap (λ (n : Machine). regAt (n .state .x) h d) stepped′ in
       let shown = subst (λ (q : Reach). Shows q x (decodeOf word)) model-reach (shows word x) in
       let answer = eo ∙ step-outcome base m v h l ∙ ap (λ (e : Exec). outcomeBy (doneOf h e)) (fetched base m v h l within) in
@@ -178,6 +178,6 @@ module _ (base : ℕ) (m : Machine) (r : Row) (ready : Ready base m r) {c : Reac
   pub memory-undone : IsBytes (m .mem) → {at : ℕ} → at ≡ windowOf base (length (m .mem)) (c .at)
       → splice (splice (m′ .mem) at (toLe 8 (le (part (m .mem) at 8)))) (at + 8) (toLe 8 (le (part (m .mem) (at + 8) 8))) ≡ m .mem
   memory-undone bytes ea =
-      let enough : 16 ≤ length (m .mem) = omega (arith, v .0 .0) in
+      let enough : 16 ≤ length (m .mem) = omega (arith, v .0 .1 .0) in
       rw (ea, ap (λ (n : Machine). n .mem) stepped′ ∙ step-memory base m v h l)
       (undone base (m .mem) (c .at) enough d (exec base m v h l) bytes (fetch-sound base (m .mem) (m .state) (v .1) h l) step-reaches)

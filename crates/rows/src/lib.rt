@@ -3,6 +3,7 @@ pub mod row;
 
 use machine::State;
 use reserve::packed;
+use settings::Settings;
 use steplog::digits::digit_table;
 ghost use mathlib.Core.Path.{_≡_};
 ghost use Prim.Native.Nat.{_*_, _≤_};
@@ -59,23 +60,34 @@ fn replay_rows(
     pc: &mut [u64; 8],
     t: &mut [u64; 24],
     count: usize,
+    settings: Settings,
     base: u64,
     mem: &mut [u8],
     log: &[u8],
     n: usize,
 ) -> Stopped
-    requires { ⌜ Valid base (inParts count (now x) (now pc) (now t) (now mem)) ⌝ }
+    requires { ⌜ Valid base (inParts count settings (now x) (now pc) (now t) (now mem)) ⌝ }
     requires { ⌜ n * 48 ≤ length (now log) ⌝ }
     ensures { λ r. ⌜
-        record { stop = r .stop; rows = r .rows; machine = inParts count (now (x .exit)) (now (pc .exit)) (now (t .exit)) (now (mem .exit)) }
-        ≡ endOf base (inParts count (now (x .entry)) (now (pc .entry)) (now (t .entry)) (now (mem .entry))) (readings count n (now (log .entry)))
+        record { stop = r .stop; rows = r .rows; machine = inParts count settings (now (x .exit)) (now (pc .exit)) (now (t .exit)) (now (mem .exit)) }
+        ≡ endOf base (inParts count settings (now (x .entry)) (now (pc .entry)) (now (t .entry)) (now (mem .entry))) (readings count n (now (log .entry)))
         ⌝ }
 {
     let digits = digit_table();
     let mut i: usize = 0;
     while i < n {
         let at = i * 48;
-        match row::compare(x, pc, t, count, base, mem, &log[at..at + 48], &digits) {
+        match row::compare(
+            x,
+            pc,
+            t,
+            count,
+            settings,
+            base,
+            mem,
+            &log[at..at + 48],
+            &digits,
+        ) {
             Told::Agrees => i += 1,
             Told::Stops(stop) => return Stopped { stop, rows: i },
         }
@@ -92,10 +104,11 @@ pub fn replay(s: State, base: u64, mem: &mut [u8], log: &[u8]) -> Replayed
     ensures { λ _. ⌜ now (mem .exit) ≡ replayOf base (now (mem .entry)) s (now (log .entry)) .mem ⌝ }
 {
     let count = s.count;
+    let settings = s.settings;
     let mut x = s.x;
     let mut pc = s.pc;
     let res = s.res;
-    let number = machine::refusal(base, mem.len(), count, &x, &pc, res);
+    let number = machine::refusal(base, mem.len(), count, settings, &x, &pc, res);
     if number != 0 {
         return refused(number, s);
     }
@@ -111,6 +124,7 @@ pub fn replay(s: State, base: u64, mem: &mut [u8], log: &[u8]) -> Replayed
         &mut pc,
         &mut t,
         count,
+        settings,
         base,
         mem,
         log,
@@ -123,6 +137,7 @@ pub fn replay(s: State, base: u64, mem: &mut [u8], log: &[u8]) -> Replayed
         rows: r.rows,
         state: State {
             count,
+            settings,
             x,
             pc,
             res: after,

@@ -1,11 +1,12 @@
-// One row against the machine, in place, on registers, pcs and reservations that refusals 1 and 2 do not refuse. Reservations are lent as 24
-// numbers.
+// One row against the machine, in place, on settings, registers, pcs, reservations and a memory that refusals 1 and 2 do not refuse. Reservations
+// are lent as 24 numbers.
 use crate::Stop;
 use crate::Told;
 use dispatch::reg;
 use events::Event;
 use model::Outcome;
 use model::advance::advance;
+use settings::Settings;
 use steplog::Reading;
 use steplog::Row;
 ghost use mathlib.Core.Path.{_≡_};
@@ -56,14 +57,15 @@ fn perform(
     pc: &mut [u64; 8],
     t: &mut [u64; 24],
     count: usize,
+    settings: Settings,
     base: u64,
     mem: &mut [u8],
     r: Row,
 ) -> Told
-    requires { ⌜ Ready base (inParts count (now x) (now pc) (now t) (now mem)) r ⌝ }
-    ensures { λ told. ⌜ told ≡ toldByStep base (inParts count (now (x .entry)) (now (pc .entry)) (now (t .entry)) (now (mem .entry))) r ⌝ }
-    ensures { λ told. ⌜ inParts count (now (x .exit)) (now (pc .exit)) (now (t .exit)) (now (mem .exit))
-        ≡ afterRow told base (inParts count (now (x .entry)) (now (pc .entry)) (now (t .entry)) (now (mem .entry))) (Read r)
+    requires { ⌜ Ready base (inParts count settings (now x) (now pc) (now t) (now mem)) r ⌝ }
+    ensures { λ told. ⌜ told ≡ toldByStep base (inParts count settings (now (x .entry)) (now (pc .entry)) (now (t .entry)) (now (mem .entry))) r ⌝ }
+    ensures { λ told. ⌜ inParts count settings (now (x .exit)) (now (pc .exit)) (now (t .exit)) (now (mem .exit))
+        ≡ afterRow told base (inParts count settings (now (x .entry)) (now (pc .entry)) (now (t .entry)) (now (mem .entry))) (Read r)
         ⌝ }
 {
     let h = r.hart;
@@ -74,7 +76,16 @@ fn perform(
     let kept = *t;
     let first = reg(x, h, rd);
     let second = reg(x, h, rd % 32 + 1);
-    let reply = advance(x, pc, t, count, base, mem, Event::Step { hart: h });
+    let reply = advance(
+        x,
+        pc,
+        t,
+        count,
+        settings,
+        base,
+        mem,
+        Event::Step { hart: h },
+    );
     let outcome = reply.outcome;
     let told = judge(outcome, r, rd, reg(x, h, rd));
     match told {
@@ -94,15 +105,16 @@ fn against(
     pc: &mut [u64; 8],
     t: &mut [u64; 24],
     count: usize,
+    settings: Settings,
     base: u64,
     mem: &mut [u8],
     r: Row,
 ) -> Told
-    requires { ⌜ Valid base (inParts count (now x) (now pc) (now t) (now mem)) ⌝ }
+    requires { ⌜ Valid base (inParts count settings (now x) (now pc) (now t) (now mem)) ⌝ }
     requires { ⌜ r .hart < count ⌝ }
-    ensures { λ told. ⌜ told ≡ toldByPc base (inParts count (now (x .entry)) (now (pc .entry)) (now (t .entry)) (now (mem .entry))) r ⌝ }
-    ensures { λ told. ⌜ inParts count (now (x .exit)) (now (pc .exit)) (now (t .exit)) (now (mem .exit))
-        ≡ afterRow told base (inParts count (now (x .entry)) (now (pc .entry)) (now (t .entry)) (now (mem .entry))) (Read r)
+    ensures { λ told. ⌜ told ≡ toldByPc base (inParts count settings (now (x .entry)) (now (pc .entry)) (now (t .entry)) (now (mem .entry))) r ⌝ }
+    ensures { λ told. ⌜ inParts count settings (now (x .exit)) (now (pc .exit)) (now (t .exit)) (now (mem .exit))
+        ≡ afterRow told base (inParts count settings (now (x .entry)) (now (pc .entry)) (now (t .entry)) (now (mem .entry))) (Read r)
         ⌝ }
 {
     let h = r.hart;
@@ -126,7 +138,7 @@ fn against(
             model: word,
         });
     }
-    perform(x, pc, t, count, base, mem, r)
+    perform(x, pc, t, count, settings, base, mem, r)
 }
 
 // The 48 bytes of a row; the table of the digits is lent. Where it stops, nothing changes.
@@ -135,22 +147,23 @@ pub fn compare(
     pc: &mut [u64; 8],
     t: &mut [u64; 24],
     count: usize,
+    settings: Settings,
     base: u64,
     mem: &mut [u8],
     part: &[u8],
     digits: &[u8; 256],
 ) -> Told
     requires { ⌜ DigitTable (now digits) ⌝ }
-    requires { ⌜ Valid base (inParts count (now x) (now pc) (now t) (now mem)) ⌝ }
+    requires { ⌜ Valid base (inParts count settings (now x) (now pc) (now t) (now mem)) ⌝ }
     ensures { λ told. ⌜ told
-        ≡ toldOf base (inParts count (now (x .entry)) (now (pc .entry)) (now (t .entry)) (now (mem .entry))) (readingOf count (now (part .entry)))
+        ≡ toldOf base (inParts count settings (now (x .entry)) (now (pc .entry)) (now (t .entry)) (now (mem .entry))) (readingOf count (now (part .entry)))
         ⌝ }
-    ensures { λ told. ⌜ inParts count (now (x .exit)) (now (pc .exit)) (now (t .exit)) (now (mem .exit))
-        ≡ afterRow told base (inParts count (now (x .entry)) (now (pc .entry)) (now (t .entry)) (now (mem .entry))) (readingOf count (now (part .entry)))
+    ensures { λ told. ⌜ inParts count settings (now (x .exit)) (now (pc .exit)) (now (t .exit)) (now (mem .exit))
+        ≡ afterRow told base (inParts count settings (now (x .entry)) (now (pc .entry)) (now (t .entry)) (now (mem .entry))) (readingOf count (now (part .entry)))
         ⌝ }
 {
     match steplog::read_row_by(digits, part, count) {
         Reading::Form => Told::Stops(Stop::Form),
-        Reading::Read(r) => against(x, pc, t, count, base, mem, r),
+        Reading::Read(r) => against(x, pc, t, count, settings, base, mem, r),
     }
 }

@@ -4,6 +4,7 @@ use native.Mathlib.Omega.{arith}
 use mathlib.Core.Path.{_≡_, refl, sym, _∙_, ap, subst}
 use mathlib.Core.Logic.{_↔_, _≢_, _⊎_, inl, inr, ⊎-elim}
 use mathlib.Core.List.{List, [], _∷_, _++_}
+use Rattle.settings.specs.declared.Settings.{Settings}
 use Rattle.reserve.specs.Range.{Touch, setOf}
 use Rattle.reserve.specs.Reserve.{observeOf}
 use Rattle.reserve.specs.declared.Reservation.the-variants.{Held}
@@ -13,13 +14,13 @@ use Rattle.isa.specs.declared.Atomic.{Atomic}
 use Rattle.machine.specs.Rules.{Shaped}
 use Rattle.events.specs.declared.Event.{Event}
 use Rattle.events.specs.declared.Event.the-variants.{Step, Yield}
-use Rattle.model.specs.Perform.{Machine, reservationOf, nextOf, runOf, outcomeAt}
+use Rattle.model.specs.Perform.{Machine, setSize, reservationOf, nextOf, runOf, outcomeAt}
 use Rattle.model.specs.Valid.{Valid}
 use Rattle.model.specs.Trace.{noticeAt, traceOf}
 use Rattle.model.specs.Retired.{Traps}
 use Rattle.model.specs.declared.Outcome.the-variants.{ScStored, ScFailed}
 use Rattle.model.proofs.Valid.{valid-next, valid-run}
-use Rattle.model.proofs.Frame.{count-next, count-run, res-next}
+use Rattle.model.proofs.Frame.{count-next, count-run, settings-next, settings-run, res-next}
 use Rattle.history.specs.History.{Spares, AllSpare, Reserved, Since}
 use Rattle.history.proofs.History.{came, made, kept}
 use Rattle.notices.specs.Happened.{atomicAddress, atomicSize, RetiredLr, RetiredSc, StoredSc, FailedSc, HartWrites, Silent}
@@ -33,7 +34,7 @@ use Rattle.sc_history.proofs.ScHistory.{held-exact, sc-since-run, sc-st
 -- ---- one event
 
 module _ (base h : ℕ) (m : Machine) (v : Valid base m) (u : h < m .state .count) (e : Event) (a w : ℕ) where
-  spared : LeavesReserved base h m e a w → (n : Notice) → ComesFrom base m e n → Spares 64 h a w n
+  spared : LeavesReserved base h m e a w → (n : Notice) → ComesFrom base m e n → Spares (m .state .settings) h a w n
   unfolding Spares
   spared l N.Quiet c = tt
   spared l (N.LoadReserved g b k) c = λ s. l .noLr b k (subst (λ (i : ℕ). RetiredLr base m e i b k) s c)
@@ -46,9 +47,9 @@ module _ (base h : ℕ) (m : Machine) (v : Valid base m) (u : h < m .state .coun
   spared l (N.DeviceWrite b n) c = λ t. l .noDevice b n c t
   spared l (N.Yield g) c = λ s. l .noYield (c .theYield ∙ ap Yield s)
 
-  module _ (s : Spares 64 h a w (noticeAt base m e)) where
-    spare : (n : Notice) → ComesFrom base m e n → Spares 64 h a w n
-    spare n c = subst (Spares 64 h a w) (notice-exact base m v e n .1 c) s
+  module _ (s : Spares (m .state .settings) h a w (noticeAt base m e)) where
+    spare : (n : Notice) → ComesFrom base m e n → Spares (m .state .settings) h a w n
+    spare n c = subst (Spares (m .state .settings) h a w) (notice-exact base m v e n .1 c) s
 
     leaves : LeavesReserved base h m e a w
     unfolding Spares
@@ -57,22 +58,22 @@ module _ (base h : ℕ) (m : Machine) (v : Valid base m) (u : h < m .state .coun
           noLr = λ b n r. spare (N.LoadReserved h b n) r refl;
           noSc = λ r. ⊎-elim (λ (c : (b : ℕ) × (n : ℕ) × StoredSc base m e h b n). spare (N.ScStored h (c .0) (c .1)) (c .2) .0 refl)
               (λ (c : FailedSc base m e h). spare (N.ScFailed h) c refl) (sc-either base m v e h r);
-          noYield = λ q. subst (Spares 64 h a w) (ap (noticeAt base m) q ∙ notice-yield base m v h u) s refl;
+          noYield = λ q. subst (Spares (m .state .settings) h a w) (ap (noticeAt base m) q ∙ notice-yield base m v h u) s refl;
           noWrite = λ g b n d o t. go g b n d o t;
           noDevice = λ b n c t. spare (N.DeviceWrite b n) c t;
         }
       where
-        go : (g b n : ℕ) → g ≢ h → HartWrites base m e g b n → Touch b n (setOf 64 a) 64 → ⊥
+        go : (g b n : ℕ) → g ≢ h → HartWrites base m e g b n → Touch b n (setOf (setSize m) a) (setSize m) → ⊥
         go g b n d (inl c) t = spare (N.Write g b n) c d t
         go g b n d (inr c) t = spare (N.ScStored g b n) c .1 t
 
-  pub leaves-exact : LeavesReserved base h m e a w ↔ Spares 64 h a w (noticeAt base m e)
+  pub leaves-exact : LeavesReserved base h m e a w ↔ Spares (m .state .settings) h a w (noticeAt base m e)
   leaves-exact = (λ l. spared l (noticeAt base m e) (notice-exact base m v e (noticeAt base m e) .0 refl), leaves)
 
   -- 01: "Not: .. a load .. a trap": an event that neither reserves nor writes nor drops breaks nothing
   pub silent-leaves : Silent base m e → LeavesReserved base h m e a w
   unfolding Spares
-  silent-leaves s = leaves-exact .1 (subst (Spares 64 h a w) (sym (notice-exact base m v e N.Quiet .1 s)) tt)
+  silent-leaves s = leaves-exact .1 (subst (Spares (m .state .settings) h a w) (sym (notice-exact base m v e N.Quiet .1 s)) tt)
 
   -- A held reservation, also one that the state was given with: the event leaves it exactly if it breaks nothing of it, or is a retired LR that makes
   -- the same one anew.
@@ -80,19 +81,19 @@ module _ (base h : ℕ) (m : Machine) (v : Valid base m) (u : h < m .state .coun
       → (reservationOf (nextOf base m e .state) h ≡ Held a w) ↔ (RetiredLr base m e h a w ⊎ LeavesReserved base h m e a w)
   held-next shaped q = (given, taken)
     where
-      after : reservationOf (nextOf base m e .state) h ≡ observeOf 64 h (noticeAt base m e) (Held a w)
-      after = res-next base m e v shaped h u ∙ ap (observeOf 64 h (noticeAt base m e)) q
+      after : reservationOf (nextOf base m e .state) h ≡ observeOf (m .state .settings) h (noticeAt base m e) (Held a w)
+      after = res-next base m e v shaped h u ∙ ap (observeOf (m .state .settings) h (noticeAt base m e)) q
 
       given : reservationOf (nextOf base m e .state) h ≡ Held a w → RetiredLr base m e h a w ⊎ LeavesReserved base h m e a w
       given o =
           ⊎-elim (λ (n : noticeAt base m e ≡ N.LoadReserved h a w). inl (notice-exact base m v e (N.LoadReserved h a w) .0 n))
-          (λ (n : (Held a w ≡ Held a w) × Spares 64 h a w (noticeAt base m e)). inr (leaves-exact .1 (n .1)))
-          (came 64 h a w (noticeAt base m e) (Held a w) (sym after ∙ o))
+          (λ (n : (Held a w ≡ Held a w) × Spares (m .state .settings) h a w (noticeAt base m e)). inr (leaves-exact .1 (n .1)))
+          (came (m .state .settings) h a w (noticeAt base m e) (Held a w) (sym after ∙ o))
 
       taken : RetiredLr base m e h a w ⊎ LeavesReserved base h m e a w → reservationOf (nextOf base m e .state) h ≡ Held a w
       taken (inl r) =
-          after ∙ ap (λ (n : Notice). observeOf 64 h n (Held a w)) (notice-exact base m v e (N.LoadReserved h a w) .1 r) ∙ made 64 h a w (Held a w)
-      taken (inr l) = after ∙ kept 64 h a w (noticeAt base m e) (leaves-exact .0 l)
+          after ∙ ap (λ (n : Notice). observeOf (m .state .settings) h n (Held a w)) (notice-exact base m v e (N.LoadReserved h a w) .1 r) ∙ made (m .state .settings) h a w (Held a w)
+      taken (inr l) = after ∙ kept (m .state .settings) h a w (noticeAt base m e) (leaves-exact .0 l)
 
 -- ---- events one after another
 
@@ -101,12 +102,15 @@ module _ (base h : ℕ) where
   used-next m e u = subst (λ (k : ℕ). h < k) (sym (count-next base m e)) u
 
   all-exact : (es : List Event) (m : Machine) → Valid base m → h < m .state .count → (a w : ℕ)
-      → AllLeave base h m es a w ↔ AllSpare 64 h a w (traceOf base m es)
+      → AllLeave base h m es a w ↔ AllSpare (m .state .settings) h a w (traceOf base m es)
   unfolding traceOf
   all-exact [] m v u a w = (λ x. x, λ x. x)
   all-exact (e ∷ es) m v u a w =
       let one = leaves-exact base h m v u e a w in
-      let more = all-exact es (nextOf base m e) (valid-next base m v e) (used-next m e u) a w in
+      let next = nextOf base m e in
+      let more =
+      subst (λ (c : Settings). AllLeave base h next es a w ↔ AllSpare c h a w (traceOf base next es)) (settings-next base m e)
+      (all-exact es next (valid-next base m v e) (used-next m e u) a w) in
       (λ x. (one .0 (x .0), more .0 (x .1)), λ x. (one .1 (x .0), more .1 (x .1)))
 
   trace-split : (before : List Event) (m : Machine) (e : Event) (since : List Event)
@@ -155,11 +159,20 @@ module _ (base : ℕ) (m : Machine) (v : Valid base m) (h : ℕ) (u : h < m .sta
     used-after : h < nextOf base (runOf base m before) e .state .count
     used-after = used-next base h (runOf base m before) e (subst (λ (k : ℕ). h < k) (sym (count-run base m before)) u)
 
+    -- it has the settings of the start
+    since-exact : (since : List Event) (a w : ℕ) → AllLeave base h (nextOf base (runOf base m before) e) since a w
+        ↔ AllSpare (m .state .settings) h a w (traceOf base (nextOf base (runOf base m before) e) since)
+    since-exact since a w =
+        let after = nextOf base (runOf base m before) e in
+        subst (λ (c : Settings). AllLeave base h after since a w ↔ AllSpare c h a w (traceOf base after since))
+        (settings-next base (runOf base m before) e ∙ settings-run base m before)
+        (all-exact base h since after valid-after used-after a w)
+
   -- Of a used hart: its history in terms of events is that of their notices.
-  pub reserved-exact : (a w : ℕ) → ReservedSince base h m es a w ↔ Reserved 64 h a w (traceOf base m es)
+  pub reserved-exact : (a w : ℕ) → ReservedSince base h m es a w ↔ Reserved (m .state .settings) h a w (traceOf base m es)
   reserved-exact a w = (given, taken)
     where
-      given : ReservedSince base h m es a w → Reserved 64 h a w (traceOf base m es)
+      given : ReservedSince base h m es a w → Reserved (m .state .settings) h a w (traceOf base m es)
       given r =
           let b = r .before in
           let n = notice-exact base (runOf base m b) (valid-run base m v b) (r .event) (N.LoadReserved h a w) .1 (r .reserves) in
@@ -170,10 +183,10 @@ module _ (base : ℕ) (m : Machine) (v : Valid base m) (h : ℕ) (u : h < m .sta
                 ap (traceOf base m) (r .split)
                 ∙ trace-split base h b m (r .event) (r .since)
                 ∙ ap (λ (k : Notice). traceOf base m b ++ k ∷ traceOf base (nextOf base (runOf base m b) (r .event)) (r .since)) n;
-            spared = all-exact base h (r .since) _ (valid-after b (r .event)) (used-after b (r .event)) a w .0 (r .kept);
+            spared = since-exact b (r .event) (r .since) a w .0 (r .kept);
           }
 
-      taken : Reserved 64 h a w (traceOf base m es) → ReservedSince base h m es a w
+      taken : Reserved (m .state .settings) h a w (traceOf base m es) → ReservedSince base h m es a w
       taken r =
           let s = split-of base h es m (r .before) (N.LoadReserved h a w) (r .since) (r .split) in
           record {
@@ -182,15 +195,15 @@ module _ (base : ℕ) (m : Machine) (v : Valid base m) (h : ℕ) (u : h < m .sta
             since = s .since;
             split = s .split;
             reserves = notice-exact base (runOf base m (s .before)) (valid-run base m v (s .before)) (s .event) (N.LoadReserved h a w) .0 (s .notice);
-            kept = all-exact base h (s .since) _ (valid-after (s .before) (s .event)) (used-after (s .before) (s .event)) a w .1
-                (subst (AllSpare 64 h a w) (sym (s .others)) (r .spared));
+            kept = since-exact (s .before) (s .event) (s .since) a w .1
+                (subst (AllSpare (m .state .settings) h a w) (sym (s .others)) (r .spared));
           }
 
-  pub allows-exact : (b n : ℕ) → Allows base h m es b n ↔ Since 64 h b n (traceOf base m es)
+  pub allows-exact : (b n : ℕ) → Allows base h m es b n ↔ Since (m .state .settings) h b n (traceOf base m es)
   allows-exact b n = (
     λ (s : Allows base h m es b n).
         record { addr = s .addr; width = s .width; reserved = reserved-exact (s .addr) (s .width) .0 (s .reserved); inside = s .inside },
-    λ (s : Since 64 h b n (traceOf base m es)).
+    λ (s : Since (m .state .settings) h b n (traceOf base m es)).
         record { addr = s .addr; width = s .width; reserved = reserved-exact (s .addr) (s .width) .1 (s .reserved); inside = s .inside },
   )
 

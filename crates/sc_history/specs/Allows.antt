@@ -8,10 +8,10 @@ use mathlib.Core.List.{List, [], _∷_, _++_}
 use Rattle.reserve.specs.Range.{Touch, Inside, setOf}
 use Rattle.events.specs.declared.Event.{Event}
 use Rattle.events.specs.declared.Event.the-variants.{Yield}
-use Rattle.model.specs.Perform.{Machine, nextOf, runOf}
+use Rattle.model.specs.Perform.{Machine, setSize, nextOf, runOf}
 use Rattle.notices.specs.Happened.{RetiredLr, RetiredSc, HartWrites, DeviceWrites}
 
--- a memory at base; hart h
+-- a memory at base; hart h. The set's size is that of the machine that the event is put to; no event changes it (model/proofs/Frame: settings-run)
 module _ (base h : ℕ) where
   -- The event, put to the machine m, breaks nothing of what hart h's LR of w bytes at a reserved.
   pub record LeavesReserved (m : Machine) (e : Event) (a w : ℕ) : Type 0 where
@@ -20,7 +20,7 @@ module _ (base h : ℕ) where
     pub noSc : RetiredSc base m e h → ⊥
     pub noYield : e ≢ Yield h
     -- 01: "a retired write by another hart that touches a byte of the set, even with the same bytes"
-    pub noWrite : (g b n : ℕ) → g ≢ h → HartWrites base m e g b n → Touch b n (setOf 64 a) 64 → ⊥
+    pub noWrite : (g b n : ℕ) → g ≢ h → HartWrites base m e g b n → Touch b n (setOf (setSize m) a) (setSize m) → ⊥
     -- 01: "a device write that touches a byte the LR read"
     pub noDevice : (b n : ℕ) → DeviceWrites base m e b n → Touch b n a w → ⊥
 
@@ -43,4 +43,4 @@ module _ (base h : ℕ) where
     pub addr : ℕ
     pub width : ℕ
     pub reserved : ReservedSince m es addr width
-    pub inside : Inside (setOf 64 addr) 64 b n
+    pub inside : Inside (setOf (setSize m) addr) (setSize m) b n

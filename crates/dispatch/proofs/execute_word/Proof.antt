@@ -22,8 +22,8 @@ returns c =
     let a = c .before .before .before .before .before .before .args in
     let done = c .before .before .execute in
     subst (λ (i : Instr).
-    Meets (a .h) (execute 64 i (a .word) (regAt (a .x .now) (a .h)) (a .pc) (a .base) (a .mem .now) (coversOf 64 (a .res))) (a .base) (a .mem .now)
-    (done .result) (done .last .1 .1 .1 .1 .1 .1 .1 .0))
+    Meets (a .h) (execute 64 i (a .word) (regAt (a .x .now) (a .h)) (a .pc) (a .base) (a .mem .now) (coversOf (a .settings) (a .res))) (a .base) (a .mem .now)
+    (done .result) (done .last .1 .1 .1 .1 .1 .1 .1 .1 .0))
     (c .before .before .before .before .decode .ensures) (done .ensures)
 
 pub execute-word-spec : {M : Type 1} → statement M

@@ -19,9 +19,6 @@ event-requires c κs = search needs
 perform-requires : tie.Need-perform-requires
 perform-requires c κs = search needs
 
-within-requires : tie.Need-within-requires
-within-requires c κs = search needs
-
 fill-requires : tie.Need-fill-requires
 fill-requires c κs = search needs
 
@@ -33,7 +30,7 @@ first-requires c κs = search needs
 
 returns-2 : tie.Need-returns-2
 returns-2 c =
-    rw (le-ltb _ 7 (c .before .before .before .before .before .before .before .before .if1 .left))
+    rw (le-ltb _ 7 (c .before .before .before .before .before .before .before .if1 .left))
     (c .first .ensures ∙ rw (c .before .wrapping-add-u64 .ensures))
 
 pub take-spec : {M : Type 1} → statement M
@@ -45,7 +42,6 @@ take-spec =
     returns
     event-requires
     perform-requires
-    within-requires
     fill-requires
     wrapping-add-u64-requires
     first-requires

@@ -7,6 +7,9 @@ use Rattle.layout.proofs.read_state.Tie as tie
 load-at-requires : tie.Need-load-at-requires
 load-at-requires c κs = search needs
 
+load-settings-requires : tie.Need-load-settings-requires
+load-settings-requires c κs = search needs
+
 slice-aggregate-load-words : tie.Need-slice-aggregate-load-words
 slice-aggregate-load-words c = search needs
 
@@ -25,14 +28,18 @@ load-slots-requires c κs = search needs
 returns : tie.Need-returns
 unfolding stateIn
 returns c =
-    states _ _ (c .before .before .before .before .before .before .before .load-at .ensures) (c .before .before .before .before .before .load-words .ensures)
-    (c .before .before .load-words2 .ensures) (c .load-slots .ensures)
+    let pcs = c .before .before in
+    let registers = pcs .before .before .before in
+    let settings = registers .before .before in
+    states _ _ (settings .before .load-at .ensures) (settings .load-settings .ensures) (registers .load-words .ensures) (pcs .load-words2 .ensures)
+    (c .load-slots .ensures)
 
 pub read-state-spec : {M : Type 1} → statement M
 read-state-spec =
     tie.close
     (tie.spec
     load-at-requires
+    load-settings-requires
     slice-aggregate-load-words
     load-words-requires
     slice-aggregate-load-words-2

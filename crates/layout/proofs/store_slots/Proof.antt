@@ -16,7 +16,7 @@ use Rattle.layout.proofs.store_slots.Tie as tie
 
 abbrev Inv-loop : tie.InvT-loop
 Inv-loop bytes₀ count res n k₀ bytes k =
-    (k ≤ n) × (n ≤ 8) × (length bytes ≡ 2312) × (bytes ≡ splice bytes₀ 2120 (wordBytes (slotWords (take k res))))
+    (k ≤ n) × (n ≤ 8) × (length bytes ≡ length bytes₀) × (bytes ≡ splice bytes₀ 2120 (wordBytes (slotWords (take k res))))
 
 abbrev μ-loop : tie.MeasureT-loop
 μ-loop bytes₀ count res n k₀ bytes k = n - k

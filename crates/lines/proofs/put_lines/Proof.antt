@@ -23,26 +23,26 @@ use Rattle.lines.proofs.put_lines.Statement.{statement}
 use Rattle.lines.proofs.put_lines.Tie as tie
 
 abbrev Inv-loop : tie.InvT-loop
-Inv-loop out₀ at from base body count x₀ pc₀ t₀ n p₀ i₀ out x pc t p i =
+Inv-loop out₀ at from base body count settings x₀ pc₀ t₀ n p₀ i₀ out x pc t p i =
     (i ≤ n)
     × (length out ≡ length out₀)
     × (p ≤ at + 95 * i)
-    × Valid base (inParts count x pc t (drop from out))
+    × Valid base (inParts count settings x pc t (drop from out))
     × ((o : List ℕ) (r : ℕ)
-    → Put out p (linesOf base (inParts count x pc t (drop from out)) i (firstEvents (n - i) (drop (i * 24) body))) o r
-    → Put out₀ at (linesOf base (inParts count x₀ pc₀ t₀ (drop from out₀)) 0 (firstEvents n body)) o r)
-    × (runOf base (inParts count x pc t (drop from out)) (firstEvents (n - i) (drop (i * 24) body))
-    ≡ runOf base (inParts count x₀ pc₀ t₀ (drop from out₀)) (firstEvents n body))
+    → Put out p (linesOf base (inParts count settings x pc t (drop from out)) i (firstEvents (n - i) (drop (i * 24) body))) o r
+    → Put out₀ at (linesOf base (inParts count settings x₀ pc₀ t₀ (drop from out₀)) 0 (firstEvents n body)) o r)
+    × (runOf base (inParts count settings x pc t (drop from out)) (firstEvents (n - i) (drop (i * 24) body))
+    ≡ runOf base (inParts count settings x₀ pc₀ t₀ (drop from out₀)) (firstEvents n body))
 
 abbrev μ-loop : tie.MeasureT-loop
-μ-loop out₀ at from base body count x₀ pc₀ t₀ n p₀ i₀ out x pc t p i = n - i
+μ-loop out₀ at from base body count settings x₀ pc₀ t₀ n p₀ i₀ out x pc t p i = n - i
 
 pack-requires : tie.Need-pack-requires Inv-loop μ-loop
 pack-requires c κs = search needs
 
 loop-holds : tie.Need-loop-holds Inv-loop μ-loop
 loop-holds c =
-    let start = c .before .before .before .before .before .before in
+    let start = c .before .before .before .before .before .before .before in
     let a = start .args in
     let mem = drop (a .from) (a .out .now) in
     let unrefused = subst (λ (k : ℕ). refusalOf (a .base) k (a .s) ≡ 0) (sym (length-drop (a .from) (a .out .now))) (start .pre .1) in (
@@ -73,8 +73,8 @@ read-event-requires : tie.Need-read-event-requires Inv-loop μ-loop
 read-event-requires c κs = simp (length-take, length-drop) (omega arith)
 
 -- at every turn the memory lies in the buffer
-within : (c : tie.At-loop Inv-loop μ-loop) → c .before .before .before .before .before .before .before .args .from ≤ length (c .loop .out)
-within c = omega (arith, c .before .before .before .before .before .before .before .pre, c .loop .inv)
+within : (c : tie.At-loop Inv-loop μ-loop) → c .before .before .before .before .before .before .before .before .args .from ≤ length (c .loop .out)
+within c = omega (arith, c .before .before .before .before .before .before .before .before .pre, c .loop .inv)
 
 sub-advance : tie.Need-sub-advance Inv-loop μ-loop
 sub-advance c = within (c .before .before .before .before .before .before)
@@ -88,18 +88,18 @@ part-advance-end c = omega arith
 advance-requires : tie.Need-advance-requires Inv-loop μ-loop
 advance-requires c κs =
     let turn = c .before .before .before .before .before .before .before in
-    let a = turn .before .before .before .before .before .before .before .args in
+    let a = turn .before .before .before .before .before .before .before .before .args in
     let l = turn .loop in
-    subst (λ (mem : List ℕ). Valid (a .base) (inParts (a .s .count) (l .x) (l .pc) (l .t) mem)) (sym (lent-behind (l .out) (a .from))) (l .inv .3)
+    subst (λ (mem : List ℕ). Valid (a .base) (inParts (a .s .count) (a .s .settings) (l .x) (l .pc) (l .t) mem)) (sym (lent-behind (l .out) (a .from))) (l .inv .3)
 
 -- also once an event has changed it
 behind-line : (c : tie.After-advance Inv-loop μ-loop)
     → let turn = c .before .before .before .before .before .before .before .before in
-    let from = turn .before .before .before .before .before .before .before .args .from in
-    from ≤ length (back (turn .loop .out) (c .advance .last .1 .1 .1 .1 .1 .0) from)
+    let from = turn .before .before .before .before .before .before .before .before .args .from in
+    from ≤ length (back (turn .loop .out) (c .advance .last .1 .1 .1 .1 .1 .1 .0) from)
 behind-line c =
     let turn = c .before .before .before .before .before .before .before .before in
-    back-within (turn .loop .out) (c .advance .last .1 .1 .1 .1 .1 .0) _ (within turn) (c .advance .kept .1 .1 .1 .1 .1 .0)
+    back-within (turn .loop .out) (c .advance .last .1 .1 .1 .1 .1 .1 .0) _ (within turn) (c .advance .kept .1 .1 .1 .1 .1 .1 .0)
 
 slice-relend-prefix-put-line : tie.Need-slice-relend-prefix-put-line Inv-loop μ-loop
 slice-relend-prefix-put-line c = behind-line (c .before .before)
@@ -111,7 +111,7 @@ put-line-requires : tie.Need-put-line-requires Inv-loop μ-loop
 put-line-requires c κs =
     let turn = c .before .before .before .before .before .before .before .before .before .before .before in
     let w = behind-line (c .before .before .before) in
-    rw length-take-le (omega (arith, turn .before .before .before .before .before .before .before .pre, turn .loop .inv))
+    rw length-take-le (omega (arith, turn .before .before .before .before .before .before .before .before .pre, turn .loop .inv))
 
 add-i : tie.Need-add-i Inv-loop μ-loop
 add-i c = omega arith
@@ -126,20 +126,20 @@ loop-again c =
     let read = reads .read-event in
     let test = reads .before .before .loop-test in
     let turn = reads .before .before .before in
-    let start = turn .before .before .before .before .before .before .before in
+    let start = turn .before .before .before .before .before .before .before .before in
     let a = start .args in
     let l = turn .loop in
     let body = a .body .now in
     let n = length body / 24 in
-    let mem = done .advance .last .1 .1 .1 .1 .1 .0 in
-    let kept = done .advance .kept .1 .1 .1 .1 .1 .0 in
+    let mem = done .advance .last .1 .1 .1 .1 .1 .1 .0 in
+    let kept = done .advance .kept .1 .1 .1 .1 .1 .1 .0 in
     let line = c .before .before .put-line in
     let out = back (l .out) mem (a .from) in
     let w = behind-line done in
     let left = front-behind out (line .last .0) (a .from) w (line .kept .0) ∙ back-behind (l .out) mem (a .from) (within turn) kept in
-    let was : List ℕ → Machine = inParts (a .s .count) (l .x) (l .pc) (l .t) in
+    let was : List ℕ → Machine = inParts (a .s .count) (a .s .settings) (l .x) (l .pc) (l .t) in
     let here = was (drop (a .from) (l .out)) in
-    let left-as : List ℕ → Machine = inParts (a .s .count) (done .advance .last .0) (done .advance .last .1 .0) (done .advance .last .1 .1 .0) in
+    let left-as : List ℕ → Machine = inParts (a .s .count) (a .s .settings) (done .advance .last .0) (done .advance .last .1 .0) (done .advance .last .1 .1 .0) in
     let more = advances-as (ap was (lent-behind (l .out) (a .from))) (ap left-as (sym left)) (done .advance .ensures) in
     let q = more .machine in
     let e = event-cut (l .i) body (read .ensures) in
@@ -162,12 +162,12 @@ returns : tie.Need-returns Inv-loop μ-loop
 unfolding runOf firstEvents
 returns c =
     let packed = c .before .before in
-    let a = packed .before .before .before .before .before .before .args in
+    let a = packed .before .before .before .before .before .before .before .args in
     let body = a .body .now in
     let n = length body / 24 in
     let l = c .before .loop in
     let same = lent-same (a .base) (a .s) _ (drop (a .from) (a .out .now)) (packed .pack .ensures) in
-    let here = inParts (a .s .count) (l .x) (l .pc) (l .t) (drop (a .from) (l .out)) in
+    let here = inParts (a .s .count) (a .s .settings) (l .x) (l .pc) (l .t) (drop (a .from) (l .out)) in
     let z : n - l .i ≡ 0 = omega arith in
     let end = as-text (sym (lines-none (a .base) here (l .i) (n - l .i) (drop (l .i * 24) body) (omega arith))) (none (l .out) (l .p)) in (
       as-text (ap (λ (m : Machine). linesOf (a .base) m 0 (firstEvents n body)) same) (l .inv .4 (l .out) (l .p) end),

@@ -1,4 +1,3 @@
-use Rattle.machine.specs.declared.State.{State}
 use borrow.Author.Needs.{needs}
 use mathlib.Core.Bool.{true}
 use mathlib.Core.Path.{_≡_, sym, _∙_}
@@ -13,7 +12,7 @@ use Rattle.machine.proofs.harts_ok.Tie as tie
 
 abbrev Inv-loop : tie.InvT-loop
 Inv-loop base len count x pc res k₀ k =
-    (k ≤ count) × (allBelow (hartAt base len (record { count = count; x = x; pc = pc; res = res })) k ≡ true)
+    (k ≤ count) × (allBelow (hartAt base len x pc res) k ≡ true)
 
 abbrev μ-loop : tie.MeasureT-loop
 μ-loop base len count x pc res k₀ k = count - k
@@ -48,8 +47,7 @@ hart-ok-requires c κs = search needs
 returns : tie.Need-returns Inv-loop μ-loop
 returns c =
     let a = c .before .before .before .before .before .before .before .args in
-    let s : State = record { count = a .count; x = a .x .now; pc = a .pc .now; res = a .t6 } in
-    sym (all-fails (hartAt (a .base) (a .len) s) (c .before .before .before .before .before .before .loop .k) (a .count) (omega arith)
+    sym (all-fails (hartAt (a .base) (a .len) (a .x .now) (a .pc .now) (a .t6)) (c .before .before .before .before .before .before .loop .k) (a .count) (omega arith)
     (sym (c .before .hart-ok .ensures) ∙ not-true _ (c .if1 .taken)))
 
 add-k : tie.Need-add-k Inv-loop μ-loop
@@ -61,10 +59,9 @@ loop-less c = search needs
 loop-again : tie.Need-loop-again Inv-loop μ-loop
 loop-again c =
     let turn = c .before .before .before .before .before .before in
-    let a = turn .before .args in
-    let s : State = record { count = a .count; x = a .x .now; pc = a .pc .now; res = a .t6 } in (
+    let a = turn .before .args in (
       search needs,
-      all-more (hartAt (a .base) (a .len) s) (turn .loop .k) (turn .loop .inv .1) (sym (c .before .hart-ok .ensures) ∙ not-false _ (c .if1 .left)),
+      all-more (hartAt (a .base) (a .len) (a .x .now) (a .pc .now) (a .t6)) (turn .loop .k) (turn .loop .inv .1) (sym (c .before .hart-ok .ensures) ∙ not-false _ (c .if1 .left)),
     )
 
 returns-2 : tie.Need-returns-2 Inv-loop μ-loop

@@ -20,7 +20,7 @@ pack-requires c κs = search needs
 advance-requires : tie.Need-advance-requires
 advance-requires c κs =
     let packed = c .before .before .before .before in
-    let start = packed .before .before .before .before .before .before .before .before .before in
+    let start = packed .before .before .before .before .before .before .before .before .before .before in
     let none = sym (packed .before .before .refusal .ensures) ∙ packed .before .if1 .left in
     lent-valid (start .args .base) (start .args .s) _ (start .args .mem .now) (packed .pack .ensures) none
 
@@ -33,7 +33,7 @@ same-length c = search needs
 returns-2 : tie.Need-returns-2
 returns-2 c =
     let packed = c .before .before .before .before .before .before .before .before .before in
-    let a = packed .before .before .before .before .before .before .before .before .before .args in
+    let a = packed .before .before .before .before .before .before .before .before .before .before .args in
     let done = c .before .before .before .before .advance .ensures in
     rw (c .unpack .ensures) (lent-answer (a .base) (a .s) _ (a .mem .now) (packed .pack .ensures) done)
 

@@ -45,7 +45,7 @@ replay-rows-requires : tie.Need-replay-rows-requires
 replay-rows-requires c κs =
     let packed = c .before .before .before .before in
     let left = packed .before .before .before in
-    let start = left .before .before .before .before .before .before .before .before .before in
+    let start = left .before .before .before .before .before .before .before .before .before .before in
     let none = sym (left .before .refusal .ensures) ∙ left .if1 .left in
     (lent-valid (start .args .base) (start .args .s) _ (start .args .mem .now) (packed .pack .ensures) none, omega arith)
 
@@ -63,7 +63,7 @@ returns-4 c =
     let third = packed .before in
     let second = third .before in
     let left = second .before in
-    let start = left .before .before .before .before .before .before .before .before .before in
+    let start = left .before .before .before .before .before .before .before .before .before .before in
     let a = start .args in
     let log = a .log .now in
     let none = sym (left .before .refusal .ensures) ∙ left .if1 .left in

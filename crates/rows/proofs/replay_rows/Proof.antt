@@ -17,15 +17,15 @@ use Rattle.rows.proofs.replay_rows.Statement.{statement}
 use Rattle.rows.proofs.replay_rows.Tie as tie
 
 abbrev Inv-loop : tie.InvT-loop
-Inv-loop x₀ pc₀ t₀ count base mem₀ log n digits i₀ x pc t mem i =
+Inv-loop x₀ pc₀ t₀ count settings base mem₀ log n digits i₀ x pc t mem i =
     (i ≤ n)
     × (length mem ≡ length mem₀)
-    × Valid base (inParts count x pc t mem)
-    × (further i (endOf base (inParts count x pc t mem) (readings count (n - i) (drop (i * 48) log)))
-    ≡ endOf base (inParts count x₀ pc₀ t₀ mem₀) (readings count n log))
+    × Valid base (inParts count settings x pc t mem)
+    × (further i (endOf base (inParts count settings x pc t mem) (readings count (n - i) (drop (i * 48) log)))
+    ≡ endOf base (inParts count settings x₀ pc₀ t₀ mem₀) (readings count n log))
 
 abbrev μ-loop : tie.MeasureT-loop
-μ-loop x₀ pc₀ t₀ count base mem₀ log n digits i₀ x pc t mem i = n - i
+μ-loop x₀ pc₀ t₀ count settings base mem₀ log n digits i₀ x pc t mem i = n - i
 
 digit-table-requires : tie.Need-digit-table-requires Inv-loop μ-loop
 digit-table-requires c κs = search needs
@@ -68,7 +68,7 @@ loop-again c =
     let start = c .before .before .before .before .before .before .before .before .before .before .before .before .before .before .before .before in
     let a = start .args in
     let below = c .before .before .before .before .before .before .before .before .before .before .before .loop-test .taken in
-    let here = inParts (a .count) (l .x) (l .pc) (l .t) (l .mem) in
+    let here = inParts (a .count) (a .settings) (l .x) (l .pc) (l .t) (l .mem) in
     let log = a .log .now in
     let cut = ap (readingOf (a .count)) (row-cut (l .i) log) in
     let told = c .enum-told .given .1 in
@@ -76,7 +76,7 @@ loop-again c =
     let after = rw (told, cut) at (done .ensures .1) in
     let more = end-more (a .base) here _ (readings (a .count) (a .n - (l .i + 1)) (drop ((l .i + 1) * 48) log)) (l .i) agrees after in (
       omega (arith, below),
-      done .kept .1 .1 .1 .1 .1 .0 ∙ l .inv .1,
+      done .kept .1 .1 .1 .1 .1 .1 .0 ∙ l .inv .1,
       subst (Valid (a .base)) (sym after) (valid-stepped (a .base) here (l .inv .2) _),
       more ∙ ap (λ (rs : List Reading). further (l .i) (endOf (a .base) here rs)) (sym (readings-more (a .count) (a .n) (l .i) log (omega (arith, below)))) ∙ l .inv .3,
     )
@@ -95,7 +95,7 @@ returns c =
     let start = c .before .before .before .before .before .before .before .before .before .before .before .before .before .before .before .before .before in
     let a = start .args in
     let below = c .before .before .before .before .before .before .before .before .before .before .before .before .loop-test .taken in
-    let here = inParts (a .count) (l .x) (l .pc) (l .t) (l .mem) in
+    let here = inParts (a .count) (a .settings) (l .x) (l .pc) (l .t) (l .mem) in
     let log = a .log .now in
     let cut = ap (readingOf (a .count)) (row-cut (l .i) log) in
     let told = c .before .stop .given .1 in
@@ -115,7 +115,7 @@ returns-2 c =
     let l = c .before .loop in
     let z : a .n - l .i ≡ 0 = omega arith in
     let all : a .n ≡ l .i + 0 = omega arith in
-    let here = inParts (a .count) (l .x) (l .pc) (l .t) (l .mem) in
+    let here = inParts (a .count) (a .settings) (l .x) (l .pc) (l .t) (l .mem) in
     ap (λ (k : ℕ). record { stop = Agreed; rows = k; machine = here }) all ∙ rw z at (l .inv .3)
 
 pub replay-rows-spec : {M : Type 1} → statement M

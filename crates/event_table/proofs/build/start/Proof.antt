@@ -12,9 +12,14 @@ pcs-requires c κs = search needs
 slots-requires : tie.Need-slots-requires
 slots-requires c κs = search needs
 
+defaults-requires : tie.Need-defaults-requires
+defaults-requires c κs = search needs
+
 returns : tie.Need-returns
 unfolding startOf
-returns c = rw (c .slots .ensures, c .before .before .pcs .ensures, c .before .before .before .before .registers .ensures)
+returns c =
+    let slots = c .before in
+    rw (c .defaults .ensures, slots .slots .ensures, slots .before .before .pcs .ensures, slots .before .before .before .before .registers .ensures)
 
 pub start-spec : {M : Type 1} → statement M
-start-spec = tie.close (tie.spec registers-requires pcs-requires slots-requires returns)
+start-spec = tie.close (tie.spec registers-requires pcs-requires slots-requires defaults-requires returns)

@@ -12,7 +12,7 @@ use Rattle.model.proofs.advance.advance.Tie as tie
 abbrev Acts : tie.Start → Act → Type 0
 Acts c act =
     let a = c .args in
-    let m = inParts (a .count) (a .x .now) (a .pc .now) (a .t .now) (a .mem .now) in
+    let m = inParts (a .count) (a .settings) (a .x .now) (a .pc .now) (a .t .now) (a .mem .now) in
     actOn (a .base) (m .mem) (m .state) (a .e) ≡ act
 
 enum-known-e : tie.Need-enum-known-e
@@ -49,8 +49,9 @@ unfolding actOn leaves
 returns-2 c =
     let start = c .before .before .before .before .before .before .before in
     let yield = c .before .before .before .before .e3 .given in
+    let released = c .release-hart .ensures in
     let is : Acts start (release (yield .0 .0)) = rw (yield .1, lt-ltb _ _ (c .before .before .if2 .taken)) in
-    advances _ _ (start .pre) _ is (c .release-hart .ensures .0 .0) (c .release-hart .ensures .0 .1) refl refl (c .release-hart .ensures .1) refl
+    advances _ _ (start .pre) _ is (released .0) (released .1 .0 (start .args .settings)) refl refl (released .1 .1 (start .args .settings)) refl
 
 broke-none-requires-2 : tie.Need-broke-none-requires-2
 broke-none-requires-2 c κs = search needs

@@ -12,9 +12,9 @@ broke-none-requires c κs = search needs
 
 returns : tie.Need-returns
 returns c =
-    let seen = c .before .release .ensures 64 in
+    let seen = c .before .release .ensures in
     let told = c .broke-none .ensures in
-    ((told .0, told .1 ∙ ap (λ (o : Observed). o .broken) seen), ap (λ (o : Observed). o .slots) seen)
+    (told .0, (λ s. told .1 ∙ ap (λ (o : Observed). o .broken) (seen s), λ s. ap (λ (o : Observed). o .slots) (seen s)))
 
 pub release-hart-spec : {M : Type 1} → statement M
 release-hart-spec = tie.close (tie.spec release-requires broke-none-requires returns)

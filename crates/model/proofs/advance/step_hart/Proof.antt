@@ -27,7 +27,7 @@ element-copy-out-at c = search needs
 fetch-requires : tie.Need-fetch-requires
 fetch-requires c κs =
     let start = c .before .before .before .before .before .before in
-    omega (arith, start .pre .0 .1 .1)
+    (omega (arith, start .pre .0 .1 .1), start .pre .0 .0 .0)
 
 move-hart-requires : tie.Need-move-hart-requires
 move-hart-requires c κs = search needs
@@ -45,22 +45,22 @@ returns c =
     let held = fetched .before .before .before .before in
     let start = held .before .before .before in
     let a = start .args in
-    let m = inParts (a .count) (a .x .now) (a .pc .now) (a .t .now) (a .mem .now) in
+    let m = inParts (a .count) (a .settings) (a .x .now) (a .pc .now) (a .t .now) (a .mem .now) in
     let h = a .h in
     let e = stepOf (a .base) (m .mem) (m .state) h in
     let f = fetched .fetch .ensures in
     let moved = c .before .before .move-hart .ensures in
     let settled = c .settle .ensures in
-    let does : Reservation → E.Exec = λ q. fetchOf (regAt (m .state .x) h) (getD (m .state .pc) h 0) (a .base) (m .mem) (coversOf 64 q) in
+    let does : Reservation → E.Exec = λ q. fetchOf (regAt (m .state .x) h) (getD (m .state .pc) h 0) (a .base) (m .mem) (coversOf (a .settings) q) in
     let same = ap does (held .reservation .ensures) in
     let d = f .answer ∙ ap (E.doneOf h) same in
     let is : actOn (a .base) (m .mem) (m .state) (Step h) ≡ ofExec h e = rw (lt-ltb h (a .count) (start .pre .1)) in
     advances (a .base) m (start .pre .0) (Step h) is
     (settled .0 .0 ∙ ap outcomeBy d ∙ outcome-done h e)
-    (settled .0 .1 ∙ ap (λ (r : Done). brokenBy (a .count) r (m .state .res)) d ∙ broken-done h e (a .count) (m .state .res))
+    (settled .0 .1 ∙ ap (λ (r : Done). brokenBy (a .settings) (a .count) r (m .state .res)) d ∙ broken-done h (a .settings) e (a .count) (m .state .res))
     (moved .0 ∙ ap (λ (r : Done). registersBy h r (m .state .x)) d ∙ registers-done h e (m .state .x))
     (moved .1 ∙ ap (λ (r : Done). pcsBy h r (m .state .pc)) d ∙ pcs-done h e (m .state .pc))
-    (settled .1 ∙ ap (λ (r : Done). slotsBy (a .count) r (m .state .res)) d ∙ slots-done h e (a .count) (m .state .res))
+    (settled .1 ∙ ap (λ (r : Done). slotsBy (a .settings) (a .count) r (m .state .res)) d ∙ slots-done h (a .settings) e (a .count) (m .state .res))
     (f .memory ∙ ap (E.memoryBy (a .base) (m .mem)) same ∙ leaves-done h e (a .base) (m .mem))
 
 pub step-hart-spec : {M : Type 1} → statement M

@@ -65,7 +65,7 @@ returns-4 c =
     let left = store .before .before in
     let inside = sym (left .before .inside .ensures) ∙ not-false _ (left .if3 .left) in
     let a = left .before .before .before .before .before .args in
-    let seen : ℕ → Observed = λ k. observeAllOf 64 (a .count) (DeviceWrite (a .addr) k) (slotsIn (a .t .now)) in
+    let seen : ℕ → Observed = λ k. observeAllOf (a .settings) (a .count) (DeviceWrite (a .addr) k) (slotsIn (a .t .now)) in
     let q = c .device-write .ensures ∙ ap seen (sym (length-toLe (a .size) (a .value))) in
     rw (le-leb 1 (a .size) (omega arith), le-leb (a .size) 8 (omega arith), inside)
     (refl, (ap (λ (o : Observed). o .broken) q, (ap (λ (o : Observed). o .slots) q, store .store-at .ensures)))

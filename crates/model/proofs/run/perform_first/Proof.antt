@@ -14,15 +14,15 @@ use Rattle.model.proofs.run.perform_first.Statement.{statement}
 use Rattle.model.proofs.run.perform_first.Tie as tie
 
 abbrev Inv-loop : tie.InvT-loop
-Inv-loop x₀ pc₀ t₀ count base mem₀ body n i₀ x pc t mem i =
+Inv-loop x₀ pc₀ t₀ count settings base mem₀ body n i₀ x pc t mem i =
     (i ≤ n)
     × (length mem ≡ length mem₀)
-    × Valid base (inParts count x pc t mem)
-    × (runOf base (inParts count x pc t mem) (firstEvents (n - i) (drop (i * 24) body))
-    ≡ runOf base (inParts count x₀ pc₀ t₀ mem₀) (firstEvents n body))
+    × Valid base (inParts count settings x pc t mem)
+    × (runOf base (inParts count settings x pc t mem) (firstEvents (n - i) (drop (i * 24) body))
+    ≡ runOf base (inParts count settings x₀ pc₀ t₀ mem₀) (firstEvents n body))
 
 abbrev μ-loop : tie.MeasureT-loop
-μ-loop x₀ pc₀ t₀ count base mem₀ body n i₀ x pc t mem i = n - i
+μ-loop x₀ pc₀ t₀ count settings base mem₀ body n i₀ x pc t mem i = n - i
 
 loop-holds : tie.Need-loop-holds Inv-loop μ-loop
 loop-holds c = (search needs, refl, c .before .before .pre .0, rw sub-zero refl)
@@ -58,13 +58,13 @@ loop-again : tie.Need-loop-again Inv-loop μ-loop
 loop-again c =
     let a = c .before .before .before .before .before .before .before .before .before .before .before .before .before .args in
     let l = c .before .before .before .before .before .before .before .before .before .before .loop in
-    let here = inParts (a .count) (l .x) (l .pc) (l .t) (l .mem) in
+    let here = inParts (a .count) (a .settings) (l .x) (l .pc) (l .t) (l .mem) in
     let read = c .before .before .before .before .before .before .before .read-event in
     let done = c .before .before .advance in
     let left = done .ensures .machine in
     let e = event-cut (l .i) (a .body .now) (read .ensures) in (
       omega arith,
-      done .kept .1 .1 .1 .1 .1 .0 ∙ l .inv .1,
+      done .kept .1 .1 .1 .1 .1 .1 .0 ∙ l .inv .1,
       subst (Valid (a .base)) (sym left) (valid-next (a .base) here (l .inv .2) (read .result)),
       run-more (a .base) here (a .n) (l .i) (a .body .now) (omega arith) e left ∙ l .inv .3,
     )

@@ -44,7 +44,7 @@ perform-first-requires : tie.Need-perform-first-requires
 perform-first-requires c κs =
     let packed = c .before .before .before .before in
     let left = packed .before .before .before .before .before in
-    let start = left .before .before .before .before .before .before .before .before .before in
+    let start = left .before .before .before .before .before .before .before .before .before .before in
     let none = sym (left .before .refusal .ensures) ∙ left .if1 .left in (
       lent-valid (start .args .base) (start .args .s) _ (start .args .mem .now) (packed .pack .ensures) none,
       omega (arith, packed .before .smaller .ensures),
@@ -72,7 +72,7 @@ returns-3 c =
     let good = chosen .before in
     let checked = good .before .before in
     let left = checked .before in
-    let start = left .before .before .before .before .before .before .before .before .before in
+    let start = left .before .before .before .before .before .before .before .before .before .before in
     let a = start .args in
     let n = chosen .smaller .result in
     let t = take-events n (length (a .body .now) / 24) (a .body .now) (omega (arith, chosen .smaller .ensures)) in

@@ -13,7 +13,7 @@ replace-requires c κs = search needs
 returns : tie.Need-returns
 returns c =
     let a = c .before .before .args in
-    λ size. rw (c .replace .ensures) (sym (yield-observed size _ (slotsIn (a .t .now)) _ (omega (arith, slots-length (a .t .now)))))
+    λ settings. rw (c .replace .ensures) (sym (yield-observed settings _ (slotsIn (a .t .now)) _ (omega (arith, slots-length (a .t .now)))))
 
 pub release-spec : {M : Type 1} → statement M
 release-spec = tie.close (tie.spec replace-requires returns)

@@ -42,8 +42,8 @@ load-at-requires c κs =
 cast-if3 : tie.Need-cast-if3
 cast-if3 c = search needs
 
-cast-t21 : tie.Need-cast-t21
-cast-t21 c = search needs
+cast-t22 : tie.Need-cast-t22
+cast-t22 c = search needs
 
 same-length : tie.Need-same-length
 same-length c = search needs
@@ -93,7 +93,7 @@ against-spec =
     sub-load-at
     load-at-requires
     cast-if3
-    cast-t21
+    cast-t22
     same-length
     returns-3
     perform-requires

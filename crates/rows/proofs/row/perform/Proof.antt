@@ -54,7 +54,7 @@ put-back-requires : tie.Need-put-back-requires
 put-back-requires c κs =
     let done = c .before .before .before .before .before .before .before .before .before .before .before in
     let saved = done .before .before .before .before .before .before .before .before .before .before in
-    omega (arith, done .advance .kept .1 .1 .1 .1 .1 .0, ap (λ (s : Saved). s .at) (saved .save .ensures), saved .before .before .window .ensures .1)
+    omega (arith, done .advance .kept .1 .1 .1 .1 .1 .1 .0, ap (λ (s : Saved). s .at) (saved .save .ensures), saved .before .before .window .ensures .1)
 
 same-length : tie.Need-same-length
 same-length c = search needs
@@ -67,7 +67,7 @@ returns c =
     let reached = done .before .before .before .before .before .before .before .before .before .before .before .before .before in
     let start = reached .before .before .before in
     let a = start .args in
-    let m = inParts (a .count) (a .x .now) (a .pc .now) (a .t .now) (a .mem .now) in
+    let m = inParts (a .count) (a .settings) (a .x .now) (a .pc .now) (a .t .now) (a .mem .now) in
     let d = reached .reach-in .ensures in
     let after = done .advance .ensures in
     let told = row-told (a .base) m (a .r) (start .pre) d (after .machine) (after .outcome) (judged .before .reg3 .ensures) (judged .judge .ensures) in
@@ -88,7 +88,7 @@ returns-2 c =
     let reached = placed .before in
     let start = reached .before .before .before in
     let a = start .args in
-    let m = inParts (a .count) (a .x .now) (a .pc .now) (a .t .now) (a .mem .now) in
+    let m = inParts (a .count) (a .settings) (a .x .now) (a .pc .now) (a .t .now) (a .mem .now) in
     let d = reached .reach-in .ensures in
     let after = done .advance .ensures in
     let told = row-told (a .base) m (a .r) (start .pre) d (after .machine) (after .outcome) (judged .before .reg3 .ensures) (judged .judge .ensures) in

@@ -1,0 +1,22 @@
+use borrow.Author.Needs.{needs}
+use borrow.Author.Tests.{eq-eqb, ne-eqb}
+use Rattle.event_table.specs.Build.{begunOf}
+use Rattle.event_table.proofs.build.begin.Statement.{statement}
+use Rattle.event_table.proofs.build.begin.Tie as tie
+
+start-requires : tie.Need-start-requires
+start-requires c κs = search needs
+
+returns : tie.Need-returns
+unfolding begunOf
+returns c = rw (eq-eqb _ 0 (c .before .if1 .taken)) (c .start .ensures)
+
+blank-requires : tie.Need-blank-requires
+blank-requires c κs = search needs
+
+returns-2 : tie.Need-returns-2
+unfolding begunOf
+returns-2 c = rw (ne-eqb _ 0 (c .before .if1 .left)) (c .blank .ensures)
+
+pub begin-spec : {M : Type 1} → statement M
+begin-spec = tie.close (tie.spec start-requires returns blank-requires returns-2)

@@ -1,0 +1,2 @@
+-- The laws of settings.
+pub mod SettingsLaws

@@ -1,0 +1,92 @@
+-- Sizes that are powers of two: the test says what the rule says, and what is a multiple of the larger of 64 and the size is one of the size. Proved over
+-- the exponent. Assumes nothing.
+use mathlib.Core.Path.{_≡_, refl, sym, ap, _∙_, subst}
+use mathlib.Core.Bool.{true, _&&_}
+use mathlib.Core.Logic.{_↔_, ⊎-elim}
+use Prim.Native.Nat.{ℕ, zero, suc, _+_, _*_, _-_, _/_, _%_, _^_, _≤_, _<_, min, max}
+use native.Mathlib.Nat.{pow-suc, one-mul, zero-mod}
+use native.Mathlib.Omega.{arith}
+use lib.Arith.{bin-ind}
+use lib.Bits.{bitAnd, and-step, and-self, and-shifted}
+use lib.Dec.{eqb, leb}
+use lib.Pow.{pow-lt, pow-mono, mod-mod-pow, ones-lt}
+use borrow.Author.Tests.{eqb-true, leb-true, eq-eqb, le-leb}
+use Rattle.word.proofs.TestLaws.{and-both}
+use Rattle.word.proofs.WordLaws.{split-lt}
+use Rattle.settings.specs.Settings.{PowerOfTwo, defaults, SizeRules, sizeOk, granuleOf}
+use Rattle.settings.specs.declared.Settings.{Settings}
+
+-- a power of two and the number before it have no bit in common
+power-apart : (k : ℕ) → bitAnd (2 ^ k) (2 ^ k - 1) ≡ 0
+power-apart k = subst (λ (n : ℕ). bitAnd n (2 ^ k - 1) ≡ 0) (one-mul (2 ^ k)) (and-shifted 1 k (2 ^ k - 1) (ones-lt k))
+
+-- and no other number but 0 has none: an odd one above 1 has them all but the lowest, and an even one has those of its half
+apart-power : (n : ℕ) → 0 < n → bitAnd n (n - 1) ≡ 0 → PowerOfTwo n
+apart-power = bin-ind (λ (n : ℕ). 0 < n → bitAnd n (n - 1) ≡ 0 → PowerOfTwo n) (λ h e. absurd (omega arith)) step
+  where
+    step : (n : ℕ) → (0 < n / 2 → bitAnd (n / 2) (n / 2 - 1) ≡ 0 → PowerOfTwo (n / 2)) → 0 < n → bitAnd n (n - 1) ≡ 0 → PowerOfTwo n
+    step n half h e =
+        ⊎-elim
+        (λ (even : n % 2 < 1).
+        let below : (n - 1) / 2 ≡ n / 2 - 1 = omega arith in
+        let digits : bitAnd (n / 2) (n / 2 - 1) * 2 + min (n % 2) ((n - 1) % 2) ≡ 0 =
+        ap (λ (m : ℕ). bitAnd (n / 2) m * 2 + min (n % 2) ((n - 1) % 2)) (sym below) ∙ sym (and-step n (n - 1)) ∙ e in
+        let p = half (omega arith) (omega (arith, digits)) in
+        (suc (p .0), omega (arith, p .1, pow-suc 2 (p .0))))
+        (λ (odd : 1 ≤ n % 2).
+        let below : (n - 1) / 2 ≡ n / 2 = omega arith in
+        let digits : n / 2 * 2 + min (n % 2) ((n - 1) % 2) ≡ 0 =
+        ap (λ (m : ℕ). m * 2 + min (n % 2) ((n - 1) % 2)) (sym (and-self (n / 2)))
+        ∙ ap (λ (m : ℕ). bitAnd (n / 2) m * 2 + min (n % 2) ((n - 1) % 2)) (sym below)
+        ∙ sym (and-step n (n - 1)) ∙ e in
+        (0, omega (arith, digits)))
+        (split-lt (n % 2) 1)
+
+module _ (s : Settings) where
+  -- the test of the size passes exactly if the rule holds
+  pub size-exact : (sizeOk s ≡ true) ↔ SizeRules s
+  unfolding sizeOk
+  size-exact = (
+    λ e.
+        let a = and-both (leb 8 (s .size)) _ e in
+        let b = and-both (leb (s .size) 4096) _ (a .1) in
+        let low = leb-true 8 (s .size) (a .0) in
+        (apart-power (s .size) (omega arith) (eqb-true _ 0 (b .1)), low, leb-true (s .size) 4096 (b .0)),
+    λ r.
+        let apart : bitAnd (s .size) (s .size - 1) ≡ 0 =
+        subst (λ (n : ℕ). bitAnd n (n - 1) ≡ 0) (sym (r .0 .1)) (power-apart (r .0 .0)) in
+        rw (le-leb 8 (s .size) (r .1), le-leb (s .size) 4096 (r .2), eq-eqb _ 0 apart),
+  )
+
+-- the larger of two powers of two is one
+larger-power : (j k : ℕ) → PowerOfTwo (max (2 ^ j) (2 ^ k))
+larger-power j k =
+    ⊎-elim (λ (h : j < k). (k, omega (arith, pow-lt h))) (λ (h : k ≤ j). (j, omega (arith, pow-mono h))) (split-lt j k)
+
+pub granule-power : (s : Settings) → SizeRules s → PowerOfTwo (granuleOf s)
+granule-power s r = subst (λ (n : ℕ). PowerOfTwo (max 64 n)) (sym (r .0 .1)) (larger-power 6 (r .0 .0))
+
+-- and a multiple of it is one of the second; the two may change places
+pub larger-whole : (j k n : ℕ) → n % max (2 ^ j) (2 ^ k) ≡ 0 → n % 2 ^ k ≡ 0
+larger-whole j k n e =
+    ⊎-elim
+    (λ (h : j < k).
+    let larger : max (2 ^ j) (2 ^ k) ≡ 2 ^ k = omega (arith, pow-lt h) in
+    ap (λ (m : ℕ). n % m) (sym larger) ∙ e)
+    (λ (h : k ≤ j).
+    let larger : max (2 ^ j) (2 ^ k) ≡ 2 ^ j = omega (arith, pow-mono h) in
+    let some : j - k + k ≡ j = omega arith in
+    let whole : n % 2 ^ (j - k + k) ≡ 0 = ap (λ (i : ℕ). n % 2 ^ i) some ∙ ap (λ (m : ℕ). n % m) (sym larger) ∙ e in
+    sym (mod-mod-pow n (j - k) k) ∙ ap (λ (m : ℕ). m % 2 ^ k) whole ∙ zero-mod (2 ^ k))
+    (split-lt j k)
+
+-- so a memory's base and length are multiples of the set's size
+pub granule-whole : (s : Settings) → SizeRules s → (n : ℕ) → n % granuleOf s ≡ 0 → n % s .size ≡ 0
+granule-whole s r n e =
+    let k = r .0 .0 in
+    let size = r .0 .1 in
+    ap (λ (m : ℕ). n % m) size ∙ larger-whole 6 k n (ap (λ (m : ℕ). n % max 64 m) (sym size) ∙ e)
+
+-- the default is allowed
+pub defaults-allowed : SizeRules defaults
+defaults-allowed = ((6, refl), omega arith, omega arith)

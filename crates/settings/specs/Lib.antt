@@ -1,0 +1,2 @@
+-- What a machine is set to.
+pub mod Settings

@@ -1,0 +1,46 @@
+// What a machine is set to. The settings are numbers, since a state can be given with any: those that are not allowed are refused.
+ghost use mathlib.Core.Path.{_≡_};
+ghost use Prim.Native.Nat.{_%_};
+ghost use Rattle.settings.specs.Settings.{PowerOfTwo, defaults, sizeOk, granuleOf};
+
+// size is the number of bytes of a reservation's set, the same for all harts.
+pub struct Settings {
+    pub size: u64,
+}
+
+// The settings of a case file, and of a state that is not set otherwise.
+pub fn defaults() -> Settings
+    ensures { λ r. ⌜ r ≡ defaults ⌝ }
+{
+    Settings { size: 64 }
+}
+
+// The remainder by a power of two. A mask: a set is looked for at every write, and a division would take longer than all the rest.
+pub fn remainder(n: u64, size: u64) -> u64
+    requires { ⌜ PowerOfTwo size ⌝ }
+    ensures { λ r. ⌜ r ≡ n % size ⌝ }
+{
+    n & (size - 1)
+}
+
+// Whether the set's size is allowed (refusal 1): a power of two has no bit in common with the number before it.
+pub fn size_ok(settings: Settings) -> bool
+    ensures { λ r. ⌜ r ≡ sizeOk settings ⌝ }
+{
+    let size = settings.size;
+    if size < 8 {
+        return false;
+    }
+    (size <= 4096) & (size & (size - 1) == 0)
+}
+
+// What memory's base and length are multiples of.
+pub fn granule(settings: Settings) -> u64
+    ensures { λ r. ⌜ r ≡ granuleOf settings ⌝ }
+{
+    if settings.size < 64 {
+        64
+    } else {
+        settings.size
+    }
+}

@@ -1,0 +1,276 @@
+"""The outside vectors of request 5 of document 02, all lines of tests/vectors/05-sizes.jsonl, against the library, byte for byte.
+
+The library is called as include/floecavern.h has it, on target/libfloecavern.so (FLOECAVERN_SO names a shared object at another place):
+
+    cc -shared -o target/libfloecavern.so -Wl,--whole-archive target/staticlib/libcapi.a -Wl,--no-whole-archive
+
+Each line is one call. Compared are the answer, what is told, every byte of the state (all eight harts, unused ones too, and the set size) and
+all of memory. The events of a run are performed by single calls as well, since the line has the answer of each of them.
+"""
+import ctypes
+import importlib.machinery
+import importlib.util
+import os
+import struct
+import sys
+import unittest
+
+TESTS = os.path.dirname(os.path.abspath(__file__))
+ROOT = os.path.dirname(TESTS)
+sys.path.insert(0, TESTS)
+import vectors05  # noqa: E402, it stands beside this file
+
+SO = os.environ.get('FLOECAVERN_SO', os.path.join(ROOT, 'target', 'libfloecavern.so'))
+
+LINES = 739
+IN_EVENT_TABLE = 611
+
+BAD_SIZE = 2 ** 64 - 1
+TRAP, REFUSED = 256, 512
+STATE, PC, RESERVATION, SET_SIZE = 2320, 2056, 2120, 2312
+EVENT = 24
+# What stands where the library reads nothing, or has not written yet.
+RUBBISH = 0xA5A5A5A5A5A5A5A5
+
+
+def library():
+    """The functions that take a state, with the types that include/floecavern.h gives them."""
+    found = ctypes.CDLL(os.path.abspath(SO))
+    number, size, place = ctypes.c_uint64, ctypes.c_size_t, ctypes.POINTER(ctypes.c_uint8)
+    machine, told = [place, size, number, place, size], [place, size]
+    arguments = {'step': [size], 'yield': [size], 'device_write': [number, size, number], 'run': [place, size, size], 'replay': [place, size]}
+    for name, own in arguments.items():
+        function = getattr(found, 'floecavern_' + name)
+        function.argtypes, function.restype = machine + own + told, number
+    return found
+
+
+def buffer(data):
+    """A buffer of bytes, which is no NULL where there are none, and its length."""
+    return (ctypes.c_uint8 * max(len(data), 1)).from_buffer_copy(bytes(data) or b'\0'), len(data)
+
+
+class Machine:
+    """A state of 2320 bytes and a memory, lent to one call after another."""
+
+    def __init__(self, library, state, base, memory):
+        self.library, self.base = library, base
+        self.state, self.state_len = buffer(state)
+        self.memory, self.memory_len = buffer(memory)
+
+    def call(self, name, arguments, told):
+        """The answer, and the numbers that are told."""
+        out, length = buffer(struct.pack('<%dQ' % told, *[RUBBISH] * told))
+        answer = getattr(self.library, 'floecavern_' + name)(self.state, self.state_len, self.base, self.memory, self.memory_len, *arguments,
+                                                             out, length)
+        return answer, struct.unpack('<%dQ' % told, out)
+
+    def event(self, kind, hart, address, size, data):
+        """A single event."""
+        if kind == 'device':
+            return self.call('device_write', (address, size, data), 1)
+        return self.call(kind, (hart,), 1)
+
+    def bytes(self):
+        return bytes(self.state)[:self.state_len], bytes(self.memory)[:self.memory_len]
+
+
+def state_bytes(line):
+    """The state that a line gives. Where a hart has no reservation, address and width mean nothing, and are rubbish."""
+    harts = list(vectors05.harts(line))
+    numbers = [line['count']] + [value for x, _, _ in harts for value in x] + [pc for _, pc, _ in harts]
+    for _, _, held in harts:
+        numbers += [0, RUBBISH, RUBBISH] if held is None else [1, *held]
+    return struct.pack('<290Q', *numbers, vectors05.set_size(line))
+
+
+def written(line):
+    """The state after a call that writes it: registers and pcs of all harts, and the reservations of the used ones, three zeros where there is
+    none. What the used harts don't have stays as given."""
+    state = bytearray(state_bytes(line))
+    for h, (x, pc, held) in enumerate(vectors05.harts(vectors05.afterwards(line))):
+        struct.pack_into('<32Q', state, 8 + 256 * h, *x)
+        struct.pack_into('<Q', state, PC + 8 * h, pc)
+        if h < line['count']:
+            struct.pack_into('<3Q', state, RESERVATION + 24 * h, *((0, 0, 0) if held is None else (1, *held)))
+    return bytes(state)
+
+
+def meaning(state):
+    """Count, set size and harts of a state's bytes; the harts as vectors05 has them."""
+    numbers = struct.unpack('<290Q', state)
+    x, pcs, held = numbers[1:257], numbers[257:265], numbers[265:289]
+    harts = [(list(x[32 * h:32 * h + 32]), pcs[h], tuple(held[3 * h + 1:3 * h + 3]) if held[3 * h] else None) for h in range(8)]
+    return numbers[0], numbers[289], harts
+
+
+def answered(answer, broke):
+    """The number that the library answers an event with, and what it tells: the harts that lost their reservation, a trap's value, or 0."""
+    kind, *numbers = answer
+    if kind == 'trap':
+        return TRAP + numbers[0], (numbers[1],)
+    if kind == 'refused':
+        return REFUSED + numbers[0], (0,)
+    return {'ok': 0, 'sc': 1 + sum(numbers)}[kind], (broke,)
+
+
+def run_answered(answer):
+    """The same of a run: how many events it performed, and the place of refusal 11."""
+    kind, *numbers = answer
+    assert numbers[-2] == 'performed'
+    if kind == 'done':
+        return 0, (numbers[-1], 0)
+    return REFUSED + numbers[0], (0, sum(numbers[1:-2]))
+
+
+def replay_answered(answer):
+    """The same of a replay: how many rows there are before the stop, the board's value and the model's."""
+    kind, *numbers = answer
+    assert numbers[-2] == 'performed'
+    rows, numbers = numbers[-1], numbers[:-2]
+    if kind == 'refused':
+        return REFUSED + numbers[0], (0, 0, 0)
+    if kind == 'agreed':
+        return 0, (rows, 0, 0)
+    assert kind == 'row' and numbers[0] == rows
+    reason, *values = numbers[1:]
+    if reason == 'trap':
+        return TRAP + values[0], (rows, 0, values[1])
+    return ['form', 'pc', 'word', 'rd', 'value'].index(reason) + 1, (rows, *(values or (0, 0)))
+
+
+def events_of(body):
+    """The events of an events body: kind, hart, address, size and data."""
+    for at in range(0, len(body) - len(body) % EVENT, EVENT):
+        kind, hart, size, address, data = struct.unpack_from('<BBB5xQQ', body, at)
+        yield {1: 'step', 2: 'device', 3: 'yield'}[kind], hart, address, size, data
+
+
+class Vectors(unittest.TestCase):
+    """Every line by its call."""
+
+    @classmethod
+    def setUpClass(cls):
+        if not os.path.exists(SO):
+            raise unittest.SkipTest('no %s: the command is in the first lines of this file' % SO)
+        cls.library = library()
+
+    def machine(self, line):
+        return Machine(self.library, state_bytes(line), vectors05.base(line), vectors05.memory(line, line))
+
+    def left(self, machine, line, writes):
+        """The bytes after the call: as the line has them, if the call writes the state, else as given; and they mean what the line says."""
+        state, memory = machine.bytes()
+        part = vectors05.afterwards(line)
+        self.assertEqual(memory, vectors05.memory(line, part))
+        self.assertEqual(state, written(line) if writes else state_bytes(line))
+        self.assertEqual(meaning(state), (line['count'], vectors05.set_size(line), list(vectors05.harts(part))))
+
+    def single(self, line):
+        machine = self.machine(line)
+        event = (0, *vectors05.device(line)) if line['call'] == 'device' else (line['hart'], 0, 0, 0)
+        expected = answered(line['answer'], line['broke'])
+        self.assertEqual(machine.event(line['call'], *event), expected)
+        self.left(machine, line, expected[0] < TRAP)
+
+    def run_of_events(self, line):
+        machine, body = self.machine(line), bytes.fromhex(line['body'])
+        expected = run_answered(line['answer'])
+        self.assertEqual(machine.call('run', (*buffer(body), line['budget']), 2), expected)
+        self.left(machine, line, expected[0] == 0)
+        if expected[0] == 0:
+            self.one_by_one(line, body)
+
+    def one_by_one(self, line, body):
+        """The events of a run by single calls. A trap writes nothing, so that the bytes may differ where they mean nothing."""
+        machine, performed = self.machine(line), line['answer'][-1]
+        self.assertEqual(len(line['each']), performed)
+        for event, (*answer, broke) in zip(events_of(body), line['each']):
+            self.assertEqual(machine.event(*event), answered(answer, broke))
+        state, memory = machine.bytes()
+        self.assertEqual((meaning(state), memory), (meaning(written(line)), vectors05.memory(line, vectors05.afterwards(line))))
+
+    def replay(self, line):
+        machine, log = self.machine(line), line['log'].encode('latin-1')
+        expected = replay_answered(line['answer'])
+        self.assertEqual(machine.call('replay', buffer(log), 3), expected)
+        self.left(machine, line, expected[0] < REFUSED)
+
+    CALLS = {'step': single, 'device': single, 'yield': single, 'run': run_of_events, 'replay': replay}
+
+    def each(self, *calls):
+        for number, line in vectors05.lines():
+            if line['call'] in calls:
+                with self.subTest(line=number):
+                    self.CALLS[line['call']](self, line)
+
+    def test_steps(self):
+        self.each('step')
+
+    def test_device_writes(self):
+        self.each('device')
+
+    def test_yields(self):
+        self.each('yield')
+
+    def test_runs(self):
+        self.each('run')
+
+    def test_replays(self):
+        self.each('replay')
+
+    def test_length_of_a_state(self):
+        """Every function takes 2320 bytes of a state and no other number of them; then nothing is written."""
+        _, line = next(vectors05.lines())
+        for name, arguments, told in (('step', (0,), 1), ('yield', (0,), 1), ('device_write', (0, 1, 0), 1), ('run', (*buffer(b''), 0), 2),
+                                      ('replay', buffer(b''), 3)):
+            for length in (0, 8, 2304, SET_SIZE, STATE - 1, STATE + 1, STATE + 8):
+                with self.subTest(call=name, length=length):
+                    state = (state_bytes(line) + bytes(8))[:length]
+                    machine = Machine(self.library, state, vectors05.base(line), vectors05.memory(line, line))
+                    self.assertEqual(machine.call(name, arguments, told), (BAD_SIZE, (RUBBISH,) * told))
+                    self.assertEqual(machine.bytes(), (state, vectors05.memory(line, line)))
+
+
+def event_table():
+    """The tool tools/event-table as a module."""
+    loader = importlib.machinery.SourceFileLoader('event_table', os.path.join(ROOT, 'tools', 'event-table'))
+    module = importlib.util.module_from_spec(importlib.util.spec_from_loader('event_table', loader))
+    loader.exec_module(module)
+    return module
+
+
+class EventTable(unittest.TestCase):
+    """The model in tools/event-table, also on the lines that are no cases of its table. This needs no library."""
+
+    def test_single_events(self):
+        table = event_table()
+        for number, line in vectors05.lines():
+            if line['call'] in ('step', 'device', 'yield'):
+                with self.subTest(line=number):
+                    self.assertEqual(table.by_model(table.event_of(line), table.state_of(line, line)), table.by_vector(line))
+
+
+class Counts(unittest.TestCase):
+    """What is run where. This needs no library."""
+
+    def test_lines(self):
+        numbers = [number for number, _ in vectors05.lines()]
+        self.assertEqual(numbers, list(range(1, LINES + 1)))
+
+    def test_all_are_run_here(self):
+        """A test method for each call that a line has."""
+        self.assertEqual({line['call'] for _, line in vectors05.lines()}, set(Vectors.CALLS))
+
+    def test_event_table(self):
+        """611 lines are cases of the event table too, and 128 are not: runs and replays, and more memory than the program has."""
+        cases, others = event_table().sorted_vectors()
+        self.assertEqual({reason: len(numbers) for reason, numbers in others.items()},
+                         {'runs and replays': 78, 'more memory than 8192 bytes': 50})
+        self.assertEqual(len(cases), IN_EVENT_TABLE)
+        numbers = [number for number, _ in cases] + sum(others.values(), [])
+        self.assertEqual(sorted(numbers), list(range(1, LINES + 1)))
+
+
+if __name__ == '__main__':
+    unittest.main()
