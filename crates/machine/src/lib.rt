@@ -47,7 +47,8 @@ fn reservation_ok(base: u64, len: usize, r: Reservation) -> bool
         Reservation::None => true,
         Reservation::Held { addr, width } => {
             if (width == 4) | (width == 8) {
-                return (addr % width == 0) & reserve::inside(base, len as u64, addr, width);
+                return (remainder(addr, width) == 0)
+                    & reserve::inside(base, len as u64, addr, width);
             }
             false
         }

@@ -3,6 +3,7 @@
 use crate::Notice;
 use crate::Reservation;
 use crate::Slot;
+use crate::Written;
 use crate::breaks;
 use settings::Settings;
 ghost use mathlib.Core.Path.{_≡_};
@@ -12,7 +13,7 @@ ghost use lib.ListN.{length, set, getD};
 ghost use Rattle.word.specs.Each.{each};
 ghost use Rattle.settings.specs.Settings.{SizeRules};
 ghost use Rattle.reserve.specs.Reserve.{slot, breaksOf, brokenOf, observeAllOf};
-ghost use Rattle.reserve.specs.Packed.{slotsIn, breakSlot, replaced};
+ghost use Rattle.reserve.specs.Packed.{slotsIn, writeNotice, breakSlot, replaced};
 
 // Hart k's reservation.
 pub fn reservation(t: &[u64; 24], k: usize) -> Reservation
@@ -52,16 +53,16 @@ fn replace(t: &mut [u64; 24], count: usize, h: usize, r: Reservation)
     }
 }
 
-// Breaks hart k's reservation if the notice does, and tells so.
-fn break_one(t: &mut [u64; 24], settings: Settings, k: usize, n: Notice) -> bool
+// Breaks hart k's reservation if the write does, and tells so.
+fn break_one(t: &mut [u64; 24], settings: Settings, k: usize, w: Written) -> bool
     requires { ⌜ SizeRules settings × (k < 8) ⌝ }
     ensures { λ _. ⌜
         slotsIn (now (t .exit))
-        ≡ set (slotsIn (now (t .entry))) k (breakSlot settings n k (getD (slotsIn (now (t .entry))) k (slot Reservation.None)))
+        ≡ set (slotsIn (now (t .entry))) k (breakSlot settings (writeNotice w) k (getD (slotsIn (now (t .entry))) k (slot Reservation.None)))
         ⌝ }
-    ensures { λ b. ⌜ b ≡ breaksOf settings k n (getD (slotsIn (now (t .entry))) k (slot Reservation.None) .reservation) ⌝ }
+    ensures { λ b. ⌜ b ≡ breaksOf settings k (writeNotice w) (getD (slotsIn (now (t .entry))) k (slot Reservation.None) .reservation) ⌝ }
 {
-    let b = breaks(settings, k, n, reservation(t, k));
+    let b = breaks(settings, k, w, reservation(t, k));
     if b {
         t[k] = 0;
     }
@@ -75,22 +76,46 @@ fn weight(t: bool, bit: u64) -> u64
     if t { bit } else { 0 }
 }
 
-// Breaks the reservations of the first count harts that the notice breaks, and gives a bit for each.
-fn break_all(t: &mut [u64; 24], count: usize, settings: Settings, n: Notice) -> u64
+// Breaks the reservations of the first count harts that the write breaks, and gives a bit for each.
+fn break_all(t: &mut [u64; 24], count: usize, settings: Settings, w: Written) -> u64
     requires { ⌜ SizeRules settings × (count ≤ 8) ⌝ }
-    ensures { λ _. ⌜ slotsIn (now (t .exit)) ≡ each (breakSlot settings n) count (slotsIn (now (t .entry))) ⌝ }
-    ensures { λ r. ⌜ r ≡ brokenOf settings n count (slotsIn (now (t .entry))) ⌝ }
+    ensures { λ _. ⌜ slotsIn (now (t .exit)) ≡ each (breakSlot settings (writeNotice w)) count (slotsIn (now (t .entry))) ⌝ }
+    ensures { λ r. ⌜ r ≡ brokenOf settings (writeNotice w) count (slotsIn (now (t .entry))) ⌝ }
 {
     let mut broken: u64 = 0;
     let mut bit: u64 = 1;
     let mut k: usize = 0;
     while k < count {
-        let b = break_one(t, settings, k, n);
+        let b = break_one(t, settings, k, w);
         broken = broken + weight(b, bit);
         bit = bit * 2;
         k += 1;
     }
     broken
+}
+
+// What a write of a hart does to the reservations of others, and a bit for each hart whose reservation it broke.
+fn hart_write(
+    t: &mut [u64; 24],
+    count: usize,
+    settings: Settings,
+    hart: usize,
+    addr: u64,
+    len: u64,
+) -> u64
+    requires { ⌜ SizeRules settings × (count ≤ 8) ⌝ }
+    ensures { λ b. ⌜
+        record { slots = slotsIn (now (t .exit)); broken = b }
+        ≡ observeAllOf settings count (Notice.Write hart addr len) (slotsIn (now (t .entry)))
+        ⌝ }
+{
+    let w = Written {
+        device: false,
+        writer: hart,
+        addr,
+        len,
+    };
+    break_all(t, count, settings, w)
 }
 
 // What a device write of len bytes at addr does.
@@ -101,7 +126,13 @@ pub fn device_write(t: &mut [u64; 24], count: usize, settings: Settings, addr: u
         ≡ observeAllOf settings count (Notice.DeviceWrite addr len) (slotsIn (now (t .entry)))
         ⌝ }
 {
-    break_all(t, count, settings, Notice::DeviceWrite { addr, len })
+    let w = Written {
+        device: true,
+        writer: 0,
+        addr,
+        len,
+    };
+    break_all(t, count, settings, w)
 }
 
 // What a yield of hart h does, at any size of the set.
@@ -128,8 +159,8 @@ pub fn observe(t: &mut [u64; 24], count: usize, settings: Settings, n: Notice) -
             replace(t, count, hart, Reservation::Held { addr, width });
             0
         }
-        Notice::ScStored { hart, .. } => {
-            let b = break_all(t, count, settings, n);
+        Notice::ScStored { hart, addr, len } => {
+            let b = hart_write(t, count, settings, hart, addr, len);
             replace(t, count, hart, Reservation::None);
             b
         }
@@ -137,7 +168,7 @@ pub fn observe(t: &mut [u64; 24], count: usize, settings: Settings, n: Notice) -
             replace(t, count, hart, Reservation::None);
             0
         }
-        Notice::Write { .. } => break_all(t, count, settings, n),
+        Notice::Write { hart, addr, len } => hart_write(t, count, settings, hart, addr, len),
         Notice::DeviceWrite { addr, len } => device_write(t, count, settings, addr, len),
         Notice::Yield { hart } => {
             release(t, count, hart);

@@ -1,5 +1,5 @@
 -- What a machine is set to (02 [5]): which settings are allowed, and what a state has that is not set otherwise.
--- RULES 1.2, 1.3, 2.1.
+-- RULES 1.6; `granuleOf` 1.2.
 use mathlib.Core.Path.{_≡_}
 use Prim.Native.Nat.{ℕ, _-_, _^_, _≤_, max}
 use mathlib.Core.Bool.{Bool, _&&_}

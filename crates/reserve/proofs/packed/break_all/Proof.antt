@@ -8,7 +8,7 @@ use Rattle.word.specs.Each.{each}
 use Rattle.word.proofs.EachLaws.{each-suc, each-past}
 use Rattle.reserve.specs.declared.Reservation.the-variants.{None}
 use Rattle.reserve.specs.Reserve.{slot, brokenOf}
-use Rattle.reserve.specs.Packed.{slotsIn, breakSlot}
+use Rattle.reserve.specs.Packed.{slotsIn, writeNotice, breakSlot}
 use Rattle.reserve.proofs.PackedLaws.{slots-length}
 use borrow.Author.Needs.{needs}
 use Rattle.reserve.proofs.packed.break_all.Statement.{statement}
@@ -18,11 +18,11 @@ pow-small : (k : ℕ) → k ≤ 8 → 2 ^ k ≤ 256
 pow-small k h = pow-le-pow-right (omega arith) h
 
 abbrev Inv-loop : tie.InvT-loop
-Inv-loop t₀ count settings n broken₀ bit₀ k₀ t broken bit k =
-    (k ≤ count) × (slotsIn t ≡ each (breakSlot settings n) k (slotsIn t₀)) × (broken ≡ brokenOf settings n k (slotsIn t₀)) × (bit ≡ 2 ^ k) × (broken < 2 ^ k)
+Inv-loop t₀ count settings w broken₀ bit₀ k₀ t broken bit k =
+    (k ≤ count) × (slotsIn t ≡ each (breakSlot settings (writeNotice w)) k (slotsIn t₀)) × (broken ≡ brokenOf settings (writeNotice w) k (slotsIn t₀)) × (bit ≡ 2 ^ k) × (broken < 2 ^ k)
 
 abbrev μ-loop : tie.MeasureT-loop
-μ-loop t₀ count settings n broken₀ bit₀ k₀ t broken bit k = count - k
+μ-loop t₀ count settings w broken₀ bit₀ k₀ t broken bit k = count - k
 
 loop-holds : tie.Need-loop-holds Inv-loop μ-loop
 unfolding brokenOf
@@ -57,9 +57,9 @@ loop-again c =
     let one = c .before .break-one .ensures in
     let low : k < length l = omega (arith, slots-length (a .t .now)) in
     let same : getD (slotsIn (turn .t)) k (slot None) ≡ getD l k (slot None) =
-    rw (i .1) (each-past (breakSlot (a .settings) (a .n)) k k l (slot None) (omega arith)) in (
+    rw (i .1) (each-past (breakSlot (a .settings) (writeNotice (a .w))) k k l (slot None) (omega arith)) in (
       search needs,
-      rw (one .0, same, i .1, add-one) (sym (each-suc (breakSlot (a .settings) (a .n)) k l (slot None) low)),
+      rw (one .0, same, i .1, add-one) (sym (each-suc (breakSlot (a .settings) (writeNotice (a .w))) k l (slot None) low)),
       rw (c .weight .ensures .0, one .1, same, i .2, i .3, add-one),
       rw (i .3, add-one, pow-suc),
       rw (add-one, pow-suc) (omega arith),

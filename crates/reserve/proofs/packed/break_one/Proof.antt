@@ -1,7 +1,7 @@
 use mathlib.Core.Path.{sym, ap, _∙_}
 use lib.Seq.{set-getD}
 use Rattle.reserve.specs.Reserve.{slot, breaksOf}
-use Rattle.reserve.specs.Packed.{slotsIn}
+use Rattle.reserve.specs.Packed.{slotsIn, writeNotice}
 use Rattle.reserve.specs.declared.Reservation.the-variants.{None}
 use Rattle.reserve.proofs.PackedLaws.{dropped}
 use borrow.Author.Needs.{needs}
@@ -23,13 +23,13 @@ element-write-t c = search needs
 returns : tie.Need-returns
 returns c =
     let a = c .before .before .before .before .args in
-    let e = c .before .breaks .ensures ∙ ap (breaksOf (a .settings) (a .k) (a .n)) (c .before .before .reservation .ensures) in
+    let e = c .before .breaks .ensures ∙ ap (breaksOf (a .settings) (a .k) (writeNotice (a .w))) (c .before .before .reservation .ensures) in
     (rw (sym e ∙ c .if1 .taken) (dropped (a .t .now) (a .k) (c .before .before .before .before .pre .1)), e)
 
 returns-2 : tie.Need-returns-2
 returns-2 c =
     let a = c .before .before .before .before .args in
-    let e = c .before .breaks .ensures ∙ ap (breaksOf (a .settings) (a .k) (a .n)) (c .before .before .reservation .ensures) in
+    let e = c .before .breaks .ensures ∙ ap (breaksOf (a .settings) (a .k) (writeNotice (a .w))) (c .before .before .reservation .ensures) in
     (rw (sym e ∙ c .if1 .left) (sym (set-getD (slotsIn (a .t .now)) (a .k) (slot None))), e)
 
 pub break-one-spec : {M : Type 1} → statement M
