@@ -662,7 +662,7 @@ FLOECAVERN_INLINE floecavern_replayed floecavern_machine_replay(floecavern_machi
 /* Starts a machine: count harts with their pc at base, registers 0 and no reservations, and the set size
  * FLOECAVERN_SET_SIZE. The memory is left as it is. Answers FLOECAVERN_REFUSAL_NONE, or 1 or 2: the machine is then filled
  * in all the same, and every call of it is refused by that number. It asks by a run of no events, which changes nothing
- * of such a machine.
+ * of such a machine. With a library of another version the answer is no refusal of the model.
  *
  * For another set size, set machine->state.set_size after the start: where a memory fits that size, the start takes it
  * too. If it does not fit, every call from then on is refused by 1; floecavern_machine_run(machine, NULL, 0, 0).refusal

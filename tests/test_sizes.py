@@ -86,7 +86,7 @@ def state_bytes(line):
 
 def written(line):
     """The state after a call that writes it: registers and pcs of all harts, and the reservations of the used ones, three zeros where there is
-    none. What the used harts don't have stays as given."""
+    none. The reservations of unused harts stay as given."""
     state = bytearray(state_bytes(line))
     for h, (x, pc, held) in enumerate(vectors05.harts(vectors05.afterwards(line))):
         struct.pack_into('<32Q', state, 8 + 256 * h, *x)

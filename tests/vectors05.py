@@ -1,8 +1,8 @@
 """The outside vectors of request 5 of document 02, tests/vectors/05-sizes.jsonl: a line is a call of the library, its answer and what it leaves.
 
-They were made from the documents alone, by a model of another hand. A line is a dict: call (step, device, yield, run, replay); base (hex), len and mem (hex of the first
-bytes, the rest zero); count, size and harts (eight of [x0 to x31, pc, None or [address, width]], hex but for the width); the call's arguments;
-answer, broke, each and after. The functions below give the parts of it as numbers and bytes.
+They were made from the documents alone by an independent model. A line is a dict: call (step, device, yield, run, replay); base (hex), len and
+mem (hex of the first bytes, the rest zero); count, size and harts (eight of [x0 to x31, pc, None or [address, width]], hex but for the width);
+the call's arguments; answer, broke, each and after. The functions below give the parts of it as numbers and bytes.
 """
 import json
 import os

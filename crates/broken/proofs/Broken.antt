@@ -86,7 +86,8 @@ unfolding answerOf actOf actOn observeAllOf
 yield-breaks-none base m g =
     let none : Act → Type 0 = λ act. brokenAfter (m .state .settings) (m .state .count) act (m .state .res) ≡ 0 in
     cond-all none (eqb (refusalOf base (length (m .mem)) (m .state)) 0) _ _
-    (cond-all none (ltb g (m .state .count)) _ _ (spared-broken (m .state .settings) (N.Yield g) (yield-spares (m .state .settings) g) (m .state .count) (m .state .res)) refl) refl
+    (cond-all none (ltb g (m .state .count)) _ _ (spared-broken (m .state .settings) (N.Yield g) (yield-spares (m .state .settings) g) (m .state .count)
+    (m .state .res)) refl) refl
 
 module _ (base : ℕ) (m : Machine) (e : Event) where
   broke-notice : brokeAt base m e ≡ brokenOf (m .state .settings) (noticeAt base m e) (m .state .count) (m .state .res)
@@ -338,7 +339,8 @@ module _ (base : ℕ) (m : Machine) (e : Event) where
       by-notice (N.DeviceWrite b n) d = inl refl
       by-notice (N.Yield g) d = inl refl
 
-      act-outcome : (act : Act) → brokenAfter (m .state .settings) (m .state .count) act (m .state .res) ≢ 0 → (outcomeOf act ≡ O.Retired) ⊎ (outcomeOf act ≡ O.ScStored)
+      act-outcome : (act : Act) → brokenAfter (m .state .settings) (m .state .count) act (m .state .res) ≢ 0
+          → (outcomeOf act ≡ O.Retired) ⊎ (outcomeOf act ≡ O.ScStored)
       act-outcome (refuse number) d = absurd (d refl)
       act-outcome (fault cause value) d = absurd (d refl)
       act-outcome (change h ws to t) d = by-notice (noticeOf h t) d

@@ -8,7 +8,8 @@ ghost use mathlib.Core.Bool.{cond};
 ghost use Prim.Native.Nat.{_≤_, min};
 ghost use lib.ListN.{length};
 ghost use Rattle.word.specs.Each.{each};
-ghost use Rattle.event_table.specs.Build.{filler, registerAs, registersOf, pcsOf, slotAs, slotsOf, startOf, blankOf, begunOf, firstOf, itemN, itemA, itemB};
+ghost use Rattle.event_table.specs.Build.{filler, registerAs, registersOf, pcsOf, slotAs, slotsOf};
+ghost use Rattle.event_table.specs.Build.{startOf, blankOf, begunOf, firstOf, itemN, itemA, itemB};
 ghost use Rattle.event_table.specs.Build.{withSetting, withRegister, withPc, withSlot, hartsOf, wiped, bytesAt, patchOf, memoryAfter};
 
 // number counts the cases before this one.
@@ -174,7 +175,7 @@ fn start(count: usize, base: u64) -> State
 }
 
 // A state of count harts without a reservation where all else is zero, also of unused harts.
-fn blank(count: usize) -> State
+fn blank_state(count: usize) -> State
     ensures { λ r. ⌜ r ≡ blankOf count ⌝ }
 {
     let none = slot(true, 0, 0);
@@ -188,13 +189,13 @@ fn blank(count: usize) -> State
 }
 
 // The default state, or a blank one.
-fn begin(count: usize, base: u64, empty: u64) -> State
-    ensures { λ r. ⌜ r ≡ begunOf count base empty ⌝ }
+fn begin(count: usize, base: u64, blank: u64) -> State
+    ensures { λ r. ⌜ r ≡ begunOf count base blank ⌝ }
 {
-    if empty == 0 {
+    if blank == 0 {
         return start(count, base);
     }
-    blank(count)
+    blank_state(count)
 }
 
 // The default case, before any item.

@@ -36,7 +36,8 @@ module _ (settings : Settings) (h a w : ℕ) where
       (λ t. other (eqb-false g h t) (subst (λ (s : Bool). cond s x r ≡ Held a w) t e))
 
   -- a write of another hart that did not reach the set
-  unreached : (g b n : ℕ) → g ≢ h → (not (eqb g h) && touches b n (setOf (settings .size) a) (settings .size)) ≡ false → Touch b n (setOf (settings .size) a) (settings .size) → ⊥
+  unreached : (g b n : ℕ) → g ≢ h → (not (eqb g h) && touches b n (setOf (settings .size) a) (settings .size)) ≡ false
+      → Touch b n (setOf (settings .size) a) (settings .size) → ⊥
   unreached g b n d f = apart-exact b n (setOf (settings .size) a) (settings .size) .0 (rw (ne-eqb g h d) at f)
 
   -- the LR makes the reservation
@@ -107,7 +108,8 @@ module _ (settings : Settings) (h a w : ℕ) where
   -- then broke the reservation, in 01's words ("What breaks a reservation").
   pub history : (trace : List Notice) → (observes settings h trace None ≡ Held a w) ↔ Reserved settings h a w trace
   history trace = (
-    λ e. ⊎-elim (λ (q : Reserved settings h a w trace). q) (λ (q : (None ≡ Held a w) × AllSpare settings h a w trace). none-held (q .0)) (from-any trace None e),
+    λ e. ⊎-elim (λ (q : Reserved settings h a w trace). q) (λ (q : (None ≡ Held a w) × AllSpare settings h a w trace). none-held (q .0))
+        (from-any trace None e),
     λ q. subst (λ (l : List Notice). observes settings h l None ≡ Held a w) (sym (q .split)) (holds (q .before) (q .since) (q .spared) None),
   )
 

@@ -111,10 +111,19 @@ module _ (base len : ℕ) where
     state-exact = (
       λ e.
           let p = and-both (leb 1 (s .count) && leb (s .count) 8) _ e in
-          let q = and-both (leb 1 (s .count)) (leb (s .count) 8) (p .0) in
-          (leb-true 1 (s .count) (q .0), leb-true (s .count) 8 (q .1), λ k h. hart-exact k .0 (all-at (hartAt base len (s .x) (s .pc) (s .res)) k (s .count) (p .1) h)),
+          let q = and-both (leb 1 (s .count)) (leb (s .count) 8) (p .0) in (
+            leb-true 1 (s .count) (q .0),
+            leb-true (s .count) 8 (q .1),
+            λ k h.
+                hart-exact k .0 (all-at (hartAt base len (s .x) (s .pc) (s .res)) k (s .count) (p .1) h),
+          ),
       λ r.
-          rw (le-leb 1 (s .count) (r .0), le-leb (s .count) 8 (r .1), all-intro (hartAt base len (s .x) (s .pc) (s .res)) (s .count) (λ k h. hart-exact k .1 (r .2 k h))),
+          rw (
+            le-leb 1 (s .count) (r .0),
+            le-leb (s .count) 8 (r .1),
+            all-intro (hartAt base len (s .x) (s .pc) (s .res)) (s .count)
+                (λ k h. hart-exact k .1 (r .2 k h)),
+          ),
     )
 
     -- no refusal is given exactly when the set's size, memory and state keep their rules, refusal 1 when the size or the memory breaks its own, and 2 when

@@ -1,5 +1,5 @@
 -- The rules of 01, "The machine", with 02 [5], without tests: what refusals 1 and 2 ask of a memory and a state, its settings among them.
--- RULES 1.1, 1.2, 1.3, 2.1.
+-- RULES 1.1, 1.2, 1.3, 1.6, 2.1.
 use mathlib.Core.Path.{_≡_}
 use mathlib.Core.Logic.{_⊎_}
 use Prim.Native.Nat.{ℕ, _*_, _%_, _^_, _≤_, _<_}

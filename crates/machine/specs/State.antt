@@ -1,5 +1,5 @@
 -- Which memories and states are refused (refusals 1 and 2 of 01, with 02 [5]).
--- RULES 1.1, 1.2, 1.3, 2.1.
+-- RULES 1.1, 1.2, 1.3, 1.6, 2.1.
 use Prim.Native.Nat.{ℕ, _*_, _%_, _^_}
 use mathlib.Core.Bool.{Bool, true, cond, _&&_, _||_}
 use mathlib.Core.List.{List}

@@ -30,7 +30,7 @@ fn lent_ok(settings: Settings, base: u64, len: usize) -> bool
                 & ((remainder(base, granule) == 0) & (base <= 1099511627776))))
 }
 
-// Whether refusal 1 names neither the set's size nor the memory: the size is tried first, since the rest counts on it.
+// Whether refusal 1 does not apply. The size is tried first: the rest needs it.
 fn memory_ok(settings: Settings, base: u64, len: usize) -> bool
     ensures { λ r. ⌜ r ≡ memoryOk settings base len ⌝ }
 {

@@ -41,14 +41,16 @@ module _ (h : ℕ) where
   pcs-done (E.effect (E.one r v) to t) pc = refl
   pcs-done (E.effect (E.pair r v r2 v2) to t) pc = refl
 
-  pub slots-done : (settings : Settings) (e : E.Exec) (count : ℕ) (l : List Slot) → slotsBy settings count (E.doneOf h e) l ≡ slotsAfter settings count (ofExec h e) l
+  pub slots-done : (settings : Settings) (e : E.Exec) (count : ℕ) (l : List Slot)
+      → slotsBy settings count (E.doneOf h e) l ≡ slotsAfter settings count (ofExec h e) l
   unfolding slotsBy
   slots-done settings (E.trap cause value) count l = refl
   slots-done settings (E.effect E.none to t) count l = refl
   slots-done settings (E.effect (E.one r v) to t) count l = refl
   slots-done settings (E.effect (E.pair r v r2 v2) to t) count l = refl
 
-  pub broken-done : (settings : Settings) (e : E.Exec) (count : ℕ) (l : List Slot) → brokenBy settings count (E.doneOf h e) l ≡ brokenAfter settings count (ofExec h e) l
+  pub broken-done : (settings : Settings) (e : E.Exec) (count : ℕ) (l : List Slot)
+      → brokenBy settings count (E.doneOf h e) l ≡ brokenAfter settings count (ofExec h e) l
   unfolding brokenBy
   broken-done settings (E.trap cause value) count l = refl
   broken-done settings (E.effect E.none to t) count l = refl

@@ -103,7 +103,8 @@ module _ (s t : State) (a : Agree s t) where
     slots-same settings n k u =
         rw (← a .counts)
         (ap (λ (c : Slot). c .reservation)
-        (each-same (slot None) (observeSlot settings n) (s .count) k (s .res) (t .res) (p .reservations ∙ sym (q .reservations)) (ap slot (a .reservations k u))))
+        (each-same (slot None) (observeSlot settings n) (s .count) k (s .res) (t .res) (p .reservations ∙ sym (q .reservations))
+        (ap slot (a .reservations k u))))
 
     agree-apply : (act : Act) → Agree (apply s act) (apply t act)
     unfolding apply
@@ -118,9 +119,21 @@ module _ (s t : State) (a : Agree s t) where
           reservations = rw (← a .settings) (slots-same (s .settings) (noticeOf h x));
         }
     agree-apply (put b bs) =
-        record { counts = a .counts; settings = a .settings; registers = a .registers; pcs = a .pcs; reservations = rw (← a .settings) (slots-same (s .settings) (DeviceWrite b (length bs))) }
+        record {
+          counts = a .counts;
+          settings = a .settings;
+          registers = a .registers;
+          pcs = a .pcs;
+          reservations = rw (← a .settings) (slots-same (s .settings) (DeviceWrite b (length bs)));
+        }
     agree-apply (release h) =
-        record { counts = a .counts; settings = a .settings; registers = a .registers; pcs = a .pcs; reservations = rw (← a .settings) (slots-same (s .settings) (Yield h)) }
+        record {
+          counts = a .counts;
+          settings = a .settings;
+          registers = a .registers;
+          pcs = a .pcs;
+          reservations = rw (← a .settings) (slots-same (s .settings) (Yield h));
+        }
 
 -- ---- refusals 1 and 2
 

@@ -81,7 +81,8 @@ module _ (base len : ℕ) where
   own-ok h (DeviceWrite b n) r o k = k
   own-ok h (Yield g) r o k = cond-all (ReservationRules base len) (eqb g h) None r tt k
 
-  observed-ok : (settings : Settings) (h : ℕ) (n : Notice) (r : Reservation) → NoticeOk n → ReservationRules base len r → ReservationRules base len (observeOf settings h n r)
+  observed-ok : (settings : Settings) (h : ℕ) (n : Notice) (r : Reservation) → NoticeOk n → ReservationRules base len r
+      → ReservationRules base len (observeOf settings h n r)
   unfolding observeOf
   observed-ok settings h n r o k = cond-all (ReservationRules base len) (breaksOf settings h n r) None (ownOf h n r) tt (own-ok h n r o k)
 
@@ -90,7 +91,8 @@ module _ (base len : ℕ) where
   unfolding observeAllOf
   noticed-ok settings s n k o h r =
       ⊎-elim
-      (λ (l : k < length (s .res)). rw (each-at (observeSlot settings n) (s .count) k (s .res) (slot None) h l) (observed-ok settings k n (reservationOf s k) o r))
+      (λ (l : k < length (s .res)). rw (each-at (observeSlot settings n) (s .count) k (s .res) (slot None) h l)
+      (observed-ok settings k n (reservationOf s k) o r))
       (λ (g : length (s .res) ≤ k).
       let l = each (observeSlot settings n) (s .count) (s .res) in
       let past : length l ≤ k = rw (length-each (observeSlot settings n) (s .count) (s .res)) g in
@@ -141,7 +143,8 @@ module _ (base : ℕ) (mem : List ℕ) (s : State) (sr : StateRules base (length
   unfolding fetchOf
   fetch-sound h l =
       cond-all (Sound base (length mem)) (insideOf base (length mem) (getD (s .pc) h 0) 4) _ (trap 1 (getD (s .pc) h 0))
-      (sound (valueAt base mem (getD (s .pc) h 0) 4) (regAt (s .x) h) (getD (s .pc) h 0) base mem (coversOf (s .settings) (reservationOf s h)) (sr .2 h l .1)) tt
+      (sound (valueAt base mem (getD (s .pc) h 0) 4) (regAt (s .x) h) (getD (s .pc) h 0) base mem (coversOf (s .settings) (reservationOf s h))
+      (sr .2 h l .1)) tt
 
   pub act-ok : (e : Event) → ActOk base (length mem) (actOn base mem s e)
   unfolding actOn deviceOf

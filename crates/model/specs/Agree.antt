@@ -11,7 +11,8 @@ use Rattle.model.specs.Perform.{Machine, reservationOf, replyAt, nextOf}
 use Rattle.model.specs.Run.{Result}
 use Rattle.model.specs.declared.Reply.{Reply}
 
--- The counts and the settings are the same, and so are all registers, the pc and the reservation of each hart below the count. Nothing is asked of unused harts.
+-- The counts and the settings are the same, and so are all registers, the pc and the reservation of each hart below the count. Nothing is asked of
+-- unused harts.
 pub record Agree (s t : State) : Type 0 where
   pub counts : s .count ≡ t .count
   pub settings : s .settings ≡ t .settings

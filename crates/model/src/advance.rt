@@ -31,7 +31,9 @@ fn fetch(
     mem: &mut [u8],
 ) -> Done
     requires { ⌜ (h < 8) × SizeRules settings ⌝ }
-    ensures { λ r. ⌜ Meets h (fetchOf (regAt (now (x .entry)) h) pc base (now (mem .entry)) (coversOf settings res)) base (now (mem .entry)) r (now (mem .exit)) ⌝ }
+    ensures { λ r. ⌜
+        Meets h (fetchOf (regAt (now (x .entry)) h) pc base (now (mem .entry)) (coversOf settings res)) base (now (mem .entry)) r (now (mem .exit))
+        ⌝ }
 {
     if !reserve::inside(base, mem.len() as u64, pc, 4) {
         return Done::Trap {

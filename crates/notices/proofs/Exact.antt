@@ -189,7 +189,8 @@ module _ (base : ℕ) (m : Machine) (v : Valid base m) where
           (performs h (Amo i) r
           ∙ ap
           (λ (op : AtomicOp).
-          ofExec h (atomicBy 64 op i (regAt (m .state .x) h) (getD (m .state .pc) h 0) base (m .mem) (coversOf (m .state .settings) (reservationOf (m .state) h)))) q)))
+          ofExec h (atomicBy 64 op i (regAt (m .state .x) h) (getD (m .state .pc) h 0) base (m .mem)
+          (coversOf (m .state .settings) (reservationOf (m .state) h)))) q)))
           n
 
       plain-sc : (i : Atomic) → Retires base m e h (Amo i) → i .op ≡ Sc → outcomeAt base m e ≡ O.Retired → ⊥

@@ -101,7 +101,8 @@ checking = tt
 
 -- and running events
 running : Unit {0}
-unfolding reading splice regAt setReg insideOf allBelow sizeOk lentOk memoryOk reservationOk hartOk stateOk refusalOf touches coversOf breaksOf ownOf observeOf observeAllOf
+unfolding reading splice regAt setReg insideOf allBelow sizeOk lentOk memoryOk reservationOk hartOk stateOk refusalOf
+    touches coversOf breaksOf ownOf observeOf observeAllOf
     holdsOf execBranch faultOf checked execLr execSc execAtomic execute executeWord apply leaves fetchOf deviceOf actOn actOf answerOf memoryOf nextOf runOf
 running = tt
 
@@ -355,8 +356,8 @@ harmless-16 =
 abbrev next-sized : ℕ → List Event → Outcome
 next-sized size es = outcomeAt 1024 (runOf 1024 (sized size) es) (Step 0)
 
--- After the LR at 1096 hart 1 stores at 1104. That is behind sets of 8 and of 16 bytes, so with these it leaves the loop alone, and the SC stores; it is
--- inside sets of 64 and of 128, and the SC fails.
+-- After the LR at 1096 hart 1 stores at 1104. With sets of 16 bytes, and of 8, that is behind the set, and the SC stores; of 16 it is proved too that the
+-- store leaves the loop alone. It is inside sets of 64 and of 128, and the SC fails.
 pub record BySize : Type 0 where
   pub alone : LeftAlone 1024 0 1024 1096 leaving lr reserved-16 (Step 1)
   pub stores-8 : next-sized 8 (Step 0 ∷ Step 1 ∷ Step 0 ∷ []) ≡ O.ScStored

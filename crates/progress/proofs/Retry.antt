@@ -183,7 +183,8 @@ module _ (base h p addr : ℕ) (words : List ℕ) (lr : Atomic) (j : ℕ)
             res-next base m e (a .ground .valid) (a .ground .shaped) h (a .ground .used)
             ∙ ap (observeOf (m .state .settings) h (noticeAt base m e)) (a .holds o l)
             ∙ kept (m .state .settings) h addr (bytesOf (lr .width)) (noticeAt base m e)
-            (spares (m .state .settings) h addr (bytesOf (lr .width)) (own-set m (a .ground .valid)) (noticeAt base m e) (not-by base m e h d) (s .reserved) (s .stays));
+            (spares (m .state .settings) h addr (bytesOf (lr .width)) (own-set m (a .ground .valid)) (noticeAt base m e) (not-by base m e h d)
+            (s .reserved) (s .stays));
       }
 
   -- ---- the hart's own step
@@ -198,7 +199,8 @@ module _ (base h p addr : ℕ) (words : List ℕ) (lr : Atomic) (j : ℕ)
     -- what an instruction does here, and the word at the place
     abbrev by : Instr → Exec
     by n =
-        execute 64 n (valueAt base (m .mem) (hartPc m h) 4) (regAt (m .state .x) h) (hartPc m h) base (m .mem) (coversOf (m .state .settings) (reservationOf (m .state) h))
+        execute 64 n (valueAt base (m .mem) (hartPc m h) 4) (regAt (m .state .x) h) (hartPc m h) base (m .mem)
+        (coversOf (m .state .settings) (reservationOf (m .state) h))
 
     abbrev exec : Exec
     exec = by (decodeOf (getD words i 0))
@@ -326,8 +328,10 @@ module _ (base h p addr : ℕ) (words : List ℕ) (lr : Atomic) (j : ℕ)
     opening : i ≡ 0 → Good m i
     unfolding Good
     opening z = (
-      fine (lr .rd) 1 (reserve addr (bytesOf (lr .width))) mv (omega arith) (λ t. t) (λ l. keeps) (λ l. made (m .state .settings) h addr (bytesOf (lr .width)) _) tt,
-      arrive (lr .rd) 1 (reserve addr (bytesOf (lr .width))) mv (omega arith) (λ t. t) (λ l. keeps) (λ l. made (m .state .settings) h addr (bytesOf (lr .width)) _),
+      fine (lr .rd) 1 (reserve addr (bytesOf (lr .width))) mv (omega arith) (λ t. t) (λ l. keeps)
+          (λ l. made (m .state .settings) h addr (bytesOf (lr .width)) _) tt,
+      arrive (lr .rd) 1 (reserve addr (bytesOf (lr .width))) mv (omega arith) (λ t. t) (λ l. keeps)
+          (λ l. made (m .state .settings) h addr (bytesOf (lr .width)) _),
     )
       where
         src : regAt (m .state .x) h (lr .rs1) ≡ addr
@@ -379,7 +383,8 @@ module _ (base h p addr : ℕ) (words : List ℕ) (lr : Atomic) (j : ℕ)
             ∙ ap (λ (n : Instr). ofExec h (by n)) (s .is)
             ∙ ap (ofExec h)
             (does-sc (hartPc m h) pc-aligned pc-low (valueAt base (m .mem) (hartPc m h) 4) (regAt (m .state .x) h) base (m .mem)
-            (coversOf (m .state .settings) (reservationOf (m .state) h)) (s .of) (s .kind) addr (bytesOf (lr .width)) src (s .width-is) aligned (a .ground .reachable) covered)
+            (coversOf (m .state .settings) (reservationOf (m .state) h)) (s .of) (s .kind) addr (bytesOf (lr .width)) src (s .width-is) aligned
+            (a .ground .reachable) covered)
 
         answers : outcomeAt base m (Step h) ≡ O.ScStored
         answers = said base m h (one (s .of .rd) 0) (nextPc 64 (hartPc m h)) (scStored addr new) act

@@ -70,8 +70,9 @@ module _ (base h p addr : ℕ) (words : List ℕ) (lr : Atomic) where
     pub reachable : Inside base (length (m .mem)) addr (bytesOf (lr .width))
 
   -- The event leaves the loop alone: it writes into neither the loop's words nor the reserved set, and is no yield of the hart. The reserved set is "the
-  -- set around it, from the first event on": as many bytes as the state's set size (02 [5]), which no event changes. "Something writes into bytes if it touches at least one of them, even with the same bytes, and is a retired store, AMO, equal
-  -- AMOCAS or successful SC, or a device write that isn't refused": that is `WritesBytes`, of n bytes at b.
+  -- set around it, from the first event on": as many bytes as the state's set size (02 [5]), which no event changes. "Something writes into bytes if it
+  -- touches at least one of them, even with the same bytes, and is a retired store, AMO, equal AMOCAS or successful SC, or a device write that isn't
+  -- refused": that is `WritesBytes`, of n bytes at b.
   pub record LeftAlone (m : Machine) (e : Event) : Type 0 where
     pub noWord : (b n : ℕ) → WritesBytes base m e b n → Touch b n p (4 * length words) → ⊥
     pub noSet : (b n : ℕ) → WritesBytes base m e b n → Touch b n (setOf (setSize m) addr) (setSize m) → ⊥

@@ -87,7 +87,8 @@ module _ (base : ℕ) (m : Machine) (v : Valid base m) (h : ℕ) (l : h < m .sta
     pub exec-reaches : Reaches (rdAt base m h) (writesAt (decodeOf word) (regAt (m .state .x) h)) exec
     exec-reaches =
         rw fetched
-        (reaches (pcAt base m h) base (m .mem) (coversOf (m .state .settings) (reservationOf (m .state) h)) (decodeOf word) (regs-below word) word (regAt (m .state .x) h))
+        (reaches (pcAt base m h) base (m .mem) (coversOf (m .state .settings) (reservationOf (m .state) h)) (decodeOf word) (regs-below word) word
+        (regAt (m .state .x) h))
 
 -- a row whose word can't be fetched
 pub told-unfetched : (base : ℕ) (m : Machine) (r : Row) → r .pc ≡ pcAt base m (r .hart) → Valid base m → r .hart < m .state .count

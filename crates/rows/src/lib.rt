@@ -77,17 +77,8 @@ fn replay_rows(
     let mut i: usize = 0;
     while i < n {
         let at = i * 48;
-        match row::compare(
-            x,
-            pc,
-            t,
-            count,
-            settings,
-            base,
-            mem,
-            &log[at..at + 48],
-            &digits,
-        ) {
+        let end = at + 48;
+        match row::compare(x, pc, t, count, settings, base, mem, &log[at..end], &digits) {
             Told::Agrees => i += 1,
             Told::Stops(stop) => return Stopped { stop, rows: i },
         }
@@ -119,17 +110,8 @@ pub fn replay(s: State, base: u64, mem: &mut [u8], log: &[u8]) -> Replayed
         return refused(13, s);
     }
     let mut t = packed::pack(res);
-    let r = replay_rows(
-        &mut x,
-        &mut pc,
-        &mut t,
-        count,
-        settings,
-        base,
-        mem,
-        log,
-        log.len() / 48,
-    );
+    let n = log.len() / 48;
+    let r = replay_rows(&mut x, &mut pc, &mut t, count, settings, base, mem, log, n);
     let after = packed::unpack(&t);
     let stop = r.stop;
     Replayed {

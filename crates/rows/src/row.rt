@@ -76,16 +76,8 @@ fn perform(
     let kept = *t;
     let first = reg(x, h, rd);
     let second = reg(x, h, rd % 32 + 1);
-    let reply = advance(
-        x,
-        pc,
-        t,
-        count,
-        settings,
-        base,
-        mem,
-        Event::Step { hart: h },
-    );
+    let step = Event::Step { hart: h };
+    let reply = advance(x, pc, t, count, settings, base, mem, step);
     let outcome = reply.outcome;
     let told = judge(outcome, r, rd, reg(x, h, rd));
     match told {
@@ -110,8 +102,7 @@ fn against(
     mem: &mut [u8],
     r: Row,
 ) -> Told
-    requires { ⌜ Valid base (inParts count settings (now x) (now pc) (now t) (now mem)) ⌝ }
-    requires { ⌜ r .hart < count ⌝ }
+    requires { ⌜ Valid base (inParts count settings (now x) (now pc) (now t) (now mem)) × (r .hart < count) ⌝ }
     ensures { λ told. ⌜ told ≡ toldByPc base (inParts count settings (now (x .entry)) (now (pc .entry)) (now (t .entry)) (now (mem .entry))) r ⌝ }
     ensures { λ told. ⌜ inParts count settings (now (x .exit)) (now (pc .exit)) (now (t .exit)) (now (mem .exit))
         ≡ afterRow told base (inParts count settings (now (x .entry)) (now (pc .entry)) (now (t .entry)) (now (mem .entry))) (Read r)
@@ -159,7 +150,8 @@ pub fn compare(
         ≡ toldOf base (inParts count settings (now (x .entry)) (now (pc .entry)) (now (t .entry)) (now (mem .entry))) (readingOf count (now (part .entry)))
         ⌝ }
     ensures { λ told. ⌜ inParts count settings (now (x .exit)) (now (pc .exit)) (now (t .exit)) (now (mem .exit))
-        ≡ afterRow told base (inParts count settings (now (x .entry)) (now (pc .entry)) (now (t .entry)) (now (mem .entry))) (readingOf count (now (part .entry)))
+        ≡ afterRow told base (inParts count settings (now (x .entry)) (now (pc .entry)) (now (t .entry)) (now (mem .entry)))
+        (readingOf count (now (part .entry)))
         ⌝ }
 {
     match steplog::read_row_by(digits, part, count) {

@@ -92,7 +92,8 @@ module _ (base h : ℕ) (m : Machine) (v : Valid base m) (u : h < m .state .coun
 
       taken : RetiredLr base m e h a w ⊎ LeavesReserved base h m e a w → reservationOf (nextOf base m e .state) h ≡ Held a w
       taken (inl r) =
-          after ∙ ap (λ (n : Notice). observeOf (m .state .settings) h n (Held a w)) (notice-exact base m v e (N.LoadReserved h a w) .1 r) ∙ made (m .state .settings) h a w (Held a w)
+          after ∙ ap (λ (n : Notice). observeOf (m .state .settings) h n (Held a w)) (notice-exact base m v e (N.LoadReserved h a w) .1 r)
+          ∙ made (m .state .settings) h a w (Held a w)
       taken (inr l) = after ∙ kept (m .state .settings) h a w (noticeAt base m e) (leaves-exact .0 l)
 
 -- ---- events one after another

@@ -84,11 +84,13 @@ module _ (base : ℕ) (m : Machine) (v : Valid base m) (h : ℕ) (u : h < m .sta
         (scStored (atomicAddress m h sc) (toLe (atomicSize sc) (regAt (m .state .x) h (sc .rs2))))
     unfolding exec covered
     exec-stored c =
-        let i = covered-in-memory (m .state .settings) base (length (m .mem)) (v .0) (reservationOf (m .state) h) (v .1 .2 h u .2) (atomicAddress m h sc) (atomicSize sc) c in
+        let i = covered-in-memory (m .state .settings) base (length (m .mem)) (v .0) (reservationOf (m .state) h) (v .1 .2 h u .2) (atomicAddress m h sc)
+        (atomicSize sc) c in
         T.exec-sc-stored 64 (getD (m .state .pc) h 0) (sc .width) (sc .rd) (atomicAddress m h sc) _ base (m .mem) covered al i c
 
     -- an aligned SC whose bytes the reservation's set contains doesn't trap: it stores
-    pub sc-covered : coversOf (m .state .settings) (reservationOf (m .state) h) (atomicAddress m h sc) (atomicSize sc) ≡ true → outcomeAt base m (Step h) ≡ ScStored
+    pub sc-covered : coversOf (m .state .settings) (reservationOf (m .state) h) (atomicAddress m h sc) (atomicSize sc) ≡ true
+        → outcomeAt base m (Step h) ≡ ScStored
     sc-covered c = by-exec _ (exec-stored c)
 
     module _ (i : Inside base (length (m .mem)) (atomicAddress m h sc) (atomicSize sc)) where
@@ -97,7 +99,8 @@ module _ (base : ℕ) (m : Machine) (v : Valid base m) (h : ℕ) (u : h < m .sta
       unfolding exec covered
       exec-failed c = T.exec-sc-failed 64 (getD (m .state .pc) h 0) (sc .width) (sc .rd) (atomicAddress m h sc) _ base (m .mem) covered al i c
 
-      pub sc-uncovered : coversOf (m .state .settings) (reservationOf (m .state) h) (atomicAddress m h sc) (atomicSize sc) ≡ false → outcomeAt base m (Step h) ≡ ScFailed
+      pub sc-uncovered : coversOf (m .state .settings) (reservationOf (m .state) h) (atomicAddress m h sc) (atomicSize sc) ≡ false
+          → outcomeAt base m (Step h) ≡ ScFailed
       sc-uncovered c = by-exec _ (exec-failed c)
 
       untrapped : Traps (outcomeAt base m (Step h)) → ⊥
@@ -150,7 +153,8 @@ module _ (base : ℕ) (m : Machine) (v : Valid base m) (h : ℕ) (u : h < m .sta
         bool-cases (insideOf base (length (m .mem)) a (atomicSize sc)) (λ t. inside-of base (length (m .mem)) a (atomicSize sc) t)
         (λ t. absurd (d (sc-traps .1 (inr (λ j. contrary (of-inside base (length (m .mem)) a (atomicSize sc) j) t)))))
 
-    pub sc-stored : (outcomeAt base m (Step h) ≡ ScStored) ↔ (coversOf (m .state .settings) (reservationOf (m .state) h) (atomicAddress m h sc) (atomicSize sc) ≡ true)
+    pub sc-stored : (outcomeAt base m (Step h) ≡ ScStored)
+        ↔ (coversOf (m .state .settings) (reservationOf (m .state) h) (atomicAddress m h sc) (atomicSize sc) ≡ true)
     sc-stored = (
       λ o.
           bool-cases (coversOf (m .state .settings) (reservationOf (m .state) h) (atomicAddress m h sc) (atomicSize sc)) (λ c. c)
@@ -162,7 +166,8 @@ module _ (base : ℕ) (m : Machine) (v : Valid base m) (h : ℕ) (u : h < m .sta
     sc-failed = (
       λ o p. let z : _≡_ {A = ℕ} 0 1 = cc in omega arith,
       λ n.
-          bool-cases (coversOf (m .state .settings) (reservationOf (m .state) h) (atomicAddress m h sc) (atomicSize sc)) (λ c. absurd (n (sc-covered aligned c)))
+          bool-cases (coversOf (m .state .settings) (reservationOf (m .state) h) (atomicAddress m h sc) (atomicSize sc))
+          (λ c. absurd (n (sc-covered aligned c)))
           (λ c. sc-uncovered aligned inside c),
     )
 
@@ -245,7 +250,8 @@ module _ (base : ℕ) (m : Machine) (v : Valid base m) (s : Shaped (m .state)) (
 
   -- It holds the reservation of w bytes at a exactly if its latest retired LR was of these and nothing since then broke the reservation.
   pub held-exact : (a w : ℕ) → (reservationOf (runOf base m es .state) h ≡ Held a w) ↔ Reserved (m .state .settings) h a w (traceOf base m es)
-  held-exact a w = subst (λ (r : Reservation). (r ≡ Held a w) ↔ Reserved (m .state .settings) h a w (traceOf base m es)) (sym after) (history (m .state .settings) h a w (traceOf base m es))
+  held-exact a w = subst (λ (r : Reservation). (r ≡ Held a w) ↔ Reserved (m .state .settings) h a w (traceOf base m es)) (sym after)
+      (history (m .state .settings) h a w (traceOf base m es))
 
   covered-exact : (a n : ℕ) → (coversOf (runOf base m es .state .settings) (reservationOf (runOf base m es .state) h) a n ≡ true)
       ↔ Since (m .state .settings) h a n (traceOf base m es)
@@ -275,7 +281,8 @@ module _ (base : ℕ) (m : Machine) (v : Valid base m) (s : Shaped (m .state)) (
   module _ (sc : Atomic) (f : FetchesSc base (runOf base m es) h sc) where
     -- an aligned SC that the history allows doesn't trap: its bytes lie in a set, and the set in memory
     pub sc-since-run : atomicAddress (runOf base m es) h sc % atomicSize sc ≡ 0
-        → Since (m .state .settings) h (atomicAddress (runOf base m es) h sc) (atomicSize sc) (traceOf base m es) → outcomeAt base (runOf base m es) (Step h) ≡ ScStored
+        → Since (m .state .settings) h (atomicAddress (runOf base m es) h sc) (atomicSize sc) (traceOf base m es)
+        → outcomeAt base (runOf base m es) (Step h) ≡ ScStored
     sc-since-run al y =
         sc-covered base (runOf base m es) (valid-run base m v es) h used sc f al
         (covered-exact (atomicAddress (runOf base m es) h sc) (atomicSize sc) .1 y)

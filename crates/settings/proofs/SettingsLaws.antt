@@ -1,5 +1,5 @@
 -- Sizes that are powers of two: the test says what the rule says, and what is a multiple of the larger of 64 and the size is one of the size. Proved over
--- the exponent. Assumes nothing.
+-- the exponent and over the digits. Assumes nothing.
 use mathlib.Core.Path.{_≡_, refl, sym, ap, _∙_, subst}
 use mathlib.Core.Bool.{true, _&&_}
 use mathlib.Core.Logic.{_↔_, ⊎-elim}

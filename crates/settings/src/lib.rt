@@ -15,12 +15,12 @@ pub fn defaults() -> Settings
     Settings { size: 64 }
 }
 
-// The remainder by a power of two. A mask: a set is looked for at every write, and a division would take longer than all the rest.
-pub fn remainder(n: u64, size: u64) -> u64
-    requires { ⌜ PowerOfTwo size ⌝ }
-    ensures { λ r. ⌜ r ≡ n % size ⌝ }
+// The remainder by a power of two. A mask and no division, since the set is looked for at every write.
+pub fn remainder(n: u64, power: u64) -> u64
+    requires { ⌜ PowerOfTwo power ⌝ }
+    ensures { λ r. ⌜ r ≡ n % power ⌝ }
 {
-    n & (size - 1)
+    n & (power - 1)
 }
 
 // Whether the set's size is allowed (refusal 1): a power of two has no bit in common with the number before it.

@@ -90,7 +90,8 @@ advance-requires c κs =
     let turn = c .before .before .before .before .before .before .before in
     let a = turn .before .before .before .before .before .before .before .before .args in
     let l = turn .loop in
-    subst (λ (mem : List ℕ). Valid (a .base) (inParts (a .s .count) (a .s .settings) (l .x) (l .pc) (l .t) mem)) (sym (lent-behind (l .out) (a .from))) (l .inv .3)
+    subst (λ (mem : List ℕ). Valid (a .base) (inParts (a .s .count) (a .s .settings) (l .x) (l .pc) (l .t) mem)) (sym (lent-behind (l .out) (a .from)))
+    (l .inv .3)
 
 -- also once an event has changed it
 behind-line : (c : tie.After-advance Inv-loop μ-loop)
@@ -139,7 +140,8 @@ loop-again c =
     let left = front-behind out (line .last .0) (a .from) w (line .kept .0) ∙ back-behind (l .out) mem (a .from) (within turn) kept in
     let was : List ℕ → Machine = inParts (a .s .count) (a .s .settings) (l .x) (l .pc) (l .t) in
     let here = was (drop (a .from) (l .out)) in
-    let left-as : List ℕ → Machine = inParts (a .s .count) (a .s .settings) (done .advance .last .0) (done .advance .last .1 .0) (done .advance .last .1 .1 .0) in
+    let left-as : List ℕ → Machine = inParts (a .s .count) (a .s .settings) (done .advance .last .0) (done .advance .last .1 .0)
+    (done .advance .last .1 .1 .0) in
     let more = advances-as (ap was (lent-behind (l .out) (a .from))) (ap left-as (sym left)) (done .advance .ensures) in
     let q = more .machine in
     let e = event-cut (l .i) body (read .ensures) in

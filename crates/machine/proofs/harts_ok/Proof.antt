@@ -47,7 +47,8 @@ hart-ok-requires c κs = search needs
 returns : tie.Need-returns Inv-loop μ-loop
 returns c =
     let a = c .before .before .before .before .before .before .before .args in
-    sym (all-fails (hartAt (a .base) (a .len) (a .x .now) (a .pc .now) (a .t6)) (c .before .before .before .before .before .before .loop .k) (a .count) (omega arith)
+    sym (all-fails (hartAt (a .base) (a .len) (a .x .now) (a .pc .now) (a .t6)) (c .before .before .before .before .before .before .loop .k) (a .count)
+    (omega arith)
     (sym (c .before .hart-ok .ensures) ∙ not-true _ (c .if1 .taken)))
 
 add-k : tie.Need-add-k Inv-loop μ-loop
@@ -61,7 +62,8 @@ loop-again c =
     let turn = c .before .before .before .before .before .before in
     let a = turn .before .args in (
       search needs,
-      all-more (hartAt (a .base) (a .len) (a .x .now) (a .pc .now) (a .t6)) (turn .loop .k) (turn .loop .inv .1) (sym (c .before .hart-ok .ensures) ∙ not-false _ (c .if1 .left)),
+      all-more (hartAt (a .base) (a .len) (a .x .now) (a .pc .now) (a .t6)) (turn .loop .k) (turn .loop .inv .1)
+          (sym (c .before .hart-ok .ensures) ∙ not-false _ (c .if1 .left)),
     )
 
 returns-2 : tie.Need-returns-2 Inv-loop μ-loop

@@ -36,8 +36,8 @@ loop-holds c = (search needs, refl, c .before .before .before .pre .0, rw sub-ze
 mul-at : tie.Need-mul-at Inv-loop μ-loop
 mul-at c = omega arith
 
-add-compare : tie.Need-add-compare Inv-loop μ-loop
-add-compare c = omega arith
+add-end : tie.Need-add-end Inv-loop μ-loop
+add-end c = omega arith
 
 sub-compare : tie.Need-sub-compare Inv-loop μ-loop
 sub-compare c = omega arith
@@ -78,7 +78,8 @@ loop-again c =
       omega (arith, below),
       done .kept .1 .1 .1 .1 .1 .1 .0 ∙ l .inv .1,
       subst (Valid (a .base)) (sym after) (valid-stepped (a .base) here (l .inv .2) _),
-      more ∙ ap (λ (rs : List Reading). further (l .i) (endOf (a .base) here rs)) (sym (readings-more (a .count) (a .n) (l .i) log (omega (arith, below)))) ∙ l .inv .3,
+      more ∙ ap (λ (rs : List Reading). further (l .i) (endOf (a .base) here rs)) (sym (readings-more (a .count) (a .n) (l .i) log (omega (arith, below))))
+          ∙ l .inv .3,
     )
 
 enum-known-stop : tie.Need-enum-known-stop Inv-loop μ-loop
@@ -103,7 +104,8 @@ returns c =
     let same = rw told at (done .ensures .1) in
     rw same
     (end-stop (a .base) here _ (readings (a .count) (a .n - (l .i + 1)) (drop ((l .i + 1) * 48) log)) (l .i) stops
-    ∙ ap (λ (rs : List Reading). further (l .i) (endOf (a .base) here rs)) (sym (readings-more (a .count) (a .n) (l .i) log (omega (arith, below)))) ∙ l .inv .3)
+    ∙ ap (λ (rs : List Reading). further (l .i) (endOf (a .base) here rs)) (sym (readings-more (a .count) (a .n) (l .i) log (omega (arith, below))))
+    ∙ l .inv .3)
 
 same-length-2 : tie.Need-same-length-2 Inv-loop μ-loop
 same-length-2 c = search needs
@@ -127,7 +129,7 @@ replay-rows-spec =
     digit-table-requires
     loop-holds
     mul-at
-    add-compare
+    add-end
     sub-compare
     part-compare-start
     part-compare-end

@@ -11,12 +11,12 @@ returns : tie.Need-returns
 unfolding begunOf
 returns c = rw (eq-eqb _ 0 (c .before .if1 .taken)) (c .start .ensures)
 
-blank-requires : tie.Need-blank-requires
-blank-requires c κs = search needs
+blank-state-requires : tie.Need-blank-state-requires
+blank-state-requires c κs = search needs
 
 returns-2 : tie.Need-returns-2
 unfolding begunOf
-returns-2 c = rw (ne-eqb _ 0 (c .before .if1 .left)) (c .blank .ensures)
+returns-2 c = rw (ne-eqb _ 0 (c .before .if1 .left)) (c .blank-state .ensures)
 
 pub begin-spec : {M : Type 1} → statement M
-begin-spec = tie.close (tie.spec start-requires returns blank-requires returns-2)
+begin-spec = tie.close (tie.spec start-requires returns blank-state-requires returns-2)

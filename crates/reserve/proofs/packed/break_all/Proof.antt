@@ -19,7 +19,11 @@ pow-small k h = pow-le-pow-right (omega arith) h
 
 abbrev Inv-loop : tie.InvT-loop
 Inv-loop t₀ count settings w broken₀ bit₀ k₀ t broken bit k =
-    (k ≤ count) × (slotsIn t ≡ each (breakSlot settings (writeNotice w)) k (slotsIn t₀)) × (broken ≡ brokenOf settings (writeNotice w) k (slotsIn t₀)) × (bit ≡ 2 ^ k) × (broken < 2 ^ k)
+    (k ≤ count)
+    × (slotsIn t ≡ each (breakSlot settings (writeNotice w)) k (slotsIn t₀))
+    × (broken ≡ brokenOf settings (writeNotice w) k (slotsIn t₀))
+    × (bit ≡ 2 ^ k)
+    × (broken < 2 ^ k)
 
 abbrev μ-loop : tie.MeasureT-loop
 μ-loop t₀ count settings w broken₀ bit₀ k₀ t broken bit k = count - k

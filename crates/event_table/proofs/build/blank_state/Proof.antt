@@ -1,7 +1,7 @@
 use borrow.Author.Needs.{needs}
 use Rattle.event_table.specs.Build.{blankOf}
-use Rattle.event_table.proofs.build.blank.Statement.{statement}
-use Rattle.event_table.proofs.build.blank.Tie as tie
+use Rattle.event_table.proofs.build.blank_state.Statement.{statement}
+use Rattle.event_table.proofs.build.blank_state.Tie as tie
 
 slot-requires : tie.Need-slot-requires
 slot-requires c κs = search needs
@@ -13,5 +13,5 @@ returns : tie.Need-returns
 unfolding blankOf
 returns c = rw (c .defaults .ensures, c .before .slot .ensures)
 
-pub blank-spec : {M : Type 1} → statement M
-blank-spec = tie.close (tie.spec slot-requires defaults-requires returns)
+pub blank-state-spec : {M : Type 1} → statement M
+blank-state-spec = tie.close (tie.spec slot-requires defaults-requires returns)
