@@ -111,6 +111,16 @@ static void store_beside(const char *what, uint64_t set_size)
     step(what, 1);
 }
 
+/* Hart 0's LR, a device write to a byte that it read, and hart 0's SC, under a version of A. */
+static void write_between(const char *what, uint64_t version)
+{
+    start();
+    machine.state.version = version;
+    step("h0 lr.w", 0);
+    device_write(what, 67, 1, 0xff);
+    step("h0 sc.w", 0);
+}
+
 /* Writes what is still held back. Where not all could be written (a full disk, say), says so; the exit status. */
 static int written(void)
 {
@@ -150,6 +160,10 @@ int main(void)
     store_beside("h1 sw at 72, sets of 16 bytes", 16);
     store_beside("h1 sw at 72, sets of 8 bytes", 8);
     store_beside("h1 sw at 72, sets of 12 bytes", 12);
+
+    write_between("a byte at 67, A 2.1", FLOECAVERN_A_2_1);
+    write_between("a byte at 67, A 2.0", FLOECAVERN_A_2_0);
+    write_between("a byte at 67, A 2.2", 22);
 
     floecavern_event events[] = {floecavern_event_step(0), floecavern_event_device_write(72, 1, 0xff),
                                  floecavern_event_step(1), floecavern_event_step(1), floecavern_event_step(0)};

@@ -1,4 +1,5 @@
-/* Says whether a retry loop is accepted. From the repository's root:
+/* Says whether a retry loop is accepted: loop [VERSION] < WORDS. VERSION is that of A, 20 for 2.0 or 21 for 2.1; without it
+ * 2.1. From the repository's root:
  *
  *   rt staticlib capi
  *   cc -Wall -Wextra -Iinclude examples/loop.c target/staticlib/libcapi.a -o target/loop
@@ -18,8 +19,27 @@ static int written(void)
     return 1;
 }
 
-int main(void)
+/* Reads a decimal number: 1, or 0 if the text is none. One of more than 64 bits becomes the largest that there is, which is
+ * no version either. */
+static int read_number(const char *text, uint64_t *number)
 {
+    *number = 0;
+    if (*text == '\0')
+        return 0;
+    for (; *text >= '0' && *text <= '9'; text++) {
+        uint64_t digit = (uint64_t)(*text - '0');
+        *number = *number > (UINT64_MAX - digit) / 10 ? UINT64_MAX : 10 * *number + digit;
+    }
+    return *text == '\0';
+}
+
+int main(int argc, char **argv)
+{
+    uint64_t version = FLOECAVERN_A_2_1;
+    if (argc > 2 || (argc == 2 && !read_number(argv[1], &version))) {
+        fprintf(stderr, "usage: loop [VERSION] < WORDS\n");
+        return 2;
+    }
     /* A word more than a block may have: a longer one is refused whatever its words, so that the rest is only counted. */
     static uint32_t words[17];
     static uint8_t rest[4096];
@@ -34,7 +54,7 @@ int main(void)
         printf("bad input: length is not a multiple of 4\n");
         return written();
     }
-    floecavern_verdict verdict = floecavern_check_words(words, total / 4 > 17 ? 17 : total / 4);
+    floecavern_verdict verdict = floecavern_check_words_for(version, words, total / 4 > 17 ? 17 : total / 4);
     if (verdict.refusal != FLOECAVERN_REFUSAL_NONE)
         printf("refused %d\n", (int)verdict.refusal);
     else if (verdict.reason != FLOECAVERN_REASON_NONE)

@@ -13,11 +13,11 @@
  *
  * The machine is performed in two ways: floecavern_report takes a whole case file; floecavern_step,
  * floecavern_device_write, floecavern_yield and floecavern_run take a state and a memory that the caller keeps, and so
- * does floecavern_replay, which compares a board's step log with the model. floecavern_check_loop looks at a block of
- * words alone.
+ * does floecavern_replay, which compares a board's step log with the model. floecavern_check_loop and
+ * floecavern_check_loop_for look at a block of words alone.
  *
- * Those seven functions take bytes and answer a number. The second half of this file is the typed form, for programs:
- * inline functions over the seven, with a machine, events and outcomes as structs. Compiles as C89 to C17 and as C++.
+ * Those eight functions take bytes and answer a number. The second half of this file is the typed form, for programs:
+ * inline functions over the eight, with a machine, events and outcomes as structs. Compiles as C89 to C17 and as C++.
  */
 #ifndef FLOECAVERN_H
 #define FLOECAVERN_H
@@ -26,12 +26,13 @@
 #include <stdint.h>
 #include <string.h>
 
-/* The version of this interface: of this header, of rust/ and of python/ alike. The library has to be of the same one: a
- * state may have another size in another version, and a state of a wrong size is answered FLOECAVERN_BAD_SIZE. The typed
- * form makes of that a refusal whose text is "no refusal of the model", first of all in floecavern_machine_start. */
-#define FLOECAVERN_VERSION "0.6.0"
+/* The version of this interface: of this header, of rust/ and of python/ alike. (That of the extension A is another
+ * thing: FLOECAVERN_A_2_0 and FLOECAVERN_A_2_1, below.) The library has to be of the same one: a state may have another
+ * size in another version, and a state of a wrong size is answered FLOECAVERN_BAD_SIZE. The typed form makes of that a
+ * refusal whose text is "no refusal of the model", first of all in floecavern_machine_start. */
+#define FLOECAVERN_VERSION "0.7.0"
 #define FLOECAVERN_VERSION_MAJOR 0
-#define FLOECAVERN_VERSION_MINOR 6
+#define FLOECAVERN_VERSION_MINOR 7
 #define FLOECAVERN_VERSION_PATCH 0
 
 /* A condition that must hold where this is compiled: name is an identifier that no other assertion has. */
@@ -50,6 +51,12 @@ extern "C" {
 /* The answer to arguments of a wrong size. */
 #define FLOECAVERN_BAD_SIZE UINT64_MAX
 
+/* The versions of the extension A that the model has. A state says which one its machine follows, 2.1 by default. Under
+ * 2.0 a device write breaks no reservation, since the text of 2.0 speaks only of harts, and a retry loop may have a JALR,
+ * which that text does not exclude; all else is the same. */
+#define FLOECAVERN_A_2_0 20
+#define FLOECAVERN_A_2_1 21
+
 /* The room that a report needs, in bytes. */
 #define FLOECAVERN_REPORT_ROOM 262144
 
@@ -64,8 +71,8 @@ extern "C" {
  *   kind 1        harts: base (8 bytes), count of harts (4), zero (4); of each hart x1 to x31 and pc (8 bytes each)
  *   kind 2        memory: its bytes
  *   kind 3        events: 24 bytes each, as for floecavern_run
- * The bodies follow one another without a gap from 40 to the end of the file. No hart starts with a reservation, and a
- * reservation's set has FLOECAVERN_SET_SIZE bytes.
+ * The bodies follow one another without a gap from 40 to the end of the file. No hart starts with a reservation, a
+ * reservation's set has FLOECAVERN_SET_SIZE bytes, and the machine follows A 2.1: a case file says no other.
  *
  * Refusals, in the order they are tried, and the place, counted from the file's first byte: 7 the length is not 40 to
  * 65536 (0); 8 the table is wrong (its first wrong field; 36 if the last body does not end the file); 9 the harts body:
@@ -82,7 +89,7 @@ extern "C" {
  */
 uint64_t floecavern_report(const uint8_t *file, size_t file_len, uint8_t *out, size_t out_len);
 
-/* Whether a block of instruction words is a retry loop that is accepted.
+/* Whether a block of instruction words is a retry loop that is accepted under A 2.1.
  *
  * words, words_len   the words, 4 bytes each, the lowest byte first; words_len counts bytes
  *
@@ -101,16 +108,31 @@ uint64_t floecavern_report(const uint8_t *file, size_t file_len, uint8_t *out, s
  */
 uint64_t floecavern_check_loop(const uint8_t *words, size_t words_len);
 
+/* The same under a version of A: FLOECAVERN_A_2_0 or FLOECAVERN_A_2_1.
+ *
+ * Under 2.0 reason 2 permits JALR too, as any later word. Reason 4 applies to its rd, as to that of any word before the
+ * first SC; a JALR is no jump of reason 3. So the blocks that are accepted under 2.1 are exactly those that are accepted
+ * under 2.0 and have no JALR. That an accepted loop finishes if it is left alone is proved of these blocks, on a machine of
+ * either version; of a block with a JALR it is not claimed.
+ *
+ * Answers as floecavern_check_loop does, FLOECAVERN_BAD_SIZE first; and before FLOECAVERN_LOOP_REFUSED
+ *   FLOECAVERN_LOOP_SETTING_REFUSED (2)   the version is neither of the two: refusal 2
+ *
+ * A later version of this interface may ask more settings of this function, such as a kind of core; floecavern_check_loop
+ * stays as it is. */
+uint64_t floecavern_check_loop_for(uint64_t version, const uint8_t *words, size_t words_len);
+
 #define FLOECAVERN_LOOP_ACCEPTED 0
+#define FLOECAVERN_LOOP_SETTING_REFUSED 2
 #define FLOECAVERN_LOOP_REFUSED 6
 
-/* The place and the reason of an answer r of floecavern_check_loop that is 257 or more and not FLOECAVERN_BAD_SIZE. */
+/* The place and the reason of an answer r of the two that is 257 or more and not FLOECAVERN_BAD_SIZE. */
 #define FLOECAVERN_LOOP_PLACE(r) ((r) / 256 - 1)
 #define FLOECAVERN_LOOP_REASON(r) ((r) % 256)
 
 /* ---- A machine of one's own ---- */
 
-/* The state of the machine: 2320 bytes. A function that takes a state takes these bytes, as (uint8_t *)&state and
+/* The state of the machine: 2328 bytes. A function that takes a state takes these bytes, as (uint8_t *)&state and
  * sizeof state; every number has 8 bytes, the lowest first, as x86-64 keeps them.
  *
  *   offset   field
@@ -121,6 +143,7 @@ uint64_t floecavern_check_loop(const uint8_t *words, size_t words_len);
  *            reservation, and addr and width mean nothing; any other number: it has the one that an LR of width bytes
  *            (4 or 8) at addr made
  *     2312   set_size: how many bytes the set of a reservation has, of every hart: a power of two from 8 to 4096
+ *     2320   version: that of A which the machine follows: FLOECAVERN_A_2_0 (20) or FLOECAVERN_A_2_1 (21)
  *
  * A start without reservations is FLOECAVERN_STATE_INIT, or what floecavern_state_start writes, with count, registers and
  * pcs filled in. A state of zeros is no start: its set size is 0, and so it is refused by 1. A later version may have more
@@ -137,22 +160,24 @@ typedef struct {
     uint64_t pc[8];
     floecavern_reservation reservation[8];
     uint64_t set_size;
+    uint64_t version;
 } floecavern_state;
 
-#define FLOECAVERN_STATE_SIZE 2320
+#define FLOECAVERN_STATE_SIZE 2328
 
 /* The set size that a state has by default, and that the machine of a case file always has. */
 #define FLOECAVERN_SET_SIZE 64
 
 /* A state with the defaults, to begin one with: floecavern_state state = FLOECAVERN_STATE_INIT; It has no harts yet: a
  * count of 0, which is refused by 2. */
-#define FLOECAVERN_STATE_INIT {0, {{0}}, {0}, {{0, 0, 0}}, FLOECAVERN_SET_SIZE}
+#define FLOECAVERN_STATE_INIT {0, {{0}}, {0}, {{0, 0, 0}}, FLOECAVERN_SET_SIZE, FLOECAVERN_A_2_1}
 
-FLOECAVERN_ASSERT(a_state_is_2320_bytes, sizeof(floecavern_state) == FLOECAVERN_STATE_SIZE);
+FLOECAVERN_ASSERT(a_state_is_2328_bytes, sizeof(floecavern_state) == FLOECAVERN_STATE_SIZE);
 FLOECAVERN_ASSERT(x_stands_at_8, offsetof(floecavern_state, x) == 8);
 FLOECAVERN_ASSERT(pc_stands_at_2056, offsetof(floecavern_state, pc) == 2056);
 FLOECAVERN_ASSERT(reservations_stand_at_2120, offsetof(floecavern_state, reservation) == 2120);
 FLOECAVERN_ASSERT(set_size_stands_at_2312, offsetof(floecavern_state, set_size) == 2312);
+FLOECAVERN_ASSERT(version_stands_at_2320, offsetof(floecavern_state, version) == 2320);
 
 /* The memory is the caller's bytes: mem_len of them, 64 to 1048576, at the address base, at most 2^40. Both are multiples
  * of 64, and of the state's set_size where that is larger.
@@ -164,7 +189,7 @@ FLOECAVERN_ASSERT(set_size_stands_at_2312, offsetof(floecavern_state, set_size) 
  *   FLOECAVERN_SC_FAILED (2)    a step that retired an SC, which failed
  *   256 + cause                 the step trapped: FLOECAVERN_IS_TRAP, FLOECAVERN_CAUSE
  *   512 + number                it is refused: FLOECAVERN_IS_REFUSAL, FLOECAVERN_NUMBER
- *   FLOECAVERN_BAD_SIZE         state_len is not 2320 or value_len is not 8
+ *   FLOECAVERN_BAD_SIZE         state_len is not 2328 or value_len is not 8
  *
  * Causes, and the value with each: 0 a jump or taken branch to a target that is not a multiple of 4 (the target); 1 the
  * word at pc is not wholly in memory (pc); 2 the word is no instruction of the model (the word); 3 EBREAK (0); 4 a
@@ -173,32 +198,33 @@ FLOECAVERN_ASSERT(set_size_stands_at_2312, offsetof(floecavern_state, set_size) 
  * not write (the address); 8 ECALL (0). A trap changes nothing: an SC that traps leaves its hart's reservation.
  *
  * Refusals, in the order they are tried: 1 the set size breaks the rules above, or else the length of memory or the base
- * does; 2 so does the rest of the state: its count; or, of a hart below the count, x0 is not 0, pc is not a multiple of
- * 4, or the reservation's width is not 4 or 8, its address not aligned to that, or its bytes not in memory; 3 the hart is
- * not below the count; 4 a device write of 0 or more than 8 bytes; 5 one not wholly in memory; 11, of a run alone: its
- * events; 12 and 13, of a replay alone: its log.
+ * does; 2 so does the rest of the state: its version or its count; or, of a hart below the count, x0 is not 0, pc is not
+ * a multiple of 4, or the reservation's width is not 4 or 8, its address not aligned to that, or its bytes not in memory;
+ * 3 the hart is not below the count; 4 a device write of 0 or more than 8 bytes; 5 one not wholly in memory; 11, of a run
+ * alone: its events; 12 and 13, of a replay alone: its log.
  *
  * What is written. value gets 8 bytes, the lowest first: of a retired event, answers 0 to 2, the harts whose
  * reservation it broke, bit 0 for hart 0, so 0 where it broke none; of a trap, the trap's value; of a refusal, 0. A
  * retired event changes state and memory as the model says: of the state, the registers and the pcs, and each used
- * hart's reservation, of which it writes held 1, addr and width, or three zeros, also where it is as before. The count
- * and the set size never change, and no byte of a hart at or above the count. An answer of 256 or more to an event or a
- * run leaves every byte of state and memory as it was; FLOECAVERN_BAD_SIZE leaves value too. After each call the bytes
- * mean the state that the model's answer has, so calls one after another perform events one after another
+ * hart's reservation, of which it writes held 1, addr and width, or three zeros, also where it is as before. The count,
+ * the set size and the version never change, and no byte of a hart at or above the count. An answer of 256 or more to an
+ * event or a run leaves every byte of state and memory as it was; FLOECAVERN_BAD_SIZE leaves value too. After each call
+ * the bytes mean the state that the model's answer has, so calls one after another perform events one after another
  * (crates/capi_means/proofs/Means.antt).
  *
  * Whose reservation is broken. A retired write of a hart (a store, an AMO, an equal AMOCAS, an SC that stored) breaks a
  * reservation of another hart if it touches a byte of its set, the aligned set_size bytes around the LR's address. A
  * device write breaks a hart's reservation if it touches a byte that the LR read, whatever the set size. Both do also
- * where they write the bytes that were there. A step never sets the bit of its own hart, also where it drops that hart's
- * reservation (an SC) or replaces it (an LR). So value is 0 after a retired event that writes nothing: a load, an LR, an
- * unequal AMOCAS, FLOECAVERN_SC_FAILED, a yield. Only bits below the count are ever set, so it is at most 255; what a
- * hart at or above the count seems to hold is not looked at (crates/capi_means/proofs/Values.antt). A run and a replay do
- * not tell what their events broke.
+ * where they write the bytes that were there. Under A 2.0 a device write breaks no reservation; its bytes are written all
+ * the same. A step never sets the bit of its own hart, also where it drops that hart's reservation (an SC) or replaces it
+ * (an LR). So value is 0 after a retired event that writes nothing: a load, an LR, an unequal AMOCAS,
+ * FLOECAVERN_SC_FAILED, a yield. Only bits below the count are ever set, so it is at most 255; what a hart at or above the
+ * count seems to hold is not looked at (crates/capi_means/proofs/Values.antt). A run and a replay do not tell what their
+ * events broke.
  *
  * A memory of a wrong length, as a wrong base or set size, is refusal 1 and no bad size.
  *
- * The macros below are for answers to events, runs and replays, not for those of floecavern_check_loop; some use r twice. */
+ * The macros below are for answers to events, runs and replays, not for those about a retry loop; some use r twice. */
 typedef enum {
     FLOECAVERN_RETIRED = 0,
     FLOECAVERN_SC_STORED = 1,
@@ -239,9 +265,9 @@ uint64_t floecavern_yield(uint8_t *state, size_t state_len, uint64_t base, uint8
  *   512 + number               the run is refused, and state and memory are as they were: 1 or 2 as above; 11 if events
  *                              is no multiple of 24 bytes (place 0) or an event's kind, hart, size, address or zeros are
  *                              wrong (the place of the first such event), also beyond the budget
- *   FLOECAVERN_BAD_SIZE        state_len is not 2320 or ran_len is not 16: nothing is written
+ *   FLOECAVERN_BAD_SIZE        state_len is not 2328 or ran_len is not 16: nothing is written
  *
- * To perform n events costs less by one run than by n calls: each call reads the 2320 bytes and writes them. */
+ * To perform n events costs less by one run than by n calls: each call reads the 2328 bytes and writes them. */
 uint64_t floecavern_run(uint8_t *state, size_t state_len, uint64_t base, uint8_t *mem, size_t mem_len,
                         const uint8_t *events, size_t events_len, size_t budget, uint8_t *ran, size_t ran_len);
 
@@ -266,7 +292,7 @@ uint64_t floecavern_run(uint8_t *state, size_t state_len, uint64_t base, uint8_t
  *   FLOECAVERN_STOP_VALUE (5)    its value is not what rd holds after the step (the row's value, what rd holds)
  *   512 + number                 the replay is refused, and state and memory are as they were: 1 or 2 as above; 12 the
  *                                log is no multiple of 48 bytes; 13 it has no rows (0, 0, behind 0 rows)
- *   FLOECAVERN_BAD_SIZE          state_len is not 2320 or told_len is not 24: nothing is written
+ *   FLOECAVERN_BAD_SIZE          state_len is not 2328 or told_len is not 24: nothing is written
  *
  * A stop, also one by a trap, is no refusal: state and memory are then written as after exactly the rows before it, and
  * with FLOECAVERN_STOP_AGREED as after all of them. What the bytes mean afterwards is the state that the model's replay
@@ -290,7 +316,7 @@ typedef enum {
 
 /* ---- The typed form ----
  *
- * Inline functions over the seven above. Sizes are right by type; a NULL or a length that no buffer can have is refused
+ * Inline functions over the eight above. Sizes are right by type; a NULL or a length that no buffer can have is refused
  * by the model's own number, as each function says. What is asked is that state, machine, text, event, outcome and bytes
  * are not NULL, that a length is that of the buffer before it, and that a machine, its memory and a text overlap no other
  * argument. */
@@ -315,7 +341,8 @@ typedef enum {
     FLOECAVERN_CAUSE_ENVIRONMENT_CALL = 8
 } floecavern_cause;
 
-/* Refusals: 1 to 5 of an event, 6 of a block, 7 to 11 of a case file, 1, 2 and 11 of a run, 1, 2, 12 and 13 of a replay. */
+/* Refusals: 1 to 5 of an event, 2 and 6 of a block, 7 to 11 of a case file, 1, 2 and 11 of a run, 1, 2, 12 and 13 of a
+ * replay. */
 typedef enum {
     FLOECAVERN_REFUSAL_NONE = 0,
     FLOECAVERN_REFUSAL_MEMORY = 1,
@@ -366,7 +393,7 @@ FLOECAVERN_INLINE const char *floecavern_refusal_text(uint64_t refusal)
     switch (refusal) {
     case 0: return "not refused";
     case 1: return "the set size or the memory's length or base is wrong";
-    case 2: return "the state is wrong";
+    case 2: return "the version of A or the state is wrong";
     case 3: return "the hart is not below the count";
     case 4: return "a device write of 0 or more than 8 bytes";
     case 5: return "a device write not wholly in memory";
@@ -400,8 +427,9 @@ FLOECAVERN_INLINE const char *floecavern_reason_text(uint64_t reason)
  *
  * broke is the harts whose reservation the event broke, bit 0 for hart 0; 0 with a trap and a refusal. A bit is set by a
  * retired write of a hart other than the one that holds the reservation, if it touches a byte of the set, and by a
- * device write that touches a byte that the LR read. It is 0 after all that writes nothing: a load, an LR, an unequal
- * AMOCAS, an SC that failed, a yield. Of the 8 bytes of value above, a trap's are value here, a retired event's broke. */
+ * device write that touches a byte that the LR read, but not under A 2.0. It is 0 after all that writes nothing: a load, an
+ * LR, an unequal AMOCAS, an SC that failed, a yield. Of the 8 bytes of value above, a trap's are value here, a retired
+ * event's broke. */
 typedef struct {
     floecavern_kind kind;
     floecavern_cause cause;
@@ -659,14 +687,15 @@ FLOECAVERN_INLINE floecavern_replayed floecavern_machine_replay(floecavern_machi
     return replayed;
 }
 
-/* Starts a machine: count harts with their pc at base, registers 0 and no reservations, and the set size
- * FLOECAVERN_SET_SIZE. The memory is left as it is. Answers FLOECAVERN_REFUSAL_NONE, or 1 or 2: the machine is then filled
- * in all the same, and every call of it is refused by that number. It asks by a run of no events, which changes nothing
- * of such a machine. With a library of another version the answer is no refusal of the model.
+/* Starts a machine: count harts with their pc at base, registers 0 and no reservations, the set size FLOECAVERN_SET_SIZE
+ * and the version FLOECAVERN_A_2_1. The memory is left as it is. Answers FLOECAVERN_REFUSAL_NONE, or 1 or 2: the machine is
+ * then filled in all the same, and every call of it is refused by that number. It asks by a run of no events, which changes
+ * nothing of such a machine. With a library of another version the answer is no refusal of the model.
  *
  * For another set size, set machine->state.set_size after the start: where a memory fits that size, the start takes it
- * too. If it does not fit, every call from then on is refused by 1; floecavern_machine_run(machine, NULL, 0, 0).refusal
- * asks for that. */
+ * too. For A 2.0, set machine->state.version to FLOECAVERN_A_2_0. If the size does not fit, every call from then on is
+ * refused by 1, and by 2 if the version is neither of the two; floecavern_machine_run(machine, NULL, 0, 0).refusal asks for
+ * that. */
 FLOECAVERN_INLINE floecavern_refusal floecavern_machine_start(floecavern_machine *machine, uint64_t count, uint64_t base,
                                                               uint8_t *mem, size_t mem_len)
 {
@@ -696,23 +725,33 @@ FLOECAVERN_INLINE floecavern_refusal floecavern_machine_put_words(floecavern_mac
     return FLOECAVERN_REFUSAL_NONE;
 }
 
-/* Whether a block of instruction words is a retry loop that is accepted. words may be NULL if count is 0. */
-FLOECAVERN_INLINE floecavern_verdict floecavern_check_words(const uint32_t *words, size_t count)
+/* Whether a block of instruction words is a retry loop that is accepted under a version of A, FLOECAVERN_A_2_0 or
+ * FLOECAVERN_A_2_1. Refusals 2, of any other version, and 6. words may be NULL if count is 0. A later version of this
+ * interface may ask more of this function. */
+FLOECAVERN_INLINE floecavern_verdict floecavern_check_words_for(uint64_t version, const uint32_t *words, size_t count)
 {
     static const uint32_t none[1] = {0};
     /* A block of 17 or more words is refused whatever the words are, so that 17 of them say it. */
     size_t looked_at = count > 17 ? 17 : count;
     floecavern_verdict verdict;
-    uint64_t answer = floecavern_check_loop((const uint8_t *)(words == NULL ? none : words),
-                                            words == NULL ? 0 : 4 * looked_at);
+    uint64_t answer = floecavern_check_loop_for(version, (const uint8_t *)(words == NULL ? none : words),
+                                                words == NULL ? 0 : 4 * looked_at);
     memset(&verdict, 0, sizeof verdict);
-    if (answer == FLOECAVERN_LOOP_REFUSED) {
+    if (answer == FLOECAVERN_LOOP_SETTING_REFUSED) {
+        verdict.refusal = FLOECAVERN_REFUSAL_STATE;
+    } else if (answer == FLOECAVERN_LOOP_REFUSED) {
         verdict.refusal = FLOECAVERN_REFUSAL_BLOCK;
     } else if (answer != FLOECAVERN_LOOP_ACCEPTED) {
         verdict.reason = (floecavern_reason)FLOECAVERN_LOOP_REASON(answer);
         verdict.place = FLOECAVERN_LOOP_PLACE(answer);
     }
     return verdict;
+}
+
+/* The same under A 2.1: refusal 6 alone. */
+FLOECAVERN_INLINE floecavern_verdict floecavern_check_words(const uint32_t *words, size_t count)
+{
+    return floecavern_check_words_for(FLOECAVERN_A_2_1, words, count);
 }
 
 /* A report: len characters of bytes are the lines, and no 0 ends them. It has 256 KiB: static or allocated, rather than

@@ -14,7 +14,8 @@ FLOECAVERN_SO names a shared object at another place; a relative name counts fro
     machine.state.reservation(0)                                # Reservation(addr=64, width=4)
     floecavern.harts(machine.device_write(64, 1, 7).broke)      # (0,): hart 0's reservation is broken
 
-The set of a reservation has 64 bytes, SET_SIZE, or as many as Machine(2, 0, 128, set_size=16) says.
+The set of a reservation has 64 bytes, SET_SIZE, or as many as Machine(2, 0, 128, set_size=16) says. The machine follows version 2.1 of A, or 2.0
+with Machine(2, 0, 128, version=A_2_0): there a device write breaks no reservation. check_loop(words, version=A_2_0) reads a loop by 2.0.
 
 The names are those of include/floecavern.h and of rust/, whose `Answer` is the outcome here. What the model refuses is the exception Refused,
 and state and memory are as they were; a trap is an outcome. A value that isn't the model's at all is a TypeError or a ValueError before the
@@ -29,13 +30,14 @@ import struct
 from dataclasses import dataclass
 from typing import NamedTuple, Optional
 
-__version__ = '0.6.0'
+__version__ = '0.7.0'
 
 BUILD = 'cc -shared -o target/libfloecavern.so -Wl,--whole-archive target/staticlib/libcapi.a -Wl,--no-whole-archive'
 ROOT = os.path.dirname(os.path.dirname(os.path.abspath(__file__)))
 
-STATE_SIZE, EVENT_SIZE, ROW_SIZE, REPORT_ROOM, MAX_HARTS, MAX_MEMORY = 2320, 24, 48, 262_144, 8, 1_048_576
+STATE_SIZE, EVENT_SIZE, ROW_SIZE, REPORT_ROOM, MAX_HARTS, MAX_MEMORY = 2328, 24, 48, 262_144, 8, 1_048_576
 SET_SIZE = 64  # the set size that a state has by default, and that the machine of a case file always has
+A_2_0, A_2_1 = 20, 21  # the versions of A; a state has 2.1 by default, and the machine of a case file always has it
 
 _BAD_SIZE, _TRAP, _REFUSED, _ALL = 2**64 - 1, 256, 512, 2**64 - 1
 
@@ -49,13 +51,20 @@ def _library():
     library = ctypes.CDLL(os.path.abspath(path))                # a name without a folder would be looked for among the system's libraries
     lent, read, number, size = ctypes.c_void_p, ctypes.c_char_p, ctypes.c_uint64, ctypes.c_size_t
     machine = [lent, size, number, lent, size]
-    for name, arguments in [('report', [read, size, lent, size]), ('check_loop', [read, size]),
+    for name, arguments in [('report', [read, size, lent, size]), ('check_loop_for', [number, read, size]),
                             ('step', machine + [size, lent, size]), ('yield', machine + [size, lent, size]),
                             ('device_write', machine + [number, size, number, lent, size]),
                             ('run', machine + [read, size, size, lent, size]), ('replay', machine + [read, size, lent, size])]:
-        function = getattr(library, 'floecavern_' + name)
+        function = getattr(library, 'floecavern_' + name, None)
+        if function is None:
+            raise _other_version('has no floecavern_' + name)
         function.argtypes, function.restype = arguments, number
     return library
+
+
+def _other_version(what):
+    """The error of a shared object that isn't of this version, as one that wasn't made again."""
+    return OSError('the shared object %s: it is of another version. In the repository, after `rt staticlib capi`: %s' % (what, BUILD))
 
 
 def _number(name, value, bits=64):
@@ -96,9 +105,9 @@ class Cause(_Numbered):
 
 
 class Refusal(_Numbered):
-    """Why a call is refused: 1 to 5 an event, 6 a block, 7 to 11 a case file, 1, 2 and 11 a run, 1, 2, 12 and 13 a replay."""
+    """Why a call is refused: 1 to 5 an event, 2 and 6 a block, 7 to 11 a case file, 1, 2 and 11 a run, 1, 2, 12 and 13 a replay."""
     MEMORY = 1, "the set size or the memory's length or base is wrong"
-    STATE = 2, 'the state is wrong'
+    STATE = 2, 'the version of A or the state is wrong'
     HART = 3, 'the hart is not below the count'
     DEVICE_SIZE = 4, 'a device write of 0 or more than 8 bytes'
     DEVICE_ADDRESS = 5, 'a device write not wholly in memory'
@@ -147,10 +156,11 @@ class Outcome(NamedTuple):
 
     `broke` is the harts whose reservation the event broke, bit 0 for hart 0; `harts` lists them. A retired write of another hart (a store, an
     AMO, an equal AMOCAS, an SC that stored) breaks a reservation if it touches a byte of its set, the aligned bytes around the LR's address, as
-    many as the state's `set_size`; a device write if it touches a byte that the LR read; both also where they write the bytes that were there. A
-    step never sets the bit of its own hart, also where it drops that hart's reservation (an SC) or replaces it (an LR). A yield, a trap and
-    everything else that writes nothing has 0. Only bits below the count are ever set; what an unused hart seems to hold isn't looked at. Two
-    outcomes that differ in `broke` aren't equal: RETIRED, SC_STORED and SC_FAILED are those that broke none.
+    many as the state's `set_size`; a device write if it touches a byte that the LR read; both also where they write the bytes that were there.
+    Under A 2.0 a device write breaks none. A step never sets the bit of its own hart, also where it drops that hart's reservation (an SC) or
+    replaces it (an LR). A yield, a trap and everything else that writes nothing has 0. Only bits below the count are ever set; what an unused
+    hart seems to hold isn't looked at. Two outcomes that differ in `broke` aren't equal: RETIRED, SC_STORED and SC_FAILED are those that broke
+    none.
     """
     kind: Kind
     cause: Optional[Cause] = None
@@ -225,21 +235,23 @@ class Reservation(NamedTuple):
 
 class State:
     """The state: of harts 0 to count - 1, 1 to 8 of them, the registers x[hart][register], pc[hart] and the reservation; and for all of them
-    set_size, how many bytes the set of a reservation has: a power of two from 8 to 4,096. No call changes the size.
+    set_size, how many bytes the set of a reservation has, a power of two from 8 to 4,096, and version, that of A which the machine follows, A_2_0
+    or A_2_1. No call changes the size or the version.
 
     Two states are equal if all of this is, of unused harts too. How a reservation is written down in bytes doesn't count.
     """
     __slots__ = '_bytes', '_numbers', '_x', '_pc'
     __hash__ = None
 
-    def __init__(self, count, *, set_size=SET_SIZE):
-        """Registers and pcs are 0, and there are no reservations. What isn't allowed is refused when it is used: a set size by 1, a count by 2."""
+    def __init__(self, count, *, set_size=SET_SIZE, version=A_2_1):
+        """Registers and pcs are 0, and there are no reservations. What isn't allowed is refused when it is used: a set size by 1, a version or a
+        count by 2."""
         self._bytes = bytearray(STATE_SIZE)
         # Numbers of 64 bits over the bytes: assigning one that doesn't fit is an error, of Python's own.
         self._numbers = memoryview(self._bytes).cast('Q')
         self._x = tuple(self._numbers[1 + 32 * h:33 + 32 * h] for h in range(MAX_HARTS))
         self._pc = self._numbers[257:265]
-        self.count, self.set_size = count, set_size
+        self.count, self.set_size, self.version = count, set_size, version
 
     @property
     def count(self):
@@ -256,6 +268,14 @@ class State:
     @set_size.setter
     def set_size(self, set_size):
         self._numbers[289] = _number('set_size', set_size)
+
+    @property
+    def version(self):
+        return self._numbers[290]
+
+    @version.setter
+    def version(self, version):
+        self._numbers[290] = _number('version', version)
 
     @property
     def x(self):
@@ -285,12 +305,12 @@ class State:
             self._numbers[n] = number
 
     def to_bytes(self):
-        """Its 2320 bytes, as the header says: every number 8 bytes, the lowest first."""
+        """Its 2328 bytes, as the header says: every number 8 bytes, the lowest first."""
         return bytes(self._bytes)
 
     @classmethod
     def from_bytes(cls, data):
-        """The state that has these 2320 bytes: any bytes are one."""
+        """The state that has these 2328 bytes: any bytes are one."""
         data = _read(data)
         if len(data) != STATE_SIZE:
             raise ValueError('%d bytes: a state has %d' % (len(data), STATE_SIZE))
@@ -299,7 +319,7 @@ class State:
         return state
 
     def _meaning(self):
-        return self._numbers[:265].tolist(), [self.reservation(h) for h in range(MAX_HARTS)], self.set_size
+        return self._numbers[:265].tolist(), [self.reservation(h) for h in range(MAX_HARTS)], self.set_size, self.version
 
     def __eq__(self, other):
         return self._meaning() == other._meaning() if isinstance(other, State) else NotImplemented
@@ -309,7 +329,8 @@ class State:
 
     def __repr__(self):
         pcs = ' '.join('%#x' % pc for pc in self.pc[:min(self.count, MAX_HARTS)])
-        return '<State of %d harts, sets of %d bytes, pcs %s>' % (self.count, self.set_size, pcs)
+        version = {A_2_0: 'A 2.0', A_2_1: 'A 2.1'}.get(self.version, 'version %d' % self.version)
+        return '<State of %d harts, %s, sets of %d bytes, pcs %s>' % (self.count, version, self.set_size, pcs)
 
 
 @dataclass(frozen=True)
@@ -392,8 +413,7 @@ def _call(name, told, state, base, mem, *arguments):
     answer = getattr(_library(), 'floecavern_' + name)(
         (ctypes.c_uint8 * STATE_SIZE).from_buffer(state._bytes), STATE_SIZE, base, lent, length, *arguments, numbers, 8 * told)
     if answer == _BAD_SIZE:  # the sizes are right, so the shared object is of another version, in which a state has another size
-        raise OSError('the shared object takes no state of %d bytes: it is of another version. In the repository, after `rt staticlib capi`: %s'
-                      % (STATE_SIZE, BUILD))
+        raise _other_version('takes no state of %d bytes' % STATE_SIZE)
     return answer, list(numbers)
 
 
@@ -412,7 +432,8 @@ def step(state, base, mem, hart):
 
 
 def device_write(state, base, mem, addr, size, data):
-    """A device writes the `size` lowest bytes of `data` at `addr`, the lowest first. Refusals 1, 2, 4 and 5."""
+    """A device writes the `size` lowest bytes of `data` at `addr`, the lowest first. Under A 2.0 it breaks no reservation. Refusals 1, 2, 4 and
+    5."""
     return _outcome(*_call('device_write', 1, state, base, mem, _number('addr', addr), _number('size', size), _number('data', data)))
 
 
@@ -468,15 +489,18 @@ def report(file):
     return text
 
 
-def check_loop(words):
-    """Whether a block of instruction words, numbers of 32 bits, is a retry loop that is accepted. Refusal 6."""
+def check_loop(words, *, version=A_2_1):
+    """Whether a block of instruction words, numbers of 32 bits, is a retry loop that is accepted under a version of A: under A_2_0 a later word may
+    be a JALR too. Refusals 2, of any other version, and 6. That an accepted loop finishes if it is left alone is claimed of the blocks that are
+    accepted under A_2_1: these are exactly those that are accepted under 2.0 and have no JALR."""
+    version = _number('version', version)
     # A block of 17 or more words is refused whatever the words are, so that 17 of them say it.
     block = b''.join(struct.pack('<I', word) for word in _words(words)[:17])
-    answer = _library().floecavern_check_loop(block, len(block))
+    answer = _library().floecavern_check_loop_for(version, block, len(block))
     assert answer != _BAD_SIZE, 'whole words'
     if answer == 0:
         return Verdict(True)
-    if answer == Refusal.BLOCK:
+    if answer in (Refusal.STATE, Refusal.BLOCK):
         raise Refused(answer)
     return Verdict(False, answer // 256 - 1, Reason(answer % 256))
 
@@ -487,10 +511,11 @@ class Machine:
     __slots__ = 'state', 'base', 'mem'
     __hash__ = None
 
-    def __init__(self, harts, base, length, *, set_size=SET_SIZE):
-        """`harts` harts with their pc at `base`, registers 0 and no reservations; `length` bytes of memory, all 0; sets of `set_size` bytes.
-        Refusals 1 and 2: 1 also if the size isn't a power of two from 8 to 4,096, or if the length or the base isn't a multiple of it."""
-        state, base = State(harts, set_size=set_size), _number('base', base)
+    def __init__(self, harts, base, length, *, set_size=SET_SIZE, version=A_2_1):
+        """`harts` harts with their pc at `base`, registers 0 and no reservations; `length` bytes of memory, all 0; sets of `set_size` bytes; the
+        `version` of A that it follows. Refusals 1 and 2: 1 also if the size isn't a power of two from 8 to 4,096, or if the length or the base
+        isn't a multiple of it, 2 also if the version is neither A_2_0 nor A_2_1."""
+        state, base = State(harts, set_size=set_size, version=version), _number('base', base)
         for hart in range(min(state.count, MAX_HARTS)):
             state.pc[hart] = base
         # Before so much is allocated.

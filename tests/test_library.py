@@ -3,6 +3,7 @@ import os
 import re
 import shutil
 import socket
+import struct
 import subprocess
 import tempfile
 import unittest
@@ -35,36 +36,47 @@ h1 sw at 72, sets of 64 bytes: retired broke 01 (h0)
 h1 sw at 72, sets of 16 bytes: retired broke 01 (h0)
 h1 sw at 72, sets of 8 bytes: retired
 h1 sw at 72, sets of 12 bytes: refused 1 (the set size or the memory's length or base is wrong)
+h0 lr.w: retired
+a byte at 67, A 2.1: retired broke 01 (h0)
+h0 sc.w: sc failed
+h0 lr.w: retired
+a byte at 67, A 2.0: retired
+h0 sc.w: sc stored
+h0 lr.w: refused 2 (the version of A or the state is wrong)
+a byte at 67, A 2.2: refused 2 (the version of A or the state is wrong)
+h0 sc.w: refused 2 (the version of A or the state is wrong)
 a run of 5 events: performed 5
 x7 of the harts: 1 0; the word at 64: 12345678
 with a budget of 2: performed 2
 with an event of hart 7: refused 11 at 96 (an event or the length of the events is wrong)
 '''
 
-# Every function that writes, with each buffer a byte short, a byte long and empty (too small, for a report), a state without set_size, as programs of
-# version 0.5 have it, and a block that isn't whole words: nothing is written.
+# Every function that writes, with each buffer a byte short, a byte long and empty (too small, for a report), a state without version or without set_size
+# too, as programs of versions 0.6 and 0.5 have it, and a block that isn't whole words, under any version: nothing is written.
 SIZES = '''
 #include <stdlib.h>
 #include <string.h>
 #include "floecavern.h"
-static uint8_t state[2321], mem[128], out[25], was_state[2321], was_mem[128], was_out[25];
+static uint8_t state[2329], mem[128], out[25], was_state[2329], was_mem[128], was_out[25];
 static void check(uint64_t r)
 {
-    if (r != FLOECAVERN_BAD_SIZE || memcmp(state, was_state, 2321) || memcmp(mem, was_mem, 128) || memcmp(out, was_out, 25))
+    if (r != FLOECAVERN_BAD_SIZE || memcmp(state, was_state, 2329) || memcmp(mem, was_mem, 128) || memcmp(out, was_out, 25))
         abort();
 }
 int main(void)
 {
-    size_t old = offsetof(floecavern_state, set_size);
+    size_t sizeless = offsetof(floecavern_state, set_size), versionless = offsetof(floecavern_state, version);
     was_state[0] = state[0] = 1;
-    was_state[old] = state[old] = 64;
+    was_state[sizeless] = state[sizeless] = 64;
+    was_state[versionless] = state[versionless] = 21;
     mem[0] = was_mem[0] = 0x13; /* addi x0,x0,0 is 0x00000013 */
     memset(out, 0xa5, 25);
     memset(was_out, 0xa5, 25);
     static const uint8_t event[24] = {1};
     static const char row[] = "0 0000000000000000 00000013 00 0000000000000000\\n";
-    size_t sizes[][4] = {{2319, 8, 16, 24}, {2321, 8, 16, 24}, {old, 8, 16, 24}, {0, 8, 16, 24}, {2320, 7, 15, 23}, {2320, 9, 17, 25}, {2320, 0, 0, 0}};
-    for (int i = 0; i < 7; i++) {
+    size_t sizes[][4] = {{2327, 8, 16, 24}, {2329, 8, 16, 24}, {sizeless, 8, 16, 24}, {versionless, 8, 16, 24}, {0, 8, 16, 24},
+                         {2328, 7, 15, 23}, {2328, 9, 17, 25}, {2328, 0, 0, 0}};
+    for (size_t i = 0; i < sizeof sizes / sizeof *sizes; i++) {
         size_t n = sizes[i][0], v = sizes[i][1], r = sizes[i][2], t = sizes[i][3];
         check(floecavern_step(state, n, 0, mem, 128, 0, out, v));
         check(floecavern_device_write(state, n, 0, mem, 128, 64, 1, 1, out, v));
@@ -79,13 +91,17 @@ int main(void)
             if (room[k] != 0)
                 abort();
     }
-    for (size_t n = 1; n < 8; n++)
+    for (size_t n = 1; n < 8; n++) {
         if ((floecavern_check_loop(event, n) == FLOECAVERN_BAD_SIZE) != (n % 4 != 0))
             abort();
-    if (floecavern_replay(state, 2320, 0, mem, 128, (const uint8_t *)row, 48, out, 24) != FLOECAVERN_STOP_AGREED || out[0] != 1 || out[1] != 0)
+        for (uint64_t version = 19; version < 23; version++)
+            if ((floecavern_check_loop_for(version, event, n) == FLOECAVERN_BAD_SIZE) != (n % 4 != 0))
+                abort();
+    }
+    if (floecavern_replay(state, 2328, 0, mem, 128, (const uint8_t *)row, 48, out, 24) != FLOECAVERN_STOP_AGREED || out[0] != 1 || out[1] != 0)
         abort();
     state[2056] = 0;
-    return floecavern_step(state, 2320, 0, mem, 128, 0, out, 8) == FLOECAVERN_RETIRED ? 0 : 1;
+    return floecavern_step(state, 2328, 0, mem, 128, 0, out, 8) == FLOECAVERN_RETIRED ? 0 : 1;
 }
 '''
 
@@ -142,7 +158,8 @@ static void outcomes(void)
     CHECK(refused(floecavern_machine_device_write(&machine, 0, 1, 0), FLOECAVERN_REFUSAL_DEVICE_ADDRESS));
 }
 
-enum { LR = 0x1002a32f, SC = 0x1882a3af, SW = 0x0082a023, LW = 0x0002a303, AMOADD = 0x0082a4af, AMOCAS = 0x2882a4af };
+enum { LR = 0x1002a32f, SC = 0x1882a3af, SW = 0x0082a023, LW = 0x0002a303, AMOADD = 0x0082a4af, AMOCAS = 0x2882a4af,
+       RET = 0x00008067 /* jalr x0,0(x1) */, JALR_X5 = 0x000082e7 /* jalr x5,0(x1), which writes the LR's rs1 */ };
 
 /* Four harts with the word at their pc, hart 1 with these registers; all else is 0. Harts 0, 1 and 2 hold the 4 bytes at 4160,
  * hart 3 the 8 bytes at 4224. */
@@ -293,6 +310,79 @@ static void wrong_sets(void)
     CHECK(fits(4096, (uint64_t)1 << 40, 4096) && !fits(4096, ((uint64_t)1 << 40) + 4096, 4096));
 }
 
+/* Hart 0's LR, a device write of 4 bytes and hart 0's SC. */
+static void device_between(uint64_t version, uint64_t addr, int breaks)
+{
+    start();
+    machine.state.version = version;
+    machine.state.x[0][8] = 0x12345678;
+    CHECK(is(floecavern_machine_step(&machine, 0), FLOECAVERN_RETIRED, 0, 0, 0));
+    CHECK(broke(floecavern_machine_device_write(&machine, addr, 4, 0xdeadbeef), FLOECAVERN_RETIRED, breaks, !breaks));
+    CHECK(mem[addr - 4096] == 0xef && mem[addr - 4096 + 3] == 0xde && mem[addr - 4096 + 4] == 0);
+    CHECK(is(floecavern_machine_step(&machine, 0), breaks ? FLOECAVERN_SC_FAILED : FLOECAVERN_SC_STORED, 0, 0, 0));
+    CHECK(mem[67] == (breaks ? (addr == 4160 ? 0xde : 0xef) : 0x12));
+    CHECK(machine.state.version == version && machine.state.set_size == 64);
+}
+
+/* What a device write breaks is all that a state's version changes. */
+static void versions(void)
+{
+    floecavern_event events[3];
+    CHECK(FLOECAVERN_A_2_0 == 20 && FLOECAVERN_A_2_1 == 21);
+    device_between(FLOECAVERN_A_2_1, 4160, 1);
+    device_between(FLOECAVERN_A_2_1, 4163, 1);
+    device_between(FLOECAVERN_A_2_1, 4164, 0);
+    device_between(FLOECAVERN_A_2_0, 4160, 0);
+    device_between(FLOECAVERN_A_2_0, 4163, 0);
+    device_between(FLOECAVERN_A_2_0, 4164, 0);
+    contended(SW, 4160, 0);
+    machine.state.version = FLOECAVERN_A_2_0;
+    CHECK(broke(floecavern_machine_device_write(&machine, 4160, 8, 0), FLOECAVERN_RETIRED, 0, 15));
+    CHECK(broke(floecavern_machine_device_write(&machine, 4231, 1, 0), FLOECAVERN_RETIRED, 0, 15));
+    CHECK(broke(floecavern_machine_step(&machine, 1), FLOECAVERN_RETIRED, 5, 10));
+    CHECK(broke(floecavern_machine_yield_hart(&machine, 1), FLOECAVERN_RETIRED, 0, 8));
+    was = machine;
+    CHECK(refused(floecavern_machine_device_write(&machine, 4160, 9, 0), FLOECAVERN_REFUSAL_DEVICE_SIZE));
+    CHECK(refused(floecavern_machine_device_write(&machine, 4409, 8, 0), FLOECAVERN_REFUSAL_DEVICE_ADDRESS));
+    events[0] = floecavern_event_step(0);
+    events[1] = floecavern_event_device_write(4160, 1, 7);
+    events[2] = floecavern_event_step(0);
+    start();
+    CHECK(floecavern_machine_run(&machine, events, 3, SIZE_MAX).performed == 3 && machine.state.x[0][7] == 1 && mem[64] == 7);
+    start();
+    machine.state.version = FLOECAVERN_A_2_0;
+    CHECK(floecavern_machine_run(&machine, events, 3, SIZE_MAX).performed == 3 && machine.state.x[0][7] == 0 && mem[64] == 0);
+}
+
+/* No versions; some have the number of one in a part of their bits. */
+static const uint64_t wrong_version[] = {0, 1, 2, 19, 22, 32, 210, (uint64_t)20 << 32, 256 + 20, 65536 + 21, ((uint64_t)1 << 32) + 20,
+                                         ((uint64_t)1 << 63) + 21, UINT64_MAX};
+
+/* 2 is tried after 1, and before what is asked of a call alone. */
+static void wrong_versions(void)
+{
+    static const char row[] = "0 0000000000001000 1002a32f 06 0000000000000000\n";
+    floecavern_event event = floecavern_event_step(9);
+    size_t i;
+    for (i = 0; i < sizeof wrong_version / sizeof *wrong_version; i++) {
+        start();
+        machine.state.version = wrong_version[i];
+        was = machine;
+        CHECK(refused(floecavern_machine_step(&machine, 0), FLOECAVERN_REFUSAL_STATE));
+        CHECK(refused(floecavern_machine_yield_hart(&machine, 9), FLOECAVERN_REFUSAL_STATE));
+        CHECK(refused(floecavern_machine_device_write(&machine, 4160, 1, 1), FLOECAVERN_REFUSAL_STATE) && mem[64] == 0);
+        CHECK(refused(floecavern_machine_device_write(&machine, 0, 0, 0), FLOECAVERN_REFUSAL_STATE));
+        CHECK(floecavern_machine_run(&machine, &event, 1, 1).refusal == FLOECAVERN_REFUSAL_STATE);
+        CHECK(floecavern_machine_replay(&machine, (const uint8_t *)row, 47).refusal == FLOECAVERN_REFUSAL_STATE);
+        CHECK(memcmp(&machine, &was, sizeof was) == 0);
+        machine.state.set_size = was.state.set_size = 24;
+        CHECK(refused(floecavern_machine_step(&machine, 0), FLOECAVERN_REFUSAL_MEMORY));
+        machine.state.set_size = was.state.set_size = 64;
+        machine.mem_len = was.mem_len = 127;
+        CHECK(refused(floecavern_machine_step(&machine, 0), FLOECAVERN_REFUSAL_MEMORY));
+    }
+}
+
 /* How a state is begun, and how not. */
 static void states(void)
 {
@@ -301,13 +391,13 @@ static void states(void)
     uint8_t value[8];
     memset(&second, 0xa5, sizeof second);
     floecavern_state_start(&second, 8);
-    CHECK(second.count == 8 && second.set_size == FLOECAVERN_SET_SIZE && first.count == 0);
+    CHECK(second.count == 8 && second.set_size == FLOECAVERN_SET_SIZE && second.version == FLOECAVERN_A_2_1 && first.count == 0);
     first.count = 8;
     CHECK(memcmp(&first, &second, sizeof first) == 0);
     memset(&zeros, 0, sizeof zeros);
     zeros.count = 8;
-    first.set_size = 0;
-    CHECK(memcmp(&first, &zeros, sizeof first) == 0); /* only the set size has another default than 0 */
+    first.set_size = first.version = 0;
+    CHECK(memcmp(&first, &zeros, sizeof first) == 0); /* only the two settings have another default than 0 */
     memset(mem, 0, sizeof mem);
     memcpy(mem, &nop, sizeof nop);
     CHECK(floecavern_step((uint8_t *)&zeros, sizeof zeros, 0, mem, sizeof mem, 7, value, 8) == 512 + FLOECAVERN_REFUSAL_MEMORY);
@@ -427,6 +517,52 @@ static int verdict(floecavern_verdict v, int refusal, int reason, uint64_t place
     return (int)v.refusal == refusal && (int)v.reason == reason && v.place == place;
 }
 
+/* A block that has its first JALR at a place: under 2.1 it is rejected for that, under 2.0 for a reason elsewhere or, by 0, for none. */
+static void with_jalr(uint32_t first, uint32_t second, uint32_t third, uint64_t jalr, int reason, uint64_t place)
+{
+    uint32_t block[3];
+    block[0] = first;
+    block[1] = second;
+    block[2] = third;
+    CHECK(verdict(floecavern_check_words_for(FLOECAVERN_A_2_0, block, 3), 0, reason, place));
+    CHECK(verdict(floecavern_check_words_for(FLOECAVERN_A_2_1, block, 3), 0, FLOECAVERN_REASON_NOT_PERMITTED, jalr));
+    CHECK(verdict(floecavern_check_words(block, 3), 0, FLOECAVERN_REASON_NOT_PERMITTED, jalr));
+    CHECK(verdict(floecavern_check_words_for(22, block, 3), FLOECAVERN_REFUSAL_STATE, 0, 0));
+}
+
+static void loops(void)
+{
+    static const uint32_t backward = 0xfff28367; /* jalr x6,-1(x5): no jump of reason 3 */
+    uint32_t long_block[17];
+    size_t i, others = sizeof wrong_version / sizeof *wrong_version;
+    with_jalr(LR, RET, SC, 1, 0, 0);
+    with_jalr(LR, SC, RET, 2, 0, 0);
+    with_jalr(LR, backward, SC, 1, 0, 0);
+    with_jalr(LR, SC, JALR_X5, 2, 0, 0);
+    with_jalr(LR, JALR_X5, SC, 1, FLOECAVERN_REASON_WRITES_RS1, 1);
+    with_jalr(LR, RET, RET, 1, FLOECAVERN_REASON_NO_SC, 3);
+    for (i = 0; i < 17; i++)
+        long_block[i] = i == 0 ? LR : i == 15 ? SC : RET;
+    CHECK(verdict(floecavern_check_words_for(FLOECAVERN_A_2_0, long_block, 16), 0, 0, 0));
+    for (i = 0; i < others + 2; i++) {
+        int known = i >= others;
+        uint64_t version = known ? i == others ? FLOECAVERN_A_2_0 : FLOECAVERN_A_2_1 : wrong_version[i];
+        int refusal = known ? FLOECAVERN_REFUSAL_BLOCK : FLOECAVERN_REFUSAL_STATE;
+        CHECK(verdict(floecavern_check_words_for(version, loop, 4), known ? 0 : FLOECAVERN_REFUSAL_STATE, 0, 0));
+        CHECK(verdict(floecavern_check_words_for(version, loop, 1), refusal, 0, 0));
+        CHECK(verdict(floecavern_check_words_for(version, NULL, 0), refusal, 0, 0));
+        CHECK(verdict(floecavern_check_words_for(version, NULL, 4), refusal, 0, 0));
+        CHECK(verdict(floecavern_check_words_for(version, long_block, 17), refusal, 0, 0));
+        CHECK(verdict(floecavern_check_words_for(version, long_block, SIZE_MAX), refusal, 0, 0));
+        /* The same numbers, of the function over bytes. */
+        CHECK(floecavern_check_loop_for(version, (const uint8_t *)loop, 16) ==
+              (known ? FLOECAVERN_LOOP_ACCEPTED : FLOECAVERN_LOOP_SETTING_REFUSED));
+        CHECK(floecavern_check_loop_for(version, (const uint8_t *)loop, 4) ==
+              (known ? FLOECAVERN_LOOP_REFUSED : FLOECAVERN_LOOP_SETTING_REFUSED));
+        CHECK(floecavern_check_loop_for(version, (const uint8_t *)loop, 3) == FLOECAVERN_BAD_SIZE);
+    }
+}
+
 static void others(void)
 {
     floecavern_refused_at refused;
@@ -439,7 +575,7 @@ static void others(void)
     refused = floecavern_report_text(NULL, 40, &text);
     CHECK(refused.refusal == FLOECAVERN_REFUSAL_FILE_LENGTH && refused.place == 0);
     CHECK(text.len == 12 && memcmp(text.bytes, "refused 7 0\n", 12) == 0);
-    CHECK(FLOECAVERN_VERSION_MAJOR == 0 && FLOECAVERN_VERSION_MINOR == 6 && FLOECAVERN_VERSION_PATCH == 0);
+    CHECK(FLOECAVERN_VERSION_MAJOR == 0 && FLOECAVERN_VERSION_MINOR == 7 && FLOECAVERN_VERSION_PATCH == 0);
 }
 
 int main(int argc, char **argv)
@@ -452,10 +588,13 @@ int main(int argc, char **argv)
     breaks();
     sets();
     wrong_sets();
+    versions();
+    wrong_versions();
     states();
     starts();
     runs();
     replays();
+    loops();
     others();
     CHECK(floecavern_report_text(file, n, &text).refusal == FLOECAVERN_REFUSAL_NONE && text.len > 40);
     file[720] = 9;
@@ -510,8 +649,9 @@ int main(void)
 
 CAUSES = ['instruction address misaligned', 'instruction access fault', 'illegal instruction', 'breakpoint', 'load address misaligned', 'load access fault',
           'store/AMO address misaligned', 'store/AMO access fault', 'environment call', 'no cause of the model']
-REFUSALS = ['not refused', "the set size or the memory's length or base is wrong", 'the state is wrong', 'the hart is not below the count',
-            'a device write of 0 or more than 8 bytes', 'a device write not wholly in memory', 'a block of fewer than 2 or more than 16 words',
+REFUSALS = ['not refused', "the set size or the memory's length or base is wrong", 'the version of A or the state is wrong',
+            'the hart is not below the count', 'a device write of 0 or more than 8 bytes', 'a device write not wholly in memory',
+            'a block of fewer than 2 or more than 16 words',
             "the file's length is not 40 to 65536", 'the table of contents is wrong', 'the harts body is wrong', "the memory body's length is wrong",
             'an event or the length of the events is wrong', "the log's length is not a multiple of 48", 'the log has no rows', 'no refusal of the model']
 REASONS = ['not rejected', 'place 0 is not an LR', 'a word that a retry loop may not hold', 'a jump or branch that a retry loop may not make',
@@ -537,6 +677,7 @@ static floecavern_state state = FLOECAVERN_STATE_INIT;
 static void *nothing(void *p) { return p; }
 static void *report(void *p) { floecavern_report(file, len, out, sizeof out); return p; }
 static void *loop(void *p) { floecavern_check_loop(mem, 64); return p; }
+static void *loop_for(void *p) { floecavern_check_loop_for(FLOECAVERN_A_2_0, mem, 64); return p; }
 static void *step(void *p) { floecavern_step((uint8_t *)&state, sizeof state, 0, mem, sizeof mem, 0, value, 8); return p; }
 static void *device(void *p) { floecavern_device_write((uint8_t *)&state, sizeof state, 0, mem, sizeof mem, 64, 8, 1, value, 8); return p; }
 static void *yield(void *p) { floecavern_yield((uint8_t *)&state, sizeof state, 0, mem, sizeof mem, 0, value, 8); return p; }
@@ -571,9 +712,9 @@ int main(int argc, char **argv)
     mem[0] = 0x2f, mem[1] = 0xa3, mem[2] = 0x02, mem[3] = 0x10; /* lr.w x6,(x5) */
     for (size_t i = 0; i < sizeof events; i += 24)
         events[i] = 1, events[i + 1] = i / 24 % 8;
-    void *(*calls[])(void *) = {report, loop, step, device, yield, run, replay};
+    void *(*calls[])(void *) = {report, loop, loop_for, step, device, yield, run, replay};
     size_t most = 0, none = used(nothing);
-    for (size_t i = 0; i < 7; i++) {
+    for (size_t i = 0; i < sizeof calls / sizeof *calls; i++) {
         size_t n = used(calls[i]);
         most = n > most ? n : most;
     }
@@ -619,6 +760,18 @@ class Library(unittest.TestCase):
         bad = b'bad input: length is not a multiple of 4'
         for length, line in [(0, b'refused 6'), (67, bad), (68, b'refused 6'), (69, bad), (72, b'refused 6')]:
             self.assertEqual(self.example('loop', given=bytes(length)), line + b'\n')
+
+    def test_loop_versions(self):
+        """The version is the one argument, a decimal number; 2.1 without it."""
+        jalr = struct.pack('<3I', 0x1002a32f, 0x00008067, 0x1882a3af)
+        for args, line in [([], b'rejected 1 2'), (['21'], b'rejected 1 2'), (['20'], b'accepted'), (['020'], b'accepted'), (['0'], b'refused 2'),
+                           (['22'], b'refused 2'), (['276'], b'refused 2'), (['%d' % (2**64 + 20)], b'refused 2'), (['9' * 100], b'refused 2')]:
+            self.assertEqual(self.example('loop', *args, given=jalr), line + b'\n')
+        self.assertEqual(self.example('loop', '22'), b'refused 2\n')
+        self.assertEqual(self.example('loop', '22', given=b'abc'), b'bad input: length is not a multiple of 4\n')
+        for args in [[''], ['x'], ['2x'], ['-20'], ['+20'], [' 20'], ['20 '], ['2.0'], ['20', '21']]:
+            done = subprocess.run([self.built('loop'), *args], input=jalr, capture_output=True)
+            self.assertEqual((done.returncode, done.stdout, done.stderr), (2, b'', b'usage: loop [VERSION] < WORDS\n'))
 
     def test_events(self):
         self.assertEqual(self.example('events'), EVENTS)

@@ -14,11 +14,12 @@ import unittest.mock
 from array import array
 
 from common import EXAMPLE, EXAMPLE_LINES, ROOT, data, vector_pairs
+import casetext
 
 sys.path.insert(0, os.path.join(ROOT, 'python'))
 import floecavern
-from floecavern import (RETIRED, SC_FAILED, SC_STORED, Cause, Event, Kind, Machine, Outcome, Reason, Refusal, Refused, Replayed, Reservation, State, Stop,
-                        StopKind, Verdict, check_loop, device_write, harts, replay, report, report_text, run, run_bytes, step, trap, yield_hart)
+from floecavern import (A_2_0, A_2_1, RETIRED, SC_FAILED, SC_STORED, Cause, Event, Kind, Machine, Outcome, Reason, Refusal, Refused, Replayed, Reservation,
+                        State, Stop, StopKind, Verdict, check_loop, device_write, harts, replay, report, report_text, run, run_bytes, step, trap, yield_hart)
 
 LIBRARY = os.path.join(ROOT, 'target', 'staticlib', 'libcapi.a')
 LR, SC = 0x1002a32f, 0x1882a3af  # lr.w x6,(x5); sc.w x7,x8,(x5)
@@ -343,10 +344,10 @@ class Sets(Refuses):
 
     def test_default(self):
         self.assertEqual((floecavern.SET_SIZE, State(1).set_size, Machine(1, 0, 64).state.set_size), (64, 64, 64))
-        self.assertEqual(State(2).to_bytes(), b'\x02' + bytes(2311) + b'\x40' + bytes(7))
+        self.assertEqual(State(2).to_bytes(), b'\x02' + bytes(2311) + b'\x40' + bytes(7) + b'\x15' + bytes(7))
         self.assertEqual((State(1, set_size=64), State(1, set_size=16).set_size), (State(1), 16))
         self.assertNotEqual(State(1, set_size=16), State(1))
-        self.assertEqual(repr(State(2, set_size=16)), '<State of 2 harts, sets of 16 bytes, pcs 0x0 0x0>')
+        self.assertEqual(repr(State(2, set_size=16)), '<State of 2 harts, A 2.1, sets of 16 bytes, pcs 0x0 0x0>')
         # By its name alone: a later version may have more of them.
         self.assertRaises(TypeError, State, 1, 64)
         self.assertRaises(TypeError, Machine, 1, 0, 64, 64)
@@ -363,7 +364,7 @@ class Sets(Refuses):
                 self.refuses_unchanged(Refusal.MEMORY, m, device_write, 0, 0, 0)
                 self.refuses_unchanged(Refusal.MEMORY, m, run, [], place=0)
                 self.refuses_unchanged(Refusal.MEMORY, m, replay, b'')
-        zeros = State.from_bytes(b'\x01' + bytes(2319))
+        zeros = State.from_bytes(b'\x01' + bytes(2327))
         self.refuses(Refusal.MEMORY, step, zeros, 0, bytearray(64), 0)
         self.assertEqual(str(Refused(1)), "refusal 1: the set size or the memory's length or base is wrong")
 
@@ -411,6 +412,105 @@ class Sets(Refuses):
             self.assertEqual((replayed.replay(log.encode()), replayed), (Replayed(3, Stop(StopKind.AGREED)), m))
 
 
+class Versions(Refuses):
+    """The version of A that a machine follows, and that a loop is read by."""
+    WRONG = [0, 1, 2, 19, 22, 32, 210, 20 << 32, 2**8 + 20, 2**16 + 21, 2**32 + 20, 2**63 + 21, 2**64 - 1]  # some have 20 or 21 in a part of their bits
+    RET = 0x00008067  # jalr x0,0(x1)
+
+    def contended(self, version, word=0):
+        """Four harts with x5 = 64 and the word at their pc. Harts 0, 1 and 2 hold the 4 bytes at 64, hart 3 the 8 bytes at 128."""
+        m = Machine(4, 0, 320, version=version)
+        m.put_words(0, [word])
+        for hart in range(4):
+            m.state.x[hart][5] = 64
+            m.state.set_reservation(hart, Reservation(128, 8) if hart == 3 else Reservation(64, 4))
+        return m
+
+    def test_default(self):
+        self.assertEqual((A_2_0, A_2_1, State(1).version, Machine(1, 0, 64).state.version), (20, 21, 21, 21))
+        self.assertEqual((State(1, version=A_2_1), State(1, version=A_2_0).version), (State(1), 20))
+        self.assertEqual(Machine(1, 0, 64, version=A_2_0).state, Machine(1, 0, 64, set_size=64, version=20).state)
+        self.assertNotEqual(State(1, version=A_2_0), State(1))
+        self.assertEqual(State(2, version=A_2_0).to_bytes()[2312:], b'\x40' + bytes(7) + b'\x14' + bytes(7))
+        self.assertEqual(repr(State(1, version=A_2_0)), '<State of 1 harts, A 2.0, sets of 64 bytes, pcs 0x0>')
+        self.assertEqual(repr(State(1, version=0)), '<State of 1 harts, version 0, sets of 64 bytes, pcs 0x0>')
+
+    def test_wrong_versions(self):
+        """Refusal 2 of every call, after 1 and before what is asked of a call alone."""
+        for version in self.WRONG:
+            self.refuses(Refusal.STATE, lambda: Machine(1, 0, 64, version=version))
+            self.refuses(Refusal.MEMORY, lambda: Machine(1, 0, 65, version=version))
+            self.refuses(Refusal.MEMORY, lambda: Machine(1, 0, 64, set_size=24, version=version))
+            m = machine()
+            m.state.version = version
+            self.refuses_unchanged(Refusal.STATE, m, step, 0)
+            self.refuses_unchanged(Refusal.STATE, m, yield_hart, 9)
+            self.refuses_unchanged(Refusal.STATE, m, device_write, 64, 8, 1)
+            self.refuses_unchanged(Refusal.STATE, m, device_write, 0, 0, 0)
+            self.refuses_unchanged(Refusal.STATE, m, run, [Event.step(9)], place=0)
+            self.refuses_unchanged(Refusal.STATE, m, replay, b'')
+            m.base = 1
+            self.refuses_unchanged(Refusal.MEMORY, m, step, 0)
+        self.assertEqual(str(Refused(2)), 'refusal 2: the version of A or the state is wrong')
+
+    def test_device_writes(self):
+        """They break what the LR read under 2.1 and nothing under 2.0. The memory is written under both."""
+        for addr, size, broke in [(63, 1, 0), (63, 2, 0b0111), (64, 4, 0b0111), (67, 1, 0b0111), (68, 8, 0), (121, 8, 0b1000), (128, 8, 0b1000),
+                                  (136, 1, 0)]:
+            for version, lost in [(A_2_1, broke), (A_2_0, 0)]:
+                m = self.contended(version)
+                self.assertEqual((m.device_write(addr, size, 2**64 - 1), held(m)), (RETIRED._replace(broke=lost), 0b1111 & ~lost), (version, addr))
+                self.assertEqual((m.bytes(addr, size), m.mem.count(0xff)), (b'\xff' * size, size))
+        for version in [A_2_0, A_2_1]:
+            self.refuses_unchanged(Refusal.DEVICE_SIZE, self.contended(version), device_write, 64, 9, 0)
+            self.refuses_unchanged(Refusal.DEVICE_ADDRESS, self.contended(version), device_write, 313, 8, 0)
+
+    def test_sc_after_a_device_write(self):
+        """By single calls and by a run. A log has no device writes, so that its replay is the same under both versions."""
+        log = b'0 0000000000000000 1002a32f 06 0000000000000000\n0 0000000000000004 1882a3af 07 0000000000000000\n'
+        for version, outcomes, value in [(A_2_1, [RETIRED, RETIRED._replace(broke=1), SC_FAILED], 1), (A_2_0, [RETIRED, RETIRED, SC_STORED], 0)]:
+            m = Machine(1, 0, 128, version=version)
+            m.put_words(0, [LR, SC])
+            m.state.x[0][5] = 64
+            ran, replayed = copy.deepcopy(m), copy.deepcopy(m)
+            events = [Event.step(0), Event.device_write(64, 4, 7), Event.step(0)]
+            self.assertEqual([m.perform(event) for event in events], outcomes)
+            self.assertEqual((m.state.x[0][7], m.state.version, m.bytes(64, 1)), (value, version, bytes([7 * value])))
+            self.assertEqual((ran.run(events), ran), (3, m))
+            self.assertEqual((replayed.replay(log), replayed.state.version), (Replayed(2, Stop(StopKind.AGREED)), version))
+
+    def test_all_else(self):
+        """What harts write, and a yield, are the same under both versions."""
+        for version in [A_2_0, A_2_1]:
+            m = self.contended(version, 0x0082a023)  # sw x8,0(x5)
+            self.assertEqual((m.step(1), held(m)), (RETIRED._replace(broke=0b0101), 0b1010))
+            m = self.contended(version, SC)
+            self.assertEqual((m.step(1), held(m)), (SC_STORED._replace(broke=0b0101), 0b1000))
+            m = self.contended(version)
+            self.assertEqual((m.yield_hart(1), held(m)), (RETIRED, 0b1101))
+
+    def test_loops(self):
+        accepted, writes, reads, none = Verdict(True), 0x000082e7, 0x00028367, 0x000090e7  # jalr x5,0(x1); jalr x6,0(x5); no instruction
+        for block, old, new in [([LR, SC], accepted, accepted), (LOOP, accepted, accepted),
+                                ([LR, self.RET, SC], accepted, Verdict(False, 1, Reason.NOT_PERMITTED)),
+                                ([LR, SC, self.RET], accepted, Verdict(False, 2, Reason.NOT_PERMITTED)),
+                                ([LR, reads, SC], accepted, Verdict(False, 1, Reason.NOT_PERMITTED)),
+                                ([LR, writes, SC], Verdict(False, 1, Reason.WRITES_RS1), Verdict(False, 1, Reason.NOT_PERMITTED)),
+                                ([LR, SC, writes], accepted, Verdict(False, 2, Reason.NOT_PERMITTED)),
+                                ([LR, none, SC], Verdict(False, 1, Reason.NOT_PERMITTED), Verdict(False, 1, Reason.NOT_PERMITTED)),
+                                ([self.RET, SC], Verdict(False, 0, Reason.NO_LR), Verdict(False, 0, Reason.NO_LR)),
+                                ([LR, self.RET], Verdict(False, 2, Reason.NO_SC), Verdict(False, 1, Reason.NOT_PERMITTED))]:
+            self.assertEqual((check_loop(block, version=A_2_0), check_loop(block, version=A_2_1), check_loop(block)), (old, new, new))
+            for version in self.WRONG:
+                self.refuses(Refusal.STATE, lambda: check_loop(block, version=version))
+        for block in [[], [LR], [self.RET] * 17, [LR] * 100]:
+            for version in [A_2_0, A_2_1]:
+                self.refuses(Refusal.BLOCK, lambda: check_loop(block, version=version))
+            self.refuses(Refusal.STATE, lambda: check_loop(block, version=22))
+        # By its name alone: a later version may have more of them.
+        self.assertRaises(TypeError, check_loop, LOOP, A_2_0)
+
+
 class Values(Refuses):
     """What isn't the model's at all is an error before the library is called."""
 
@@ -433,12 +533,14 @@ class Values(Refuses):
             self.assertRaises(error, Machine, 1, bad, 64)
             self.assertRaises(error, Machine, 1, 0, bad)
             self.assertRaises(error, Machine, 1, 0, 64, set_size=bad)
+            for call in [lambda: State(1, version=bad), lambda: Machine(1, 0, 64, version=bad), lambda: check_loop(LOOP, version=bad)]:
+                self.assertRaisesRegex(error, '^version is ', call)
             self.assertRaises(error, check_loop, [LR, bad])
             for make in [Event.step, Event.yield_hart, lambda n: Event.device_write(n, 1, 0), lambda n: Event.device_write(64, 1, n)]:
                 self.assertRaises(error, make, bad)
             state = State(1)
             for assign in [lambda: state.x[0].__setitem__(5, bad), lambda: state.pc.__setitem__(0, bad), lambda: setattr(state, 'count', bad),
-                           lambda: setattr(state, 'set_size', bad),
+                           lambda: setattr(state, 'set_size', bad), lambda: setattr(state, 'version', bad),
                            lambda: state.set_reservation(0, (bad, 4)), lambda: state.set_reservation(0, (64, bad))]:
                 self.assertRaises(error, assign)
             self.assertEqual(state, State(1))
@@ -469,7 +571,7 @@ class Values(Refuses):
             self.assertRaises(TypeError, step, State(1), 0, mem, 0)
         state = State(1)
         self.assertRaises(ValueError, step, state, 0, state.x[0], 0)
-        self.assertRaises(TypeError, step, bytearray(2320), 0, bytearray(64), 0)
+        self.assertRaises(TypeError, step, bytearray(2328), 0, bytearray(64), 0)
         for bad in [24, 'text', None]:
             self.assertRaises(TypeError, report, bad)
             self.unchanged(TypeError, run_bytes, bad)
@@ -499,19 +601,20 @@ class Values(Refuses):
         self.assertEqual(m.bytes(128, 9), b'\xff' * 8 + b'\x80')
 
     def test_states(self):
-        given = bytes(i % 251 for i in range(2320))
+        given = bytes(i % 251 for i in range(2328))
         state = State.from_bytes(given)
         self.assertEqual(state.to_bytes(), given)
-        self.assertEqual((state.count, state.x[7][31], state.pc[7], state.set_size), tuple(number(given[at:at + 8]) for at in [0, 2048, 2112, 2312]))
+        self.assertEqual((state.count, state.x[7][31], state.pc[7], state.set_size, state.version),
+                         tuple(number(given[at:at + 8]) for at in [0, 2048, 2112, 2312, 2320]))
         self.assertEqual(state.reservation(7), Reservation(number(given[2296:2304]), number(given[2304:2312])))
         self.assertEqual(State.from_bytes(given[:2288] + bytes([given[2288] ^ 1]) + given[2289:]), state)
-        for at in [2296, 2311, 2312, 2319]:
+        for at in [2296, 2311, 2312, 2319, 2320, 2327]:
             self.assertNotEqual(State.from_bytes(given[:at] + bytes([given[at] ^ 1]) + given[at + 1:]), state)
         self.assertEqual((pickle.loads(pickle.dumps(state)), copy.deepcopy(state)), (state, state))
         state.set_reservation(7, None)
         self.assertEqual(state.to_bytes()[2288:], bytes(24) + given[2312:])
-        for bad in [given[:-1], given + b'\0', b'']:
-            self.assertRaises(ValueError, State.from_bytes, bad)
+        for bad in [given[:-1], given + b'\0', b'', given[:2320]]:
+            self.assertRaisesRegex(ValueError, '^%d bytes: a state has 2328$' % len(bad), State.from_bytes, bad)
         self.assertRaises(IndexError, state.reservation, 8)
         self.assertRaises(AttributeError, setattr, state, 'pcs', 1)
         self.assertRaises(AttributeError, setattr, state, 'pc', [0] * 8)
@@ -545,7 +648,7 @@ class Interface(unittest.TestCase):
 
     def test_version_sizes_and_command(self):
         self.assertIn('#define FLOECAVERN_VERSION "%s"\n' % floecavern.__version__, self.header())
-        for name in ['STATE_SIZE', 'EVENT_SIZE', 'ROW_SIZE', 'REPORT_ROOM', 'SET_SIZE']:
+        for name in ['STATE_SIZE', 'EVENT_SIZE', 'ROW_SIZE', 'REPORT_ROOM', 'SET_SIZE', 'A_2_0', 'A_2_1']:
             self.assertIn('#define FLOECAVERN_%s %d\n' % (name, getattr(floecavern, name)), self.header())
         for path in [os.path.join('docs', 'USING.md'), os.path.join('python', 'floecavern.py')]:
             self.assertIn('    ' + floecavern.BUILD + '\n', data(os.path.join(ROOT, path)).decode())
@@ -557,6 +660,20 @@ class Interface(unittest.TestCase):
         env = dict(os.environ, PYTHONPATH=os.path.join(ROOT, 'python'))
         done = subprocess.run([sys.executable, '-c', 'import floecavern\n' + code], env=env, capture_output=True, text=True)
         self.assertEqual((done.stdout, done.stderr), (printed + '\n', ''))
+
+    def test_case_with_other_settings(self):
+        """The program that USING.md shows, on a case whose device write an SC survives under A 2.0 alone."""
+        block = data(os.path.join(ROOT, 'docs', 'USING.md')).decode().split('### A case with other settings\n', 1)[1].split('    import sys\n', 1)[1]
+        code = textwrap.dedent('    import sys\n' + block.split('\n\n', 1)[0])
+        text = 'memory 128\nhart 0 x5=64\nat 0\nlr.w x6,(x5)\nsc.w x7,x8,(x5)\nevents\nstep 0\ndevice 64 1 7\nstep 0\n'
+        with tempfile.TemporaryDirectory() as folder:
+            case = os.path.join(folder, 'case')
+            with open(case, 'wb') as file:
+                file.write(casetext.make(text))
+            self.assertEqual(report(data(case)), 'case 1 harts 128 bytes 3 events\n0 h0 ok\n1 d ok broke 01\n2 h0 sc 1\nend 3\n')
+            for version, lines in [('A_2_0', '0 retired\n1 retired\n2 sc stored\n'), ('A_2_1', '0 retired\n1 retired broke 01\n2 sc failed\n')]:
+                done = subprocess.run([sys.executable, '-c', code.replace('A_2_0', version), case], cwd=ROOT, capture_output=True, text=True)
+                self.assertEqual((done.stdout, done.stderr), (lines, ''))
 
     def test_relative_name(self):
         """A shared object in the current folder, or named from it."""
@@ -573,8 +690,20 @@ class Interface(unittest.TestCase):
             state = State(1)
             before = state.to_bytes()
             for call in [lambda: step(state, 0, bytearray(64), 0), lambda: run(state, 0, bytearray(64), []), lambda: Machine(1, 0, 64)]:
-                self.assertRaisesRegex(OSError, 'takes no state of 2328 bytes: it is of another version', call)
+                self.assertRaisesRegex(OSError, 'takes no state of 2336 bytes: it is of another version', call)
             self.assertEqual(state.to_bytes(), before)
+
+    def test_older_version(self):
+        """A shared object that lacks a function, as those before 0.7.0 do, is told at the first call, whatever it is."""
+        with tempfile.TemporaryDirectory() as folder:
+            made = os.path.join(folder, 'old.so')
+            source = ''.join('void floecavern_%s(void) {}\n' % name for name in ['report', 'check_loop', 'step', 'device_write', 'yield', 'run', 'replay'])
+            subprocess.run(['cc', '-shared', '-fPIC', '-x', 'c', '-', '-o', made], input=source.encode(), check=True)
+            env = dict(os.environ, FLOECAVERN_SO=made, PYTHONPATH=os.path.join(ROOT, 'python'))
+            for call in ['report_text(b"")', 'check_loop([])', 'Machine(1, 0, 64)']:
+                done = subprocess.run([sys.executable, '-c', 'import floecavern; floecavern.' + call], env=env, capture_output=True, text=True)
+                self.assertEqual(done.stderr.splitlines()[-1], 'OSError: the shared object has no floecavern_check_loop_for: it is of another version. '
+                                 'In the repository, after `rt staticlib capi`: ' + floecavern.BUILD)
 
     def test_missing(self):
         env = dict(os.environ, FLOECAVERN_SO='/nowhere/libfloecavern.so', PYTHONPATH=os.path.join(ROOT, 'python'))

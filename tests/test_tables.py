@@ -28,7 +28,7 @@ class Tables(unittest.TestCase):
         self.same('touch-table', 'touch_table')
 
     def test_event_table(self):
-        self.same('event-table', 'event_table', ['tests/vectors05.py', 'tests/vectors/05-sizes.jsonl'])
+        self.same('event-table', 'event_table', ['tests/outside.py', 'tests/vectors/05-sizes.jsonl', 'tests/vectors/07-versions.jsonl'])
 
     @unittest.skipUnless(shutil.which('riscv64-linux-gnu-as') and shutil.which('riscv64-linux-gnu-objdump'), 'needs binutils-riscv64-linux-gnu')
     def test_decode_table(self):

@@ -2,7 +2,7 @@
 //! reader sees what was never tried.
 
 use crate::calls::{of_events, Call};
-use crate::machine::{HartMask, Memory, Outcome, Reservation, State, MAX_HARTS};
+use crate::machine::{HartMask, Memory, Outcome, Reservation, State, A_2_1, MAX_HARTS};
 use crate::reached::{cell, equal};
 use crate::word::{decode, AtomicOp, Instr};
 
@@ -37,7 +37,7 @@ impl Write {
 
     fn of_step(state: &State, memory: &Memory, number: usize) -> Option<Write> {
         let hart = &state.harts[number];
-        let (writer, addr, size) = match decode(memory.word(hart.pc)?)? {
+        let (writer, addr, size) = match next_instr(state, memory, number)? {
             Instr::Store { width, rs1, imm, .. } => (Writer::Store, hart.x[rs1 as usize].wrapping_add(imm), width),
             Instr::Atomic(a) => {
                 let writer = match a.op {
@@ -68,11 +68,27 @@ impl Write {
     }
 
     /// Whether it touches what a reservation of another hart is lost by.
-    fn touches_guarded(&self, r: Reservation, set_size: u64) -> bool {
+    fn touches_guarded(&self, r: Reservation, state: &State) -> bool {
         match self.writer {
-            Writer::Device => self.touches_read(r),
-            _ => self.touches_set(r, set_size),
+            Writer::Device => state.version == A_2_1 && self.touches_read(r),
+            _ => self.touches_set(r, state.set_size),
         }
+    }
+}
+
+/// What the hart's next step performs, if it isn't a trap of causes 1 or 2.
+fn next_instr(state: &State, memory: &Memory, hart: usize) -> Option<Instr> {
+    decode(memory.word(state.harts[hart].pc)?)
+}
+
+/// The hart that steps an LR.
+fn reserves(call: &Call, state: &State, memory: &Memory) -> Option<usize> {
+    match *call {
+        Call::Step { hart } if hart < state.count => match next_instr(state, memory, hart) {
+            Some(Instr::Atomic(a)) if a.op == AtomicOp::Lr => Some(hart),
+            _ => None,
+        },
+        _ => None,
     }
 }
 
@@ -89,9 +105,20 @@ fn perform(call: &Call, state: &mut State, memory: &mut Memory) -> Option<Outcom
 /// The reservations of all harts, also of unused ones.
 pub(crate) type Held = [Option<Reservation>; MAX_HARTS];
 
-/// Performs events one after another, and hands on each that would write, with the reservations before it and what it came to: also an SC
-/// that fails and a trap.
-pub(crate) fn each_write(state: &State, base: u64, memory: &[u8], events: &[u8], mut observe: impl FnMut(&Write, &Held, Outcome)) {
+/// An event that isn't refused.
+pub(crate) struct Event {
+    pub(crate) call: Call,
+    /// What it writes, unless it traps or is an SC that fails.
+    pub(crate) write: Option<Write>,
+    /// The hart that reserves, unless it traps.
+    pub(crate) reserves: Option<usize>,
+    /// The reservations before it.
+    pub(crate) held: Held,
+    pub(crate) outcome: Outcome,
+}
+
+/// Performs events one after another, and hands on each that isn't refused.
+pub(crate) fn each_event(state: &State, base: u64, memory: &[u8], events: &[u8], mut observe: impl FnMut(&Event)) {
     let (mut state, mut bytes) = (state.clone(), memory.to_vec());
     let memory = &mut Memory { base, bytes: &mut bytes };
     if state.accepted(memory).is_err() {
@@ -99,11 +126,20 @@ pub(crate) fn each_write(state: &State, base: u64, memory: &[u8], events: &[u8],
     }
     for call in of_events(events) {
         let held = state.harts.map(|hart| hart.reservation);
-        let write = Write::of(&call, &state, memory);
-        if let (Some(outcome), Some(write)) = (perform(&call, &mut state, memory), write) {
-            observe(&write, &held, outcome);
+        let (write, reserves) = (Write::of(&call, &state, memory), reserves(&call, &state, memory));
+        if let Some(outcome) = perform(&call, &mut state, memory) {
+            observe(&Event { call, write, reserves, held, outcome });
         }
     }
+}
+
+/// The same for each event that would write: also an SC that fails and a trap.
+pub(crate) fn each_write(state: &State, base: u64, memory: &[u8], events: &[u8], mut observe: impl FnMut(&Write, &Held, Outcome)) {
+    each_event(state, base, memory, events, |event| {
+        if let Some(write) = &event.write {
+            observe(write, &event.held, event.outcome);
+        }
+    });
 }
 
 /// The writes of one kind of writer.
@@ -133,7 +169,7 @@ impl Broken {
         });
     }
 
-    /// `held` are the reservations before the write; of the state its count and its set size are looked at.
+    /// `held` are the reservations before the write; of the state its count, its set size and its version are looked at.
     fn add(&mut self, write: &Write, broke: HartMask, held: &Held, state: &State) {
         let (set_size, (held, unused)) = (state.set_size, held.split_at(state.count));
         let counts = &mut self.0[write.writer as usize];
@@ -144,7 +180,7 @@ impl Broken {
         counts.own += write.hart.and_then(|hart| held[hart]).is_some_and(|r| write.touches_set(r, set_size)) as u64;
         let beside = |r: &Reservation| write.touches_set(*r, set_size) && !write.touches_read(*r);
         counts.beside += held.iter().flatten().any(beside) as u64;
-        let seems_held = |r: &Reservation| (r.width == 4 || r.width == 8) && write.touches_guarded(*r, set_size);
+        let seems_held = |r: &Reservation| (r.width == 4 || r.width == 8) && write.touches_guarded(*r, state);
         counts.unused += unused.iter().flatten().any(seems_held) as u64;
     }
 

@@ -24,7 +24,7 @@ fn u64_at(bytes: &[u8], place: usize) -> u64 {
     u64::from_le_bytes(bytes[place..place + 8].try_into().unwrap())
 }
 
-/// A read case: the parts of the file and the state at the start. A file says no set size, so its sets have the default's.
+/// A read case: the parts of the file and the state at the start. A file says no set size and no version, so it has the defaults.
 pub struct Case<'a> {
     pub state: State,
     pub base: u64,

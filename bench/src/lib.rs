@@ -1,10 +1,10 @@
-//! A second implementation of document 01 and of requests 1, 2, 3 and 5 of document 02, written from the papers alone, to compare the proved
-//! one with and to measure it against.
+//! A second implementation of document 01 and of requests 1, 2, 3, 5 and 7 of document 02, written from the papers alone, to compare the
+//! proved one with and to measure it against.
 //!
 //! The implementation is `word`, `machine`, `case`, `log` and `loops`; `layout` and `calls` put it behind the calls of include/floecavern.h.
 //! `floecavern` is the proved library itself. `generate` and `work` make inputs for both; `reached` counts what generated logs reach,
-//! `broken` what the writes of generated events break, `sizes` what calls reach with each set size. `shared` opens two versions of the library
-//! side by side.
+//! `broken` what the writes of generated events break, `sizes` what calls reach with each set size, `versions` what calls, events and blocks
+//! reach under each version of the A extension. `shared` opens two versions of the library side by side.
 
 pub mod broken;
 pub mod calls;
@@ -19,6 +19,7 @@ pub mod machine;
 pub mod reached;
 pub mod shared;
 pub mod sizes;
+pub mod versions;
 pub mod word;
 pub mod work;
 

@@ -1,5 +1,6 @@
-//! The checker of retry loops.
+//! The checker of retry loops, by the version of the A extension: document 01's rules, and request 7 of document 02.
 
+use crate::machine::{version_allowed, A_2_0};
 use crate::word::{decode, Atomic, AtomicOp, Instr};
 
 #[derive(Clone, Copy, PartialEq, Eq, Debug)]
@@ -21,6 +22,7 @@ fn destination(instr: Instr) -> Option<u8> {
         Instr::Lui { rd, .. }
         | Instr::Auipc { rd, .. }
         | Instr::Jal { rd, .. }
+        | Instr::Jalr { rd, .. }
         | Instr::Op { rd, .. }
         | Instr::OpImm { rd, .. }
         | Instr::Op32 { rd, .. }
@@ -29,8 +31,11 @@ fn destination(instr: Instr) -> Option<u8> {
     }
 }
 
-/// Err is refusal 6.
-pub fn check_loop(block: &[u32]) -> Result<Verdict, u8> {
+/// Err is refusal 2, "any other version", or after it refusal 6.
+pub fn check_loop(version: u64, block: &[u32]) -> Result<Verdict, u8> {
+    if !version_allowed(version) {
+        return Err(2);
+    }
     if !(2..=16).contains(&block.len()) {
         return Err(6);
     }
@@ -49,7 +54,7 @@ pub fn check_loop(block: &[u32]) -> Result<Verdict, u8> {
                 seen_sc = true;
                 (sc.width != lr.width || sc.rs1 != lr.rs1).then_some(5)
             }
-            _ => reason_of(lr, instr, place, seen_sc),
+            _ => reason_of(version, lr, instr, place, seen_sc),
         };
         if let Some(reason) = reason {
             return reject(place, reason);
@@ -67,8 +72,9 @@ fn kept(lr: Atomic, rd: u8) -> bool {
     lr.rs1 != 0 && rd == lr.rs1
 }
 
-/// The lowest reason against a later word that isn't the first SC.
-fn reason_of(lr: Atomic, instr: Option<Instr>, place: usize, seen_sc: bool) -> Option<u8> {
+/// The lowest reason against a later word that isn't the first SC. Under 2.0 "the loop rules also allow JALR as any later word, reason 4 still
+/// applying": where it leads is no matter, since reason 3 is about "A JAL or branch" alone.
+fn reason_of(version: u64, lr: Atomic, instr: Option<Instr>, place: usize, seen_sc: bool) -> Option<u8> {
     let Some(instr) = instr else {
         return Some(2);
     };
@@ -80,6 +86,7 @@ fn reason_of(lr: Atomic, instr: Option<Instr>, place: usize, seen_sc: bool) -> O
                 return Some(3);
             }
         }
+        Instr::Jalr { .. } if version == A_2_0 => {}
         Instr::Lui { .. } | Instr::Auipc { .. } => {}
         Instr::Op { .. } | Instr::OpImm { .. } | Instr::Op32 { .. } | Instr::OpImm32 { .. } => {}
         _ => return Some(2),
@@ -90,18 +97,98 @@ fn reason_of(lr: Atomic, instr: Option<Instr>, place: usize, seen_sc: bool) -> O
 #[cfg(test)]
 mod tests {
     use super::*;
+    use crate::generate::words::{i_type, NOP};
+    use crate::generate::{loop_block, Rng};
+    use crate::machine::A_2_1;
+
+    const LR: u32 = 0x1002A32F;
+    const SC: u32 = 0x1882A3AF;
+
+    fn rejected(place: usize, reason: u8) -> Result<Verdict, u8> {
+        Ok(Verdict::Rejected { place, reason })
+    }
 
     #[test]
     fn edge_12() {
-        let block = [0x1002A32F, 0x00731663, 0x1882A3AF, 0xFE039AE3];
-        assert_eq!(check_loop(&block), Ok(Verdict::Accepted));
-        let mut other = block;
-        other[0] = 0x1002A2AF;
-        assert_eq!(check_loop(&other), Ok(Verdict::Rejected { place: 0, reason: 4 }));
-        assert_eq!(check_loop(&block[..2]), Ok(Verdict::Rejected { place: 2, reason: 6 }));
-        assert_eq!(check_loop(&block[..1]), Err(6));
-        other = block;
-        other[3] = 0xFE039CE3;
-        assert_eq!(check_loop(&other), Ok(Verdict::Rejected { place: 3, reason: 3 }));
+        for version in [A_2_0, A_2_1] {
+            let block = [LR, 0x00731663, SC, 0xFE039AE3];
+            assert_eq!(check_loop(version, &block), Ok(Verdict::Accepted));
+            let mut other = block;
+            other[0] = 0x1002A2AF;
+            assert_eq!(check_loop(version, &other), rejected(0, 4));
+            assert_eq!(check_loop(version, &block[..2]), rejected(2, 6));
+            assert_eq!(check_loop(version, &block[..1]), Err(6));
+            other = block;
+            other[3] = 0xFE039CE3;
+            assert_eq!(check_loop(version, &other), rejected(3, 3));
+        }
+    }
+
+    /// A JALR with every rd and some offsets at every place of a block of every length, with the SC at every place before it or behind it.
+    #[test]
+    fn jalr() {
+        for length in 3..=16 {
+            for place in 1..length {
+                for sc in (1..length).filter(|&sc| sc != place) {
+                    let mut block = vec![NOP; length];
+                    (block[0], block[sc]) = (LR, SC);
+                    for (rd, rs1, imm) in (0..32).flat_map(|rd| [(rd, 1, 0), (rd, 5, -4), (rd, 0, 2), (rd, rd, 2047)]) {
+                        block[place] = i_type(0x67, 0, rd, rs1, imm);
+                        // x5 is the LR's rs1.
+                        let under_2_0 = if place < sc && rd == 5 { rejected(place, 4) } else { Ok(Verdict::Accepted) };
+                        assert_eq!(check_loop(A_2_0, &block), under_2_0);
+                        assert_eq!(check_loop(A_2_1, &block), rejected(place, 2));
+                    }
+                    // Another funct3 is no JALR.
+                    block[place] = i_type(0x67, 1 + place as u32 % 7, 1, 1, 0);
+                    assert_eq!(check_loop(A_2_0, &block), rejected(place, 2));
+                }
+            }
+        }
+    }
+
+    /// At place 0, without an SC, with x0 for rs1, and all words but two.
+    #[test]
+    fn jalr_at_the_edges() {
+        let (ret, to_x0, to_x5) = (i_type(0x67, 0, 0, 1, 0), i_type(0x67, 0, 0, 0, 0), i_type(0x67, 0, 5, 1, 0));
+        for version in [A_2_0, A_2_1] {
+            assert_eq!(check_loop(version, &[ret, SC]), rejected(0, 1));
+        }
+        assert_eq!(check_loop(A_2_0, &[LR, ret]), rejected(2, 6));
+        assert_eq!(check_loop(A_2_0, &[LR, ret, to_x5, SC]), rejected(2, 4));
+        assert_eq!(check_loop(A_2_0, &[LR, ret, to_x5]), rejected(2, 4));
+        assert_eq!(check_loop(A_2_0, &[0x1000232F, to_x0, 0x188023AF]), Ok(Verdict::Accepted));
+        let mut block = vec![LR];
+        block.extend([ret; 14]);
+        block.push(SC);
+        assert_eq!(check_loop(A_2_0, &block), Ok(Verdict::Accepted));
+        block.insert(1, ret);
+        assert_eq!(check_loop(A_2_0, &block), Err(6));
+    }
+
+    /// "for 2.0 only for loops with no JALR; show that these are exactly the loops that 2.1 accepts".
+    #[test]
+    fn without_a_jalr() {
+        let (rng, mut met) = (&mut Rng::new(7), [[0; 2]; 2]);
+        for _ in 0..20_000 {
+            let block = loop_block(rng);
+            let has_jalr = block.iter().any(|&word| matches!(decode(word), Some(Instr::Jalr { .. })));
+            let [under_2_0, under_2_1] = [A_2_0, A_2_1].map(|version| check_loop(version, &block));
+            let accepted = under_2_0 == Ok(Verdict::Accepted);
+            assert_eq!(under_2_1 == Ok(Verdict::Accepted), accepted && !has_jalr);
+            assert!(has_jalr || under_2_0 == under_2_1);
+            met[has_jalr as usize][accepted as usize] += 1;
+        }
+        assert!(met.iter().flatten().all(|&times| times > 1000), "{met:?}");
+    }
+
+    /// "Refusals: any other version is 2", and before 6.
+    #[test]
+    fn versions() {
+        for version in [0, 1, 2, 19, 22, 200, 210, 255, 256 + 20, 256 + 21, (1 << 32) + 20, (1 << 32) + 21, (1 << 63) + 20, u64::MAX] {
+            for block in [&[][..], &[LR], &[LR, SC], &[SC, LR], &[LR; 17]] {
+                assert_eq!(check_loop(version, block), Err(2), "{version}");
+            }
+        }
     }
 }

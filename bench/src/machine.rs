@@ -1,5 +1,5 @@
 //! Harts, memory, steps, device writes and yields. What breaks a reservation is quoted from document 01, who is told of it from request 3 of
-//! document 02, the size of the sets from request 5.
+//! document 02, the size of the sets from request 5, what the two versions of the A extension differ in from request 7.
 
 use crate::word::{decode, Alu, Atomic, AtomicOp, Cond, Instr};
 
@@ -8,6 +8,9 @@ pub const MAX_HARTS: usize = 8;
 pub const SMALLEST_SET: u64 = 8;
 pub const LARGEST_SET: u64 = 4096;
 pub const DEFAULT_SET: u64 = 64;
+/// The versions of the A extension, ten times their number: "Keep both versions, chosen in the state, 2.1 the default".
+pub const A_2_0: u64 = 20;
+pub const A_2_1: u64 = 21;
 
 #[derive(Clone, Copy, PartialEq, Eq, Debug)]
 pub struct Reservation {
@@ -28,6 +31,8 @@ pub struct State {
     pub harts: [Hart; MAX_HARTS],
     /// How many bytes the set of every reservation has. Any number may be given; what is performed has an allowed one.
     pub set_size: u64,
+    /// That of the A extension. Any number may be given; what is performed has an allowed one.
+    pub version: u64,
 }
 
 /// The lent memory.
@@ -95,6 +100,10 @@ impl Watch for Unwatched {
 
 pub fn set_size_allowed(size: u64) -> bool {
     (SMALLEST_SET..=LARGEST_SET).contains(&size) && size.is_power_of_two()
+}
+
+pub fn version_allowed(version: u64) -> bool {
+    version == A_2_0 || version == A_2_1
 }
 
 /// "Memory base and length are now multiples of the larger of 64 and the size."
@@ -314,14 +323,15 @@ fn trap<T, E: From<Trap>>(cause: u8, value: u64) -> Result<T, E> {
 
 impl Default for State {
     fn default() -> Self {
-        State { count: 1, harts: [Hart::default(); MAX_HARTS], set_size: DEFAULT_SET }
+        State { count: 1, harts: [Hart::default(); MAX_HARTS], set_size: DEFAULT_SET, version: A_2_1 }
     }
 }
 
 impl State {
+    /// "any other version is 2", as all that is wrong with a state: so after 1 and before 3.
     fn check(&self, memory: &Memory) -> Result<(), u8> {
         memory.check(self.set_size)?;
-        if !(1..=MAX_HARTS).contains(&self.count) {
+        if !version_allowed(self.version) || !(1..=MAX_HARTS).contains(&self.count) {
             return Err(2);
         }
         let sound = |hart: &Hart| {
@@ -378,10 +388,13 @@ impl State {
         self.check(memory)
     }
 
-    /// "a device write that touches a byte the LR read".
+    /// "a device write that touches a byte the LR read". But "Under 2.0 a device write breaks no reservation, because 004 speaks only of harts".
     pub(crate) fn perform_device(&mut self, memory: &mut Memory, addr: u64, data: &[u8]) -> HartMask {
         let place = (addr - memory.base) as usize;
         memory.bytes[place..place + data.len()].copy_from_slice(data);
+        if self.version == A_2_0 {
+            return 0;
+        }
         let end = addr + data.len() as u64;
         self.break_those(|_, r| r.addr < end && addr < r.addr + r.width)
     }
@@ -561,7 +574,7 @@ fn cas_quad(hart: &mut Hart, bytes: &mut [u8], a: Atomic) -> bool {
 #[cfg(test)]
 mod tests {
     use super::*;
-    use crate::generate::words::{atomic, s_type, CAS, D, LR, Q, SC, W};
+    use crate::generate::words::{atomic, s_type, AMOS, CAS, D, LR, Q, SC, W};
 
     const SIZES: [u64; 10] = [8, 16, 32, 64, 128, 256, 512, 1024, 2048, 4096];
     const BAD_SIZES: [u64; 25] = [
@@ -742,6 +755,79 @@ mod tests {
             for (at, size, broke) in [(0x1003, 1, 0), (0x1000, 4, 0), (0x1003, 2, 1), (0x1007, 1, 1), (0x1007, 8, 1), (0x1008, 8, 0)] {
                 assert_eq!(Machine::reserved(set_size, 0x1004, 4).device(at, size), Ok(broke), "sets of {set_size}, {at:#x}");
             }
+        }
+    }
+
+    const BAD_VERSIONS: [u64; 14] =
+        [0, 1, 2, 19, 22, 200, 210, 255, 256 + 20, 256 + 21, (1 << 32) + 20, (1 << 32) + 21, (1 << 63) + 21, u64::MAX];
+
+    /// "Under 2.0 a device write breaks no reservation": of several harts neither, and the bytes are written all the same. Every offset about the
+    /// bytes of an LR.
+    #[test]
+    fn device_write_by_version() {
+        for (width, size) in [4, 8].into_iter().flat_map(|width| (1..=8).map(move |size| (width, size))) {
+            for at in 0x1000 - size..=0x1000 + width {
+                let touches = at + size > 0x1000 && at < 0x1000 + width;
+                for (version, broke) in [(A_2_1, if touches { 0b101 } else { 0 }), (A_2_0, 0)] {
+                    let mut machine = Machine::reserved(64, 0x1000, width);
+                    (machine.state.version, machine.state.count) = (version, 3);
+                    machine.state.harts[2].reservation = Some(Reservation { addr: 0x1000, width });
+                    machine.bytes.fill(0xFF);
+                    let before = machine.state.clone();
+                    assert_eq!(machine.device(at, size as usize), Ok(broke), "{version}, {size} bytes at {at:#x}");
+                    assert_eq!(machine.state == before, broke == 0);
+                    let written = machine.bytes.iter().enumerate().filter(|(_, &byte)| byte == 0).map(|(place, _)| place as u64);
+                    assert!(written.eq(at..at + size));
+                }
+            }
+        }
+    }
+
+    /// "All else is the same": what harts write breaks, an SC and a yield drop their own, and the SC behind a device write stores.
+    #[test]
+    fn harts_under_2_0() {
+        let reserved = || {
+            let mut machine = Machine::reserved(64, 0x1040, 4);
+            machine.state.version = A_2_0;
+            machine
+        };
+        assert_eq!(reserved().step(1, s_type(0, 5, 0, 0), 0x107F), HART_0);
+        assert_eq!(reserved().step(1, s_type(0, 5, 0, 0), 0x1080), NONE);
+        assert_eq!(reserved().step(1, atomic(AMOS[0], W, 0, 6, 5, 7), 0x1040), HART_0);
+        assert_eq!(reserved().step(1, atomic(CAS, D, 0, 6, 5, 7), 0x1048), HART_0);
+        let mut other = reserved();
+        other.state.harts[1].reservation = Some(Reservation { addr: 0x1044, width: 4 });
+        assert_eq!(other.step(1, atomic(SC, W, 0, 7, 5, 8), 0x1044), Ok(Outcome::Sc { success: true, broke: 1 }));
+        let mut machine = reserved();
+        assert_eq!(machine.device(0x1040, 4), Ok(0));
+        assert_eq!(machine.step(0, atomic(SC, W, 0, 7, 5, 8), 0x1040), Ok(Outcome::Sc { success: true, broke: 0 }));
+        assert_eq!(machine.state.harts[0].reservation, None);
+        let mut machine = reserved();
+        assert_eq!(machine.yield_hart(), Ok(()));
+        assert_eq!((machine.state.harts[0].reservation, machine.state.version), (None, A_2_0));
+    }
+
+    /// "any other version is 2": after 1, whatever else is wrong with the state, and before 3, 4 and 5.
+    #[test]
+    fn versions() {
+        let of = |version| {
+            let mut machine = Machine::new(64);
+            machine.state.version = version;
+            machine
+        };
+        assert_eq!((of(A_2_0).refusal(), of(A_2_1).refusal()), (None, None));
+        assert_eq!(State::default().version, A_2_1);
+        for version in BAD_VERSIONS {
+            assert_eq!(of(version).refusal(), Some(2), "{version}");
+            let (mut size, mut base, mut count) = (of(version), of(version), of(version));
+            (size.state.set_size, base.base, count.state.count) = (48, 32, 9);
+            assert_eq!((size.refusal(), base.refusal(), count.refusal()), (Some(1), Some(1), Some(2)), "{version}");
+            let mut bytes = vec![0; 4096];
+            let memory = &mut Memory { base: 0, bytes: &mut bytes };
+            assert_eq!(of(version).state.step(memory, 2), Err(2));
+            assert_eq!(of(version).state.yield_hart(memory, 8), Err(2));
+            assert_eq!(of(version).state.device(memory, 0, 9, 0), Err(2));
+            assert_eq!(of(version).state.device(memory, 4096, 1, 0), Err(2));
         }
     }
 

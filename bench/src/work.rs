@@ -3,7 +3,7 @@
 use crate::generate::builder::{event_bytes, low_bytes, DEVICE, STEP, YIELD};
 use crate::generate::words::{atomic, b_type, i_type, j_type, r_type, s_type, u_type, AMOS, CAS, D, LR, NOP, Q, SC, W};
 use crate::generate::Rng;
-use crate::machine::State;
+use crate::machine::{State, A_2_0};
 
 pub const BASE: u64 = 0x8000_0000;
 
@@ -38,6 +38,11 @@ impl Work {
         self
     }
 
+    fn under_2_0(mut self) -> Self {
+        self.state.version = A_2_0;
+        self
+    }
+
     fn step(&mut self, hart: usize) {
         self.events.extend(event_bytes(STEP, hart as u8, 0, 0, 0));
     }
@@ -64,8 +69,8 @@ impl Work {
     }
 }
 
-/// The work of long runs, with a name for each. Those with another set size than 64 come last.
-pub fn long_runs(events: usize) -> [(&'static str, Work); 10] {
+/// The work of long runs, with a name for each. Those with another set size than 64 come last, and behind them those under 2.0.
+pub fn long_runs(events: usize) -> [(&'static str, Work); 11] {
     [
         ("compute, 4 harts", compute(4, events)),
         ("memory, 4 harts, 64 KiB", memory(4, 65_536, events)),
@@ -77,6 +82,7 @@ pub fn long_runs(events: usize) -> [(&'static str, Work); 10] {
         ("device writes, 8 harts", device_writes(8, 65_536, events)),
         ("LR/SC on sets of 8, 8 harts", contention(8, events).with_sets_of(8)),
         ("stores beside sets of 4096", stores(8, 262_144, events).with_sets_of(4096)),
+        ("device writes, 2.0, 8 harts", device_writes(8, 65_536, events).under_2_0()),
     ]
 }
 

@@ -80,8 +80,9 @@ numbered! {
     /// The set size isn't a power of two from 8 to 4,096; or the memory's length isn't 64 to 1,048,576, its base is above
     /// 2^40, or one of them isn't a multiple of the larger of 64 and the set size.
     Memory = 1, "the set size or the memory's length or base is wrong";
-    /// The count isn't 1 to 8; or, of a used hart, x0, the pc or the reservation is wrong.
-    State = 2, "the state is wrong";
+    /// The version of A is neither 2.0 nor 2.1, of a state or of a check of a loop; the count isn't 1 to 8; or, of a used
+    /// hart, x0, the pc or the reservation is wrong.
+    State = 2, "the version of A or the state is wrong";
     Hart = 3, "the hart is not below the count";
     DeviceSize = 4, "a device write of 0 or more than 8 bytes";
     DeviceAddress = 5, "a device write not wholly in memory";
@@ -200,9 +201,9 @@ pub struct Answer {
     /// The harts whose reservation the event broke. A retired write of another hart (a store, an AMO, an equal AMOCAS, an SC
     /// that stored) breaks a reservation if it touches a byte of its set, the aligned bytes around the LR's address, as many
     /// as the state's `set_size`; a device write if it touches a byte that the LR read; both also where they write the bytes
-    /// that were there. A step never has its own hart in it, also where it drops that hart's reservation (an SC) or replaces
-    /// it (an LR). A yield, a trap and everything else that writes nothing has none. Only harts below the count are ever in
-    /// it; what an unused hart seems to hold isn't looked at.
+    /// that were there. Under A 2.0 a device write breaks none. A step never has its own hart in it, also where it drops that
+    /// hart's reservation (an SC) or replaces it (an LR). A yield, a trap and everything else that writes nothing has none.
+    /// Only harts below the count are ever in it; what an unused hart seems to hold isn't looked at.
     pub broke: Harts,
 }
 

@@ -2,7 +2,8 @@
 
 use crate::raw::*;
 use crate::{
-    Answer, Cause, Event, Harts, Outcome, Reason, Refusal, RefusedAt, Replayed, State, Stop, Trap, Verdict, STATE_SIZE,
+    Answer, Cause, Event, Harts, Outcome, Reason, Refusal, RefusedAt, Replayed, State, Stop, Trap, Verdict, A_2_1,
+    STATE_SIZE,
 };
 
 /// The room that a report needs, in bytes.
@@ -55,8 +56,8 @@ pub fn report(file: &[u8]) -> Result<String, RefusedAt> {
     Err(RefusedAt { refusal: refusal(number), place: place.parse().expect("a decimal number") })
 }
 
-/// Whether a block of instruction words is a retry loop that is accepted. Refused by 6 if it has fewer than 2 or more
-/// than 16 words.
+/// Whether a block of instruction words is a retry loop that is accepted under A 2.1. Refused by 6 if it has fewer than 2
+/// or more than 16 words.
 ///
 /// ```
 /// use floecavern::{check_loop, Reason, Refusal, Verdict};
@@ -66,11 +67,29 @@ pub fn report(file: &[u8]) -> Result<String, RefusedAt> {
 /// assert_eq!(check_loop(&[]), Err(Refusal::Block));
 /// ```
 pub fn check_loop(words: &[u32]) -> Result<Verdict, Refusal> {
+    check_loop_for(A_2_1, words)
+}
+
+/// The same under a version of A: under [`A_2_0`](crate::A_2_0) a later word may be a JALR too. Refused by 2 if the version
+/// is neither of the two, and then by 6. That an accepted loop finishes if it is left alone is claimed of the blocks that
+/// are accepted under [`A_2_1`]: these are exactly those that are accepted under 2.0 and have no JALR. A later version of
+/// this crate may ask more of this function.
+///
+/// ```
+/// use floecavern::{check_loop_for, Reason, Refusal, Verdict, A_2_0, A_2_1};
+/// // lr.w x6,(x5); jalr x0,0(x1); sc.w x7,x8,(x5)
+/// let block = [0x1002_a32f, 0x0000_8067, 0x1882_a3af];
+/// assert_eq!(check_loop_for(A_2_0, &block), Ok(Verdict::Accepted));
+/// assert_eq!(check_loop_for(A_2_1, &block), Ok(Verdict::Rejected { place: 1, reason: Reason::NotPermitted }));
+/// assert_eq!(check_loop_for(22, &block), Err(Refusal::State));
+/// ```
+pub fn check_loop_for(version: u64, words: &[u32]) -> Result<Verdict, Refusal> {
     // A block of 17 or more words is refused whatever the words are, so that 17 of them say it.
     let bytes: Vec<u8> = words.iter().take(17).flat_map(|w| w.to_le_bytes()).collect();
     // SAFETY: the pointer comes from a slice of this length.
-    match unsafe { floecavern_check_loop(bytes.as_ptr(), bytes.len()) } {
+    match unsafe { floecavern_check_loop_for(version, bytes.as_ptr(), bytes.len()) } {
         0 => Ok(Verdict::Accepted),
+        2 => Err(Refusal::State),
         6 => Err(Refusal::Block),
         BAD_SIZE => unreachable!("the length is a multiple of 4"),
         r => {
@@ -112,7 +131,8 @@ pub fn step(state: &mut State, base: u64, mem: &mut [u8], hart: usize) -> Result
     })
 }
 
-/// A device writes the `size` lowest bytes of `data` at `addr`, the lowest first. Refusals 1, 2, 4 and 5.
+/// A device writes the `size` lowest bytes of `data` at `addr`, the lowest first. Under A 2.0 it breaks no reservation.
+/// Refusals 1, 2, 4 and 5.
 pub fn device_write(
     state: &mut State,
     base: u64,

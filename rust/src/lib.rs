@@ -39,8 +39,8 @@
 //! # }
 //! ```
 //!
-//! The set of a reservation has 64 bytes, [`SET_SIZE`], or as many as [`Machine::with_set_size`] says; [`State`] has an
-//! example of 16.
+//! The set of a reservation has 64 bytes, [`SET_SIZE`], or as many as [`Machine::with_set_size`] says. The machine follows
+//! A 2.1, [`A_2_1`], or the version that [`Machine::with_version`] says. [`State`] has an example of each.
 //!
 //! A refusal can't be passed over by mistake:
 //!
@@ -60,12 +60,14 @@ mod state;
 
 pub use answers::{Answer, Cause, Outcome, Reason, Refusal, RefusedAt, Replayed, Stop, Trap, Verdict};
 pub use calls::{
-    check_loop, device_write, replay, report, report_text, run, run_bytes, step, yield_hart, REPORT_ROOM, ROW_SIZE,
+    check_loop, check_loop_for, device_write, replay, report, report_text, run, run_bytes, step, yield_hart,
+    REPORT_ROOM, ROW_SIZE,
 };
 pub use event::Event;
 pub use harts::Harts;
 pub use machine::{Machine, MAX_MEMORY};
-pub use state::{Reservation, State, MAX_HARTS, SET_SIZE, STATE_SIZE};
+pub use state::{Reservation, State, A_2_0, A_2_1, MAX_HARTS, SET_SIZE, STATE_SIZE};
 
-/// The version of this interface, which is also that of `include/floecavern.h`.
+/// The version of this interface, which is also that of `include/floecavern.h`. Those of the extension A are [`A_2_0`] and
+/// [`A_2_1`].
 pub const VERSION: &str = env!("CARGO_PKG_VERSION");

@@ -16,7 +16,7 @@ pub struct Machine {
 
 impl Machine {
     /// `harts` harts with their pc at `base`, registers 0 and no reservations; `len` bytes of memory, all 0; the set size
-    /// [`SET_SIZE`](crate::SET_SIZE). Refusals 1 and 2.
+    /// [`SET_SIZE`](crate::SET_SIZE) and the version [`A_2_1`](crate::A_2_1). Refusals 1 and 2.
     ///
     /// ```
     /// use floecavern::{Machine, Refusal};
@@ -58,6 +58,20 @@ impl Machine {
         Machine::from_parts(self.state, self.base, self.mem)
     }
 
+    /// The machine with another version of A that it follows. Refusals 1 and 2: 2 if the version is neither
+    /// [`A_2_0`](crate::A_2_0) nor [`A_2_1`](crate::A_2_1).
+    ///
+    /// ```
+    /// use floecavern::{Machine, Refusal, A_2_0};
+    /// assert_eq!(Machine::new(1, 0, 64)?.with_version(A_2_0)?.state.version, 20);
+    /// assert_eq!(Machine::new(1, 0, 64)?.with_version(22), Err(Refusal::State));
+    /// # Ok::<(), Refusal>(())
+    /// ```
+    pub fn with_version(mut self, version: u64) -> Result<Machine, Refusal> {
+        self.state.version = version;
+        Machine::from_parts(self.state, self.base, self.mem)
+    }
+
     /// Puts words into memory from `addr` on, 4 bytes each with the lowest first. This is no event: it breaks no
     /// reservation. Refusal 5, and nothing is written, if they aren't wholly in memory.
     pub fn put_words(&mut self, addr: u64, words: &[u32]) -> Result<(), Refusal> {
@@ -80,7 +94,8 @@ impl Machine {
         calls::step(&mut self.state, self.base, &mut self.mem, hart)
     }
 
-    /// A device writes the `size` lowest bytes of `data` at `addr`, the lowest first. Refusals 1, 2, 4 and 5.
+    /// A device writes the `size` lowest bytes of `data` at `addr`, the lowest first. Under A 2.0 it breaks no reservation.
+    /// Refusals 1, 2, 4 and 5.
     pub fn device_write(&mut self, addr: u64, size: usize, data: u64) -> Result<Answer, Refusal> {
         calls::device_write(&mut self.state, self.base, &mut self.mem, addr, size, data)
     }

@@ -6,10 +6,16 @@ use std::array::from_fn;
 pub const MAX_HARTS: usize = 8;
 
 /// The bytes of a state.
-pub const STATE_SIZE: usize = 2320;
+pub const STATE_SIZE: usize = 2328;
 
 /// The set size that a state has by default, and that the machine of a case file always has.
 pub const SET_SIZE: u64 = 64;
+
+/// Version 2.0 of the extension A: a device write breaks no reservation, and a retry loop may have a JALR.
+pub const A_2_0: u64 = 20;
+
+/// Version 2.1 of the extension A, which a state has by default, and the machine of a case file always.
+pub const A_2_1: u64 = 21;
 
 /// What an LR made: the `width` bytes, 4 or 8, at `addr`.
 #[derive(Clone, Copy, Debug, PartialEq, Eq)]
@@ -28,8 +34,9 @@ struct Slot {
 }
 
 /// The state: of harts 0 to `count - 1`, 1 to 8 of them, the registers `x[hart][register]`, the pc and the reservation; and
-/// for all of them `set_size`, how many bytes the set of a reservation has: a power of two from 8 to 4,096. A set lies at a
-/// multiple of its size, around the LR's address. No call changes the size.
+/// for all of them `set_size`, how many bytes the set of a reservation has, a power of two from 8 to 4,096, and `version`,
+/// that of A which the machine follows, [`A_2_0`] or [`A_2_1`]. A set lies at a multiple of its size, around the LR's
+/// address. No call changes the size or the version.
 ///
 /// Two states are equal if all of this is, of unused harts too. How a reservation is written down in bytes doesn't count.
 ///
@@ -61,6 +68,25 @@ struct Slot {
 /// assert_eq!(narrow.step(0), Err(Refusal::Memory));
 /// # Ok::<(), Refusal>(())
 /// ```
+///
+/// A board that follows A 2.0, where a device write breaks no reservation:
+///
+/// ```
+/// use floecavern::{Harts, Machine, Outcome, Refusal, A_2_0};
+/// // lr.w x6,(x5) and sc.w x7,x8,(x5), with a device write to the bytes that the LR read between them.
+/// let mut machine = Machine::new(1, 0, 128)?;
+/// machine.put_words(0, &[0x1002_a32f, 0x1882_a3af])?;
+/// machine.state.x[0][5] = 64;
+/// let mut old = machine.clone().with_version(A_2_0)?;
+///
+/// machine.step(0)?;
+/// assert_eq!(machine.device_write(64, 4, 7)?.broke, Harts::from_bits(1));
+/// assert_eq!(machine.step(0)?.outcome, Outcome::ScFailed);
+/// old.step(0)?;
+/// assert_eq!(old.device_write(64, 4, 7)?.broke, Harts::NONE);
+/// assert_eq!(old.step(0)?.outcome, Outcome::ScStored);
+/// # Ok::<(), Refusal>(())
+/// ```
 #[repr(C)]
 #[derive(Clone, Copy, Debug)]
 pub struct State {
@@ -69,6 +95,7 @@ pub struct State {
     pub pc: [u64; MAX_HARTS],
     slots: [Slot; MAX_HARTS],
     pub set_size: u64,
+    pub version: u64,
 }
 
 const _: () = assert!(std::mem::size_of::<State>() == STATE_SIZE);
@@ -76,10 +103,11 @@ const _: () = assert!(std::mem::offset_of!(State, x) == 8);
 const _: () = assert!(std::mem::offset_of!(State, pc) == 2056);
 const _: () = assert!(std::mem::offset_of!(State, slots) == 2120);
 const _: () = assert!(std::mem::offset_of!(State, set_size) == 2312);
+const _: () = assert!(std::mem::offset_of!(State, version) == 2320);
 const _: () = assert!(cfg!(all(target_arch = "x86_64", target_os = "linux")), "libcapi.a is for x86-64 Linux");
 
-/// No harts, all registers and pcs 0, no reservations, the set size [`SET_SIZE`]. A state of zeros is another one: its set
-/// size is 0, which is refused by 1.
+/// No harts, all registers and pcs 0, no reservations, the set size [`SET_SIZE`], the version [`A_2_1`]. A state of zeros is
+/// another one: its set size is 0, which is refused by 1.
 impl Default for State {
     fn default() -> State {
         State {
@@ -88,13 +116,14 @@ impl Default for State {
             pc: [0; MAX_HARTS],
             slots: [Slot::default(); MAX_HARTS],
             set_size: SET_SIZE,
+            version: A_2_1,
         }
     }
 }
 
 impl State {
-    /// `count` harts, all registers and pcs 0, no reservations, the set size [`SET_SIZE`]. A count that isn't 1 to 8 is
-    /// refused by 2 when it is used.
+    /// `count` harts, all registers and pcs 0, no reservations, the set size [`SET_SIZE`], the version [`A_2_1`]. A count
+    /// that isn't 1 to 8 is refused by 2 when it is used.
     pub fn new(count: u64) -> State {
         State { count, ..State::default() }
     }
@@ -122,7 +151,7 @@ impl State {
     pub fn to_bytes(&self) -> [u8; STATE_SIZE] {
         let slots = self.slots.iter().flat_map(|s| [s.held, s.addr, s.width]);
         let harts = self.x.into_iter().flatten().chain(self.pc).chain(slots);
-        let numbers = [self.count].into_iter().chain(harts).chain([self.set_size]);
+        let numbers = [self.count].into_iter().chain(harts).chain([self.set_size, self.version]);
         let mut bytes = [0; STATE_SIZE];
         for (place, number) in bytes.chunks_exact_mut(8).zip(numbers) {
             place.copy_from_slice(&number.to_le_bytes());
@@ -140,6 +169,7 @@ impl State {
             pc: from_fn(|h| number(2056 + 8 * h)),
             slots: from_fn(|h| slot(2120 + 24 * h)),
             set_size: number(2312),
+            version: number(2320),
         }
     }
 
@@ -157,6 +187,7 @@ impl PartialEq for State {
             && self.pc == other.pc
             && reservations(self) == reservations(other)
             && self.set_size == other.set_size
+            && self.version == other.version
     }
 }
 

@@ -1,5 +1,6 @@
 use floecavern::{
-    check_loop, report, report_text, Cause, Reason, Refusal, RefusedAt, Verdict, SET_SIZE, STATE_SIZE, VERSION,
+    check_loop, report, report_text, Cause, Reason, Refusal, RefusedAt, Verdict, A_2_0, A_2_1, SET_SIZE, STATE_SIZE,
+    VERSION,
 };
 
 /// The example of document 01: a case of two harts and five events.
@@ -42,7 +43,7 @@ fn loops() {
     assert_eq!(check_loop(&[LOOP[0]; 17]), Err(Refusal::Block));
 }
 
-/// The header's functions have the same texts for the same numbers, and no others; its version and its sizes are these.
+/// The header's functions have the same texts for the same numbers, and no others; its versions and its sizes are these.
 #[test]
 fn header_says_the_same() {
     let header = include_str!("../../include/floecavern.h");
@@ -61,4 +62,6 @@ fn header_says_the_same() {
     assert!(header.contains(&format!("#define FLOECAVERN_VERSION \"{VERSION}\"\n")));
     assert!(header.contains(&format!("#define FLOECAVERN_STATE_SIZE {STATE_SIZE}\n")));
     assert!(header.contains(&format!("#define FLOECAVERN_SET_SIZE {SET_SIZE}\n")));
+    assert!(header.contains(&format!("#define FLOECAVERN_A_2_0 {A_2_0}\n")));
+    assert!(header.contains(&format!("#define FLOECAVERN_A_2_1 {A_2_1}\n")));
 }

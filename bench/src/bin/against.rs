@@ -2,13 +2,14 @@
 //! as many shared objects as the other, which differ in where its code lies: that alone makes up to a quarter of a single call's time, so the
 //! least counts. A ratio is the new version's time by the old one's.
 //!
-//! A version from before request 5 takes states without the set size: it is given the bytes before that, and sets of 64 bytes alone.
+//! A version of the library from before request 5 takes states without the set size: it is given the bytes before that, and sets of 64 bytes
+//! alone. One from before request 7 takes states without the version of the A extension: it is given the bytes before that, and 2.1 alone.
 
 use bench::calls::BAD_SIZE;
 use bench::case::EVENT;
 use bench::clock::now;
 use bench::layout;
-use bench::machine::DEFAULT_SET;
+use bench::machine::{State, A_2_1, DEFAULT_SET};
 use bench::shared::{arguments, Shared};
 use bench::work::{self, Work, BASE};
 use std::ffi::c_void;
@@ -20,8 +21,8 @@ type Run = unsafe extern "C" fn(*mut u8, usize, u64, *mut u8, usize, *const u8, 
 type OfHart = unsafe extern "C" fn(*mut u8, usize, u64, *mut u8, usize, usize, *mut u8, usize) -> u64;
 type Device = unsafe extern "C" fn(*mut u8, usize, u64, *mut u8, usize, u64, usize, u64, *mut u8, usize) -> u64;
 
-/// The lengths of a state, without and with the set size.
-const STATE_LENGTHS: [usize; 2] = [layout::SET_SIZE, layout::SIZE];
+/// The lengths of a state: without the set size, with that and without the version of the A extension, with both.
+const STATE_LENGTHS: [usize; 3] = [layout::SET_SIZE, layout::VERSION, layout::SIZE];
 
 /// The functions of one version.
 #[derive(Clone, Copy)]
@@ -121,14 +122,23 @@ fn single(library: Library, machine: &mut Kept, kind: &str) {
     }
 }
 
+/// Why a state can't be given to all versions, the shortest of which takes so many bytes of it.
+fn left_out(state: &State, shortest: usize) -> Option<&'static str> {
+    match state {
+        state if state.set_size != DEFAULT_SET && shortest <= layout::SET_SIZE => Some("sets of 64 bytes alone"),
+        state if state.version != A_2_1 && shortest <= layout::VERSION => Some("A 2.1 alone"),
+        _ => None,
+    }
+}
+
 fn main() {
     let (batches, places) = arguments(library);
-    let takes_sizes = places.iter().flatten().all(|library| library.state_len == layout::SIZE);
+    let shortest = places.iter().flatten().map(|library| library.state_len).min().expect("two libraries at least");
     println!("Long runs: one call of {LONG} events; million events a second");
     println!("{:<28} {:>9} {:>9} {:>7}", "", "old", "new", "ratio");
     for (name, work) in work::long_runs(LONG) {
-        if work.state.set_size != DEFAULT_SET && !takes_sizes {
-            println!("{name:<28} skipped: a version has sets of {DEFAULT_SET} bytes alone");
+        if let Some(alone) = left_out(&work.state, shortest) {
+            println!("{name:<28} skipped: a library has {alone}");
             continue;
         }
         let [old, new] = in_turns(batches, &work, &places, |library, machine| run(library, machine, &work.events));

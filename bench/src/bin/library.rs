@@ -8,11 +8,12 @@ use bench::broken::Broken;
 use bench::calls::{self, Call, Machine, BAD_SIZE, REFUSED, TRAP};
 use bench::case::EVENT;
 use bench::generate::builder::low_bytes;
-use bench::generate::{case, log, loop_block, refused_call, run_call, scenario, Rng, Scenario};
+use bench::generate::{case, log, loop_block, no_version, refused_call, run_call, scenario, Rng, Scenario};
 use bench::log::ROW;
-use bench::machine::{State, MAX_HARTS};
+use bench::machine::{State, A_2_0, A_2_1, MAX_HARTS};
 use bench::reached::Reached;
 use bench::sizes::Sizes;
+use bench::versions::{Blocks, Versions};
 use bench::{floecavern, layout};
 use std::collections::BTreeMap;
 use std::fs;
@@ -32,6 +33,7 @@ struct Tally {
     held: BTreeMap<usize, u64>,
     broken: Broken,
     sizes: Sizes,
+    versions: Versions,
     replays: Reached,
     /// Logs cut in two parts, both replayed as the whole.
     cut: u64,
@@ -71,6 +73,7 @@ impl<'a> Pair<'a> {
         }
         tally.count(&call, ours, &a);
         tally.sizes.count_call(&self.ours, ours);
+        tally.versions.count_call(&self.ours, &call, ours);
         self.calls.push(call);
         self.told = a;
         Ok(ours)
@@ -82,7 +85,7 @@ impl<'a> Pair<'a> {
         for earlier in &self.calls {
             calls::perform(&mut before, earlier, &mut vec![0; earlier.told()]);
         }
-        let mut what = format!("{} at base {:#x}, {}{told} bytes to tell in\n", shown(call), before.base, shown_size(&before.state));
+        let mut what = format!("{} at base {:#x}, {}{told} bytes to tell in\n", shown(call), before.base, shown_settings(&before.state));
         what += &format!("library: answer {:#x}, told {:02x?}\n", theirs.0, &theirs.1[..told]);
         what += &format!("bench:   answer {:#x}, told {:02x?}\n", ours.0, &ours.1[..told]);
         for (part, a, b) in [("state", &self.theirs.state, &self.ours.state), ("memory", &self.theirs.memory, &self.ours.memory)] {
@@ -101,9 +104,9 @@ impl<'a> Pair<'a> {
     }
 }
 
-/// The set size, if it is a state.
-fn shown_size(state: &[u8]) -> String {
-    layout::read(state).map_or(String::new(), |state| format!("sets of {} bytes, ", state.set_size))
+/// The set size and the version, if it is a state.
+fn shown_settings(state: &[u8]) -> String {
+    layout::read(state).map_or(String::new(), |state| format!("sets of {} bytes, version {}, ", state.set_size, state.version))
 }
 
 /// A call and its arguments, without a run's events and a replay's rows.
@@ -124,6 +127,7 @@ impl Tally {
             held: BTreeMap::new(),
             broken: Broken::default(),
             sizes: Sizes::default(),
+            versions: Versions::default(),
             replays: Reached::new(&[1, 2, 12, 13]),
             cut: 0,
         }
@@ -151,6 +155,7 @@ impl Tally {
             *self.held.entry(held).or_default() += 1;
             self.broken.count(&state, machine.base, &machine.memory, &given.events);
             self.sizes.count_events(&state, machine.base, &machine.memory, &given.events);
+            self.versions.count_events(&state, machine.base, &machine.memory, &given.events);
         }
     }
 
@@ -161,6 +166,7 @@ impl Tally {
         }
         self.broken.print(false);
         self.sizes.print();
+        self.versions.print();
         println!("  answers:");
         for ((call, answer), number) in &self.answers {
             // Those of replays come below.
@@ -272,19 +278,24 @@ fn compare_report(seed: u64, out: &mut [u8]) -> Result<(), Difference> {
     Ok(())
 }
 
-fn compare_block(seed: u64, answers: &mut BTreeMap<u64, u64>) -> Result<(), Difference> {
+/// A block under both versions and under a number that is none, and by the call that takes no version.
+fn compare_block(seed: u64, blocks: &mut Blocks) -> Result<(), Difference> {
     let rng = &mut Rng::new(seed);
     let mut words: Vec<u8> = loop_block(rng).iter().flat_map(|w| w.to_le_bytes()).collect();
     if rng.percent(2) {
         words.push(0);
     }
-    let (ours, theirs) = (calls::check_loop(&words), floecavern::check_loop(&words));
-    if ours != theirs {
-        let what = format!("check_loop: library {theirs:#x}, bench {ours:#x}\n");
-        return Err(Difference { what, files: vec![("words", words)] });
+    let versions = [A_2_0, A_2_1, no_version(rng)];
+    let answers = versions.map(|version| (calls::check_loop_for(version, &words), floecavern::check_loop_for(version, &words)));
+    let without = (calls::check_loop(&words), floecavern::check_loop(&words));
+    let names = versions.map(|version| format!("check_loop_for version {version}")).into_iter().chain(["check_loop".into()]);
+    for (name, (ours, theirs)) in names.zip(answers.into_iter().chain([without])) {
+        if ours != theirs {
+            let what = format!("{name}: library {theirs:#x}, bench {ours:#x}\n");
+            return Err(Difference { what, files: vec![("words", words)] });
+        }
     }
-    // Without the place.
-    *answers.entry(if ours == BAD_SIZE { ours } else { ours % 256 + if ours >= 256 { 256 } else { 0 } }).or_default() += 1;
+    blocks.count(&words, answers.map(|(ours, _)| ours));
     Ok(())
 }
 
@@ -309,17 +320,6 @@ fn stop(difference: Difference, keep: &str, kind: &str, seed: u64) {
     std::process::exit(1);
 }
 
-fn print_blocks(answers: &BTreeMap<u64, u64>) {
-    for (&answer, number) in answers {
-        match answer {
-            0 => println!("    accepted: {number}"),
-            6 => println!("    refused 6: {number}"),
-            BAD_SIZE => println!("    bad size: {number}"),
-            n => println!("    rejected, reason {}: {number}", n - 256),
-        }
-    }
-}
-
 fn main() -> std::io::Result<()> {
     let arguments: Vec<String> = std::env::args().collect();
     let [_, keep, first, count] = &arguments[..] else {
@@ -337,9 +337,9 @@ fn main() -> std::io::Result<()> {
     let mut out = vec![0; floecavern::REPORT_ROOM + 16];
     each_seed(keep, "case", seeds.clone(), |seed| compare_report(seed, &mut out));
     println!("{count} case files, all the same");
-    let mut answers = BTreeMap::new();
-    each_seed(keep, "block", seeds, |seed| compare_block(seed, &mut answers));
-    println!("{count} blocks, all the same");
-    print_blocks(&answers);
+    let mut blocks = Blocks::default();
+    each_seed(keep, "block", seeds, |seed| compare_block(seed, &mut blocks));
+    println!("{count} blocks, each under both versions and under no version, all the same");
+    blocks.print();
     Ok(())
 }

@@ -3,12 +3,12 @@
 use super::words::{atomic, b_type, i_type, j_type, r_type, word, D, LR, SC, W};
 use super::Rng;
 
-/// An accepted loop, or one with up to two places changed.
+/// A loop that 2.0 accepts, and 2.1 too if it has no JALR; or one without an SC, of a wrong length, or with up to three places changed.
 pub fn loop_block(rng: &mut Rng) -> Vec<u32> {
-    let length = if rng.percent(4) { rng.pick(&[0, 1, 17, 18]) } else { 2 + rng.below(15) } as i64;
+    let (length, sc) = shape(rng);
     let funct3 = rng.pick(&[W, D]);
     let address = if rng.percent(15) { 0 } else { rng.reg() };
-    let sc = if length > 1 { 1 + rng.below(length as u64 - 1) as i64 } else { 0 };
+    let jalrs = rng.pick(&[0, 0, 10, 50, 100]);
     let mut block = Vec::new();
     for place in 0..length {
         let other = |r: u32| if r == address { (r + 1) & 31 } else { r };
@@ -21,13 +21,36 @@ pub fn loop_block(rng: &mut Rng) -> Vec<u32> {
         } else {
             let forward = 4 * (1 + rng.below(20) as i64);
             let to = if place > sc && rng.percent(50) { -4 * place } else { forward };
-            permitted(rng, rd, rs2, to)
+            match (rng.percent(jalrs), rng.percent(25)) {
+                (true, true) => jalr(rng, 0, address),
+                (true, false) => jalr(rng, rd, address),
+                (false, _) => permitted(rng, rd, rs2, to),
+            }
         });
+    }
+    if sc > 1 && rng.percent(10) {
+        // Reason 4, unless the address is in x0.
+        block[1 + rng.below(sc as u64 - 1) as usize] = jalr(rng, address, address);
     }
     for _ in 0..rng.below(3) {
         change(rng, &mut block, address);
     }
     block
+}
+
+/// How many words a block has, and the place of its SC: now and then the last one, or none.
+fn shape(rng: &mut Rng) -> (i64, i64) {
+    let length = match rng.below(100) {
+        0..=3 => rng.pick(&[0, 1, 17, 18]),
+        4..=15 => 16,
+        _ => 2 + rng.below(15),
+    };
+    let sc = match rng.below(100) {
+        0..=2 => length,
+        3..=24 => length.saturating_sub(1),
+        _ => 1 + rng.below(length.max(2) - 1),
+    };
+    (length as i64, sc.min(length) as i64)
 }
 
 /// A word that may stand in a loop; a jump goes by `to`.
@@ -45,13 +68,19 @@ fn permitted(rng: &mut Rng, rd: u32, rs2: u32, to: i64) -> u32 {
     }
 }
 
+/// A JALR to anywhere. Now and then its funct3 isn't 0: then it is no JALR, and no other instruction either.
+fn jalr(rng: &mut Rng, rd: u32, address: u32) -> u32 {
+    let rs1 = if rng.percent(30) { address } else { rng.reg() };
+    i_type(0x67, if rng.percent(2) { rng.reg() & 7 } else { 0 }, rd, rs1, rng.below(4096) as i64)
+}
+
 fn change(rng: &mut Rng, block: &mut [u32], address: u32) {
     if block.is_empty() {
         return;
     }
     let place = rng.below(block.len() as u64) as usize;
     let rd = rng.reg();
-    block[place] = match rng.below(8) {
+    block[place] = match rng.below(9) {
         0 => block[place] ^ 1 << rng.below(32),
         1 => word(rng, address),
         2 => i_type(0x13, 0, address, rd, 1),
@@ -59,6 +88,9 @@ fn change(rng: &mut Rng, block: &mut [u32], address: u32) {
         4 => j_type(rd, 2 * (rng.below(64) as i64 - 32)),
         5 => atomic(rng.pick(&[LR, SC]), rng.pick(&[W, D]), 0, rd, if rng.percent(80) { address } else { rd }, 0),
         6 => b_type(0, rd, rd, -4 * place as i64),
-        _ => i_type(0x67, 0, rd, address, 0),
+        _ => {
+            let rd = rng.pick(&[address, address, 0, rd]);
+            jalr(rng, rd, address)
+        }
     };
 }

@@ -5,7 +5,7 @@
 use super::words::{atomic, i_type, r_type, s_type, AMOS, CAS, D, LR, NOP, Q, SC, W};
 use super::Rng;
 use crate::case::{EVENT, MAX_FILE, TABLE};
-use crate::machine::{memory_unit, Memory, Outcome, Reservation, State, DEFAULT_SET, SMALLEST_SET};
+use crate::machine::{memory_unit, Memory, Outcome, Reservation, State, A_2_0, A_2_1, DEFAULT_SET, SMALLEST_SET};
 
 pub const STEP: u8 = 1;
 pub const DEVICE: u8 = 2;
@@ -38,7 +38,7 @@ pub struct Builder {
     /// State and memory after the events so far.
     pub state: State,
     bytes: Vec<u8>,
-    /// Whether it is for a case file: then it fits in one, sets have 64 bytes, and nobody holds a reservation at the start.
+    /// Whether it is for a case file: then it fits in one, sets have 64 bytes, the version is 2.1, and nobody holds a reservation at the start.
     case_file: bool,
 }
 
@@ -63,11 +63,12 @@ impl Builder {
         }
     }
 
-    /// For calls on a state: sets of any allowed size, a memory up to the largest, reservations at the start.
+    /// For calls on a state: sets of any allowed size, either version, a memory up to the largest, reservations at the start.
     pub fn for_state(rng: &mut Rng) -> Self {
         let mut b = Builder::for_case(rng);
         b.case_file = false;
         b.state.set_size = if rng.percent(5) { DEFAULT_SET } else { SMALLEST_SET << rng.below(10) };
+        b.state.version = rng.pick(&[A_2_0, A_2_1]);
         let unit = memory_unit(b.state.set_size);
         b.base &= !(unit - 1);
         if unit > 64 {

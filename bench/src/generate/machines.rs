@@ -3,10 +3,10 @@
 use super::builder::Builder;
 use super::damage::damaged_body;
 use super::makers::{contention, crowded, edges, gathered, guided, program};
-use super::Rng;
+use super::{no_version, Rng};
 use crate::calls::{Call, Machine};
 use crate::layout;
-use crate::machine::{memory_unit, DEFAULT_SET, MAX_HARTS, SMALLEST_SET};
+use crate::machine::{memory_unit, A_2_0, A_2_1, DEFAULT_SET, MAX_HARTS, SMALLEST_SET};
 
 /// A machine with an events body. The body isn't refused unless the machine is.
 pub struct Scenario {
@@ -31,6 +31,7 @@ pub fn scenario(rng: &mut Rng) -> Scenario {
         0..=7 => damage_set_size(rng, &mut machine),
         8..=13 => damage_fit(rng, &mut machine, b.state.set_size),
         14..=27 => damage(rng, &mut machine),
+        28..=33 => damage_version(rng, &mut machine),
         _ => return Scenario { machine, events },
     }
     if rng.percent(40) {
@@ -59,6 +60,16 @@ fn damage_set_size(rng: &mut Rng, m: &mut Machine) {
     match rng.below(10) {
         0..=3 => fit(rng, m, size),
         4..=6 => damage_memory(rng, m),
+        _ => {}
+    }
+}
+
+/// A number that is no version, now and then beside something that 1 refuses.
+fn damage_version(rng: &mut Rng, m: &mut Machine) {
+    layout::put(&mut m.state, layout::VERSION, no_version(rng));
+    match rng.below(10) {
+        0 => damage_set_size(rng, m),
+        1 => damage_memory(rng, m),
         _ => {}
     }
 }
@@ -173,7 +184,7 @@ fn damage(rng: &mut Rng, m: &mut Machine) {
             m.memory.resize(length, 0);
         }
         2 if rng.percent(20) => m.memory.resize(rng.pick(&[(1 << 20) + 1, (1 << 20) + 64, 1 << 21]), 0),
-        3 if rng.percent(50) => m.state.resize(rng.pick(&[0, 8, layout::SET_SIZE, 2304, 2319, 2321, 2328, 4640]), 0),
+        3 if rng.percent(50) => m.state.resize(rng.pick(&[0, 8, layout::SET_SIZE, 2319, layout::VERSION, 2321, 2327, 2329, 2336, 4656]), 0),
         _ if m.state.len() == layout::SIZE => damage_state(rng, m),
         _ => {}
     }
@@ -184,7 +195,7 @@ fn damage_state(rng: &mut Rng, m: &mut Machine) {
     // Seldom an unused hart: then nothing is wrong.
     let hart = if rng.percent(80) { rng.below(count.clamp(1, 8)) } else { rng.below(8) } as usize;
     let state = &mut m.state;
-    match rng.below(9) {
+    match rng.below(10) {
         0 => layout::put(state, layout::COUNT, rng.pick(&[0, 0, 9, 10, 256, (1 << 32) + 1, 1 << 32, 1 << 63, u64::MAX])),
         1 => layout::put(state, layout::COUNT, 1 + rng.below(8)),
         2 => layout::put(state, layout::x(hart, 0), 1 << rng.below(64)),
@@ -192,6 +203,8 @@ fn damage_state(rng: &mut Rng, m: &mut Machine) {
         4..=6 => damage_reservation(rng, m, hart),
         // Right, if length and base fit.
         7 => layout::put(state, layout::SET_SIZE, SMALLEST_SET << rng.below(10)),
+        // Right.
+        8 => layout::put(state, layout::VERSION, rng.pick(&[A_2_0, A_2_1])),
         _ => {
             let place = rng.below(layout::SIZE as u64) as usize;
             state[place] ^= 1 << rng.below(8);

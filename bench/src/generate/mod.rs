@@ -13,7 +13,7 @@ use builder::Builder;
 use makers::{contention, gathered, guided, program};
 
 use crate::case::read_case;
-use crate::machine::State;
+use crate::machine::{version_allowed, State, A_2_0, A_2_1};
 
 pub use blocks::loop_block;
 pub use logs::log;
@@ -34,6 +34,25 @@ pub fn case(seed: u64) -> Vec<u8> {
     };
     let b = Builder::for_case(rng);
     maker(rng, b).file()
+}
+
+/// A number that is no version of the A extension: below the two, above them, or one of them in its lowest bits alone.
+pub fn no_version(rng: &mut Rng) -> u64 {
+    loop {
+        let version = match rng.below(10) {
+            0 => 0,
+            1 => rng.below(A_2_0),
+            2 | 3 => rng.pick(&[A_2_0 - 1, A_2_1 + 1]),
+            4 => A_2_1 + rng.below(256 - A_2_1),
+            5 => rng.pick(&[2, 200, 210, 255]),
+            6 | 7 => rng.pick(&[A_2_0, A_2_1]) + (1 << (8 + rng.below(56))),
+            8 => rng.value(),
+            _ => rng.next(),
+        };
+        if !version_allowed(version) {
+            return version;
+        }
+    }
 }
 
 /// A case file with a log of it. The file is mostly one that isn't refused.

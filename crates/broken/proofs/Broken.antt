@@ -13,7 +13,9 @@ use borrow.Author.Tests.{eqb-true, eqb-false, eq-eqb, ne-eqb, not-true}
 use Rattle.word.proofs.TestLaws.{bool-cases, contrary, and-both}
 use Rattle.word.proofs.ChooseLaws.{cond-all}
 use Rattle.word.proofs.WordLaws.{split-lt}
+use Rattle.settings.specs.Settings.{devicesBreak}
 use Rattle.settings.specs.declared.Settings.{Settings}
+use Rattle.settings.proofs.SettingsLaws.{devices-exact}
 use Rattle.reserve.specs.Range.{touches, setOf}
 use Rattle.reserve.specs.Reserve.{slot, reaches, breaksOf, ownOf, observeOf, brokenOf, observeAllOf}
 use Rattle.reserve.specs.declared.Reservation.{Reservation}
@@ -148,7 +150,8 @@ module _ (base : ℕ) (m : Machine) (e : Event) where
         rw (notice-exact base m v e (N.Write g b n) .1 c, ne-eqb g k d, touches-exact b n (setOf (setSize m) a) (setSize m) .1 t)
     held-breaks a w v (byHart g b n d (inr c) t) =
         rw (notice-exact base m v e (N.ScStored g b n) .1 c, ne-eqb g k d, touches-exact b n (setOf (setSize m) a) (setSize m) .1 t)
-    held-breaks a w v (byDevice b n c t) = rw (notice-exact base m v e (N.DeviceWrite b n) .1 c, touches-exact b n a w .1 t)
+    held-breaks a w v (byDevice y b n c t) =
+        rw (notice-exact base m v e (N.DeviceWrite b n) .1 c, devices-exact (m .state .settings) .1 y, touches-exact b n a w .1 t)
 
     breaks-held : (n : Notice) → ComesFrom base m e n → (a w : ℕ) → reaches (m .state .settings) k n a w ≡ true → Reached base m e k a w
     breaks-held N.Quiet c a w t = contrary t refl
@@ -160,13 +163,15 @@ module _ (base : ℕ) (m : Machine) (e : Event) where
     breaks-held (N.Write g b n) c a w t =
         let both = and-both (not (eqb g k)) (touches b n (setOf (setSize m) a) (setSize m)) t in
         byHart g b n (eqb-false g k (not-true _ (both .0))) (inl c) (touches-exact b n (setOf (setSize m) a) (setSize m) .0 (both .1))
-    breaks-held (N.DeviceWrite b n) c a w t = byDevice b n c (touches-exact b n a w .0 t)
+    breaks-held (N.DeviceWrite b n) c a w t =
+        let both = and-both (devicesBreak (m .state .settings)) (touches b n a w) t in
+        byDevice (devices-exact (m .state .settings) .0 (both .0)) b n c (touches-exact b n a w .0 (both .1))
     breaks-held (N.Yield g) c a w t = contrary t refl
 
     -- a refused event is no write
     unreached : (a w : ℕ) → Refuses (outcomeAt base m e) → Reached base m e k a w → ⊥
     unreached a w r (byHart g b n d c t) = unrefused (outcomeAt base m e) (writes-retire base m e g b n c .1) r
-    unreached a w r (byDevice b n c t) = c .taken r
+    unreached a w r (byDevice y b n c t) = c .taken r
 
     breaks-loses : Valid base m → k < m .state .count → (r : Reservation) → reservationOf (m .state) k ≡ r
         → breaksOf (m .state .settings) k (noticeAt base m e) r ≡ true → Loses base m e k
@@ -212,7 +217,7 @@ module _ (base : ℕ) (m : Machine) (e : Event) where
 
         go : {a w : ℕ} → Reached base m e k a w → ⊥
         go (byHart g b n d c t) = d (step-of (sym (writes-retire base m e g b n c .0) ∙ s))
-        go (byDevice b n c t) = absurd (step-device (sym s ∙ c .theDevice))
+        go (byDevice y b n c t) = absurd (step-device (sym s ∙ c .theDevice))
 
     -- ---- what is held afterwards
 

@@ -4,6 +4,7 @@
 use mathlib.Core.Path.{_≡_}
 use mathlib.Core.Logic.{_≢_}
 use Prim.Native.Nat.{ℕ, _/_, _%_, _^_, _<_}
+use Rattle.settings.specs.Settings.{DevicesBreak}
 use Rattle.reserve.specs.Range.{Touch, setOf}
 use Rattle.reserve.specs.declared.Reservation.the-variants.{None, Held}
 use Rattle.events.specs.declared.Event.{Event}
@@ -19,8 +20,8 @@ module _ (base : ℕ) (m : Machine) (e : Event) (k : ℕ) where
   pub data Reached (a w : ℕ) : Type 0 where
     -- "a retired write by another hart that touches a byte of the set, even with the same bytes"
     byHart : (g b n : ℕ) → g ≢ k → HartWrites base m e g b n → Touch b n (setOf (setSize m) a) (setSize m) → Reached a w
-    -- "a device write that touches a byte the LR read"
-    byDevice : (b n : ℕ) → DeviceWrites base m e b n → Touch b n a w → Reached a w
+    -- "a device write that touches a byte the LR read"; 02 [7]: "Under 2.0 a device write breaks no reservation"
+    byDevice : DevicesBreak (m .state .settings) → (b n : ℕ) → DeviceWrites base m e b n → Touch b n a w → Reached a w
 
   -- hart k is below the count, it holds a reservation, and the event is a write that breaks it
   pub record Loses : Type 0 where

@@ -8,6 +8,8 @@ use lib.Dec.{ltb}
 use lib.ListN.{length}
 use borrow.Author.Tests.{ltb-false}
 use Rattle.word.proofs.ChooseLaws.{cond-all}
+use Rattle.settings.specs.Settings.{versionOk}
+use Rattle.settings.specs.declared.Settings.{Settings}
 use Rattle.retry.specs.Loop.{viewAt, pastSc, reason2, reason3, reason4, reason5, lowestOf, orElse, scanOf, startOf, checkOf}
 use Rattle.retry.specs.declared.View.{View}
 use Rattle.retry.specs.declared.View.the-variants.{Lr, Sc, Plain, Jump, Branch, Other}
@@ -17,7 +19,7 @@ use Rattle.retry.specs.declared.LoopAnswer.the-variants.{Accepted, Rejected, Re
 abbrev pub Small : LoopAnswer → Type 0
 Small Accepted = Unit {0}
 Small (Rejected place reason) = (place ≤ 16) × (reason ≤ 6)
-Small Refused = Unit {0}
+Small (Refused number) = Unit {0}
 
 either : (t : Bool) (a b : ℕ) → a ≤ 6 → b ≤ 6 → cond t a b ≤ 6
 either t a b = cond-all (λ (k : ℕ). k ≤ 6) t a b
@@ -36,25 +38,28 @@ small-else : (place r : ℕ) (rest : LoopAnswer) → place ≤ 16 → r ≤ 6 �
 small-else place zero rest h k s = s
 small-else place (suc r) rest h k s = (h, k)
 
-small-scan : (rs1 width : ℕ) (ws : List ℕ) (n place : ℕ) → place + n ≤ 16 → Small (scanOf rs1 width ws n place)
-unfolding scanOf
-small-scan rs1 width ws zero place h = small-end (pastSc ws place) place (omega arith)
-small-scan rs1 width ws (suc n) place h =
-    small-else place _ _ (omega arith) (small-lowest rs1 width (pastSc ws place) place (viewAt ws place)) (small-scan rs1 width ws n (suc place) (omega arith))
+module _ (settings : Settings) (ws : List ℕ) where
+  small-scan : (rs1 width n place : ℕ) → place + n ≤ 16 → Small (scanOf settings rs1 width ws n place)
+  unfolding scanOf
+  small-scan rs1 width zero place h = small-end (pastSc settings ws place) place (omega arith)
+  small-scan rs1 width (suc n) place h =
+      small-else place _ _ (omega arith) (small-lowest rs1 width (pastSc settings ws place) place (viewAt settings ws place))
+      (small-scan rs1 width n (suc place) (omega arith))
 
-small-start : (v : View) (ws : List ℕ) → length ws ≤ 16 → Small (startOf v ws)
-unfolding startOf
-small-start (Lr rd rs1 width) ws h = small-scan rs1 width ws (length ws) 0 (omega arith)
-small-start (Sc rs1 width) ws h = (omega arith, omega arith)
-small-start (Plain rd) ws h = (omega arith, omega arith)
-small-start (Jump rd offset) ws h = (omega arith, omega arith)
-small-start (Branch offset) ws h = (omega arith, omega arith)
-small-start Other ws h = (omega arith, omega arith)
+  small-start : (v : View) → length ws ≤ 16 → Small (startOf settings v ws)
+  unfolding startOf
+  small-start (Lr rd rs1 width) h = small-scan rs1 width (length ws) 0 (omega arith)
+  small-start (Sc rs1 width) h = (omega arith, omega arith)
+  small-start (Plain rd) h = (omega arith, omega arith)
+  small-start (Jump rd offset) h = (omega arith, omega arith)
+  small-start (Branch offset) h = (omega arith, omega arith)
+  small-start Other h = (omega arith, omega arith)
 
-small-long : (ws : List ℕ) (t : Bool) → ltb 16 (length ws) ≡ t → Small (cond t Refused (startOf (viewAt ws 0) ws))
-small-long ws true e = tt
-small-long ws false e = small-start (viewAt ws 0) ws (ltb-false 16 (length ws) e)
+  small-long : (t : Bool) → ltb 16 (length ws) ≡ t → Small (cond t (Refused 6) (startOf settings (viewAt settings ws 0) ws))
+  small-long true e = tt
+  small-long false e = small-start (viewAt settings ws 0) (ltb-false 16 (length ws) e)
 
-pub small-check : (ws : List ℕ) → Small (checkOf ws)
-unfolding checkOf
-small-check ws = cond-all Small (ltb (length ws) 2) Refused _ tt (small-long ws (ltb 16 (length ws)) refl)
+  pub small-check : Small (checkOf settings ws)
+  unfolding checkOf
+  small-check =
+      cond-all Small (versionOk settings) _ (Refused 2) (cond-all Small (ltb (length ws) 2) (Refused 6) _ tt (small-long (ltb 16 (length ws)) refl)) tt

@@ -5,6 +5,7 @@ use mathlib.Core.List.{List}
 use Prim.Native.Nat.{ℕ, _+_, _*_, _/_, _%_, _≤_, _<_}
 use lib.Dec.{eqb}
 use lib.ListN.{length, take, drop}
+use Rattle.settings.specs.declared.Settings.{Settings}
 use Rattle.retry.specs.Loop.{loopRefusal, checkOf, wordsOf}
 use Rattle.retry.specs.declared.LoopAnswer.{LoopAnswer}
 use Rattle.retry.specs.declared.LoopAnswer.the-variants.{Accepted, Rejected, Refused}
@@ -26,13 +27,13 @@ pub record Reported (file before after : List ℕ) (r : ℕ) : Type 0 where
       → (r ≡ length (reportOf file)) × (r ≤ room) × (take r after ≡ reportOf file) × (drop room after ≡ drop room before)
 
 -- An answer of the checker of retry loops as a number. 01: "If the answer is an enum, a definition provides this paper's number and values for each of
--- its cases. The promises use that definition." 0 and 6 are loopRefusal's; a rejection's place and reason
+-- its cases. The promises use that definition." 0, 2 and 6 are loopRefusal's; a rejection's place and reason
 -- are put into one number.
 abbrev pub loopNumber : LoopAnswer → ℕ
 loopNumber Accepted = loopRefusal Accepted
 loopNumber (Rejected place reason) = 256 * (place + 1) + reason
-loopNumber Refused = loopRefusal Refused
+loopNumber (Refused number) = loopRefusal (Refused number)
 
--- what floecavern_check_loop answers to the bytes of a block's words
-unfoldable pub loopAnswer : List ℕ → ℕ
-loopAnswer bytes = cond (eqb (length bytes % 4) 0) (loopNumber (checkOf (wordsOf bytes (length bytes / 4)))) wrongSize
+-- what floecavern_check_loop and floecavern_check_loop_for answer to the bytes of a block's words; bytes that aren't whole words are told before a refusal
+unfoldable pub loopAnswer : Settings → List ℕ → ℕ
+loopAnswer settings bytes = cond (eqb (length bytes % 4) 0) (loopNumber (checkOf settings (wordsOf bytes (length bytes / 4)))) wrongSize

@@ -8,7 +8,7 @@ use lib.ListN.{length}
 use Rattle.word.specs.Bytes.{toLe, IsBytes}
 use Rattle.word.specs.Memory.{part}
 use Rattle.machine.specs.declared.State.{State}
-use Rattle.layout.specs.Layout.{stateIn, stateOver, wordBytes}
+use Rattle.layout.specs.Layout.{stateSize, stateIn, stateOver, wordBytes}
 use Rattle.events.specs.declared.Event.{Event}
 use Rattle.model.specs.Perform.{answerOf, memoryOf}
 use Rattle.model.specs.Run.{Result, resultOf}
@@ -65,11 +65,12 @@ pub record Told (a : Answer) (m state : List ℕ) (r : ℕ) (state′ mem′ val
   pub bytes : state′ ≡ stateIf (isRetired (a .outcome)) state (a .state)
   pub memory : mem′ ≡ m
 
--- What an event e leaves, and its answer r: state, memory and value before and after. Where the state isn't 2320 bytes or the value isn't 8, nothing
--- is written. (A memory of a wrong length is 01's refusal 1, and so is a set size that isn't allowed, as that of a state of zeros: 02 [5].)
+-- What an event e leaves, and its answer r: state, memory and value before and after. Where the state isn't 2328 bytes or the value isn't 8, nothing
+-- is written. (A memory of a wrong length is 01's refusal 1, and so is a set size that isn't allowed, as that of a state of zeros: 02 [5];
+-- a version that isn't is 2: 02 [7].)
 pub record PerformedOn (e : Event) (base : ℕ) (state mem value : List ℕ) (r : ℕ) (state′ mem′ value′ : List ℕ) : Type 0 where
-  pub wrong : ((length state ≡ 2320) × (length value ≡ 8) → ⊥) → (r ≡ wrongSize) × (state′ ≡ state) × (mem′ ≡ mem) × (value′ ≡ value)
-  pub right : length state ≡ 2320 → length value ≡ 8
+  pub wrong : ((length state ≡ stateSize) × (length value ≡ 8) → ⊥) → (r ≡ wrongSize) × (state′ ≡ state) × (mem′ ≡ mem) × (value′ ≡ value)
+  pub right : length state ≡ stateSize → length value ≡ 8
       → Told (answerOf base mem (stateIn state) e) (memoryOf base mem (stateIn state) e) state r state′ mem′ value′
 
 -- ---- a run
@@ -101,11 +102,11 @@ pub record RunTold (a : Result) (state : List ℕ) (r : ℕ) (state′ mem′ to
   pub bytes : state′ ≡ stateIf (isPerformed (a .ran .verdict)) state (a .ran .state)
   pub memory : mem′ ≡ a .mem
 
--- What a run of an events body leaves, and its answer r. Where the state isn't 2320 bytes or the room for two numbers isn't 16, nothing is written. (A
+-- What a run of an events body leaves, and its answer r. Where the state isn't 2328 bytes or the room for two numbers isn't 16, nothing is written. (A
 -- body of a wrong length is 01's refusal 11.)
 pub record RanOn (body : List ℕ) (budget base : ℕ) (state mem told : List ℕ) (r : ℕ) (state′ mem′ told′ : List ℕ) : Type 0 where
-  pub wrong : ((length state ≡ 2320) × (length told ≡ 16) → ⊥) → (r ≡ wrongSize) × (state′ ≡ state) × (mem′ ≡ mem) × (told′ ≡ told)
-  pub right : length state ≡ 2320 → length told ≡ 16 → RunTold (resultOf base mem (stateIn state) body budget) state r state′ mem′ told′
+  pub wrong : ((length state ≡ stateSize) × (length told ≡ 16) → ⊥) → (r ≡ wrongSize) × (state′ ≡ state) × (mem′ ≡ mem) × (told′ ≡ told)
+  pub right : length state ≡ stateSize → length told ≡ 16 → RunTold (resultOf base mem (stateIn state) body budget) state r state′ mem′ told′
 
 -- ---- what stays
 
@@ -123,7 +124,7 @@ pub record Called (base : ℕ) (e : Event) (state mem : List ℕ) (r : ℕ) (s m
   pub value′ : List ℕ
   pub performed : PerformedOn e base state mem value r s m value′
   pub eight : length value ≡ 8
-  pub whole : length s ≡ 2320
+  pub whole : length s ≡ stateSize
   pub bytes : IsBytes s
   pub memory : IsBytes m
 

@@ -3,9 +3,11 @@ mod replay;
 mod steps;
 
 use retry::LoopAnswer;
+use settings::Settings;
 ghost use mathlib.Core.Path.{_≡_};
 ghost use Prim.Native.Nat.{_/_};
 ghost use lib.ListN.{length};
+ghost use Rattle.settings.specs.Settings.{defaults, ofVersion};
 ghost use Rattle.retry.specs.Loop.{checkOf, wordsOf};
 ghost use Rattle.capi.specs.Answers.{Reported, loopNumber, loopAnswer};
 
@@ -24,23 +26,38 @@ pub extern "C" fn floecavern_report(file: &[u8], out: &mut [u8]) -> u64
 }
 
 // The checker's answer as a number.
-fn loop_number(bytes: &[u8]) -> u64
-    ensures { λ r. ⌜ r ≡ loopNumber (checkOf (wordsOf (now (bytes .entry)) (length (now (bytes .entry)) / 4))) ⌝ }
+fn loop_number(settings: Settings, bytes: &[u8]) -> u64
+    ensures { λ r. ⌜ r ≡ loopNumber (checkOf settings (wordsOf (now (bytes .entry)) (length (now (bytes .entry)) / 4))) ⌝ }
 {
-    match retry::check_bytes(bytes) {
+    match retry::check_bytes(settings, bytes) {
         LoopAnswer::Accepted => 0,
         LoopAnswer::Rejected { place, reason } => 256 * (place as u64 + 1) + reason as u64,
-        LoopAnswer::Refused => 6,
+        LoopAnswer::Refused { number } => number as u64,
     }
 }
 
-// Whether words, 4 bytes each and the lowest first, are a retry loop that document 01 accepts. 2^64 - 1 if they are not whole words.
-#[no_mangle]
-pub extern "C" fn floecavern_check_loop(words: &[u8]) -> u64
-    ensures { λ r. ⌜ r ≡ loopAnswer (now (words .entry)) ⌝ }
+// Whether words, 4 bytes each and the lowest first, are a retry loop that is accepted. 2^64 - 1 if they are not whole words.
+fn check_words(settings: Settings, words: &[u8]) -> u64
+    ensures { λ r. ⌜ r ≡ loopAnswer settings (now (words .entry)) ⌝ }
 {
     if words.len() % 4 != 0 {
         return BAD_SIZE;
     }
-    loop_number(words)
+    loop_number(settings, words)
+}
+
+// The same under A 2.1.
+#[no_mangle]
+pub extern "C" fn floecavern_check_loop(words: &[u8]) -> u64
+    ensures { λ r. ⌜ r ≡ loopAnswer defaults (now (words .entry)) ⌝ }
+{
+    check_words(settings::defaults(), words)
+}
+
+// The same under a version of A.
+#[no_mangle]
+pub extern "C" fn floecavern_check_loop_for(version: u64, words: &[u8]) -> u64
+    ensures { λ r. ⌜ r ≡ loopAnswer (ofVersion version) (now (words .entry)) ⌝ }
+{
+    check_words(settings::of_version(version), words)
 }

@@ -1,6 +1,7 @@
 // A log replayed on a machine whose state the caller keeps as bytes.
 use crate::BAD_SIZE;
 use crate::steps::write_if;
+use layout::STATE_SIZE;
 use layout::read_state;
 use layout::store_words;
 use rows::Stop;
@@ -99,7 +100,7 @@ pub extern "C" fn floecavern_replay(
         r (now (state .exit)) (now (mem .exit)) (now (told .exit))
         ⌝ }
 {
-    if state.len() != 2320 {
+    if state.len() != STATE_SIZE {
         return BAD_SIZE;
     }
     if told.len() != 24 {

@@ -1,6 +1,7 @@
 // Events and runs on a machine whose state the caller keeps as bytes. layout/specs/Layout.antt has the offsets.
 use crate::BAD_SIZE;
 use events::Event;
+use layout::STATE_SIZE;
 use layout::read_state;
 use layout::store_words;
 use layout::write_state;
@@ -12,7 +13,7 @@ ghost use mathlib.Core.Path.{_≡_};
 ghost use mathlib.Core.List.{[], _∷_};
 ghost use lib.ListN.{length};
 ghost use Rattle.events.specs.declared.Event.the-variants.{Step, Device, Yield};
-ghost use Rattle.layout.specs.Layout.{wordBytes};
+ghost use Rattle.layout.specs.Layout.{stateSize, wordBytes};
 ghost use Rattle.capi.specs.Events.{stateIf, codeOf, valueOf, isRetired, Small, PerformedOn, verdictCode, placeOf, isPerformed, SmallVerdict, RanOn};
 
 // The answer to an event as a number.
@@ -57,7 +58,7 @@ fn is_retired(o: Outcome) -> bool
 
 // Puts a state over the bytes if t holds.
 pub fn write_if(t: bool, state: &mut [u8], s: State)
-    requires { ⌜ length (now state) ≡ 2320 ⌝ }
+    requires { ⌜ length (now state) ≡ stateSize ⌝ }
     ensures { λ _. ⌜ now (state .exit) ≡ stateIf t (now (state .entry)) s ⌝ }
 {
     if t {
@@ -72,7 +73,7 @@ fn perform(state: &mut [u8], base: u64, mem: &mut [u8], e: Event, value: &mut [u
         r (now (state .exit)) (now (mem .exit)) (now (value .exit))
         ⌝ }
 {
-    if state.len() != 2320 {
+    if state.len() != STATE_SIZE {
         return BAD_SIZE;
     }
     if value.len() != 8 {
@@ -195,7 +196,7 @@ pub extern "C" fn floecavern_run(
         r (now (state .exit)) (now (mem .exit)) (now (ran .exit))
         ⌝ }
 {
-    if state.len() != 2320 {
+    if state.len() != STATE_SIZE {
         return BAD_SIZE;
     }
     if ran.len() != 16 {

@@ -17,7 +17,7 @@ use Rattle.reserve.specs.declared.Slot.{Slot}
 use Rattle.machine.specs.Rules.{Shaped}
 use Rattle.machine.specs.State.{refusalOf}
 use Rattle.machine.specs.declared.State.{State}
-use Rattle.layout.specs.Layout.{stateIn, stateOver}
+use Rattle.layout.specs.Layout.{stateSize, stateIn, stateOver}
 use Rattle.layout.proofs.Back.{count-in, settings-in, register-in, pc-in, reservation-in, shaped-in, ranged-in}
 use Rattle.layout.proofs.Back.{count-kept, settings-kept, register-kept, pc-kept, reservation-kept, read-back}
 use Rattle.effect.specs.Execute.{regAt}
@@ -48,7 +48,7 @@ pub same-hart : (h : ℕ) (state : List ℕ) → HartKept h state state
 same-hart h state = record { registers = λ r k. refl; pc = refl; reservation = refl }
 
 -- a hart that a state doesn't use, and whose registers and pc are those of the bytes, keeps its bytes
-pub over-kept : (state : List ℕ) → length state ≡ 2320 → IsBytes state → (s : State) → Shaped s → (h : ℕ) → h < 8 → s .count ≤ h
+pub over-kept : (state : List ℕ) → length state ≡ stateSize → IsBytes state → (s : State) → Shaped s → (h : ℕ) → h < 8 → s .count ≤ h
     → ((r : ℕ) → regAt (s .x) h r ≡ regAt (stateIn state .x) h r) → getD (s .pc) h 0 ≡ getD (stateIn state .pc) h 0
     → HartKept h state (stateOver state s)
 unfolding regAt
@@ -88,7 +88,7 @@ module _ (e : Event) (base : ℕ) (state mem value : List ℕ) (r : ℕ) (state�
   -- An answer of 256 or more, be it a trap, a refusal or a wrong size, leaves state and memory as they were.
   pub unretired-stays : 256 ≤ r → (state′ ≡ state) × (mem′ ≡ mem)
   unretired-stays h =
-      sized (length state) 2320 (length value) 8
+      sized (length state) stateSize (length value) 8
       (λ l k.
       let t = p .right l k in
       let f = unretired (answer .outcome) (omega (arith, t .answer)) in (
@@ -97,7 +97,7 @@ module _ (e : Event) (base : ℕ) (state mem value : List ℕ) (r : ℕ) (state�
       ))
       (λ w. (p .wrong w .1, p .wrong w .2))
 
-  module _ (whole : length state ≡ 2320) (eight : length value ≡ 8) (bytes : IsBytes state) where
+  module _ (whole : length state ≡ stateSize) (eight : length value ≡ 8) (bytes : IsBytes state) where
     -- what holds of the bytes as they were, and of those with the answer's state put over them
     by-answer : (P : List ℕ → Type 0) → (isRetired (answer .outcome) ≡ false → P state) → P (stateOver state (answer .state)) → P state′
     by-answer P f g = subst P (sym (p .right whole eight .bytes)) (go (isRetired (answer .outcome)) refl)
@@ -182,13 +182,13 @@ module _ (body : List ℕ) (budget base : ℕ) (state mem told : List ℕ) (r : 
   -- A refused run and a wrong size leave state and memory as they were.
   pub refused-stays : 256 ≤ r → (state′ ≡ state) × (mem′ ≡ mem)
   refused-stays h =
-      sized (length state) 2320 (length told) 16
+      sized (length state) stateSize (length told) 16
       (λ l k.
       result-all base mem (stateIn state) body budget (λ (a : Result). RunTold a state r state′ mem′ told′ → (state′ ≡ state) × (mem′ ≡ mem))
       (λ number place t. (t .bytes, t .memory)) (λ n es t. absurd (omega (arith, t .answer))) (p .right l k))
       (λ w. (p .wrong w .1, p .wrong w .2))
 
-  module _ (whole : length state ≡ 2320) (sixteen : length told ≡ 16) (bytes : IsBytes state) where
+  module _ (whole : length state ≡ stateSize) (sixteen : length told ≡ 16) (bytes : IsBytes state) where
     abbrev before : Machine
     before = record { state = stateIn state; mem = mem }
 
@@ -233,7 +233,7 @@ module _ (body : List ℕ) (budget base : ℕ) (state mem told : List ℕ) (r : 
 
 -- ---- calls one after another
 
-next : (base : ℕ) (e : Event) (state mem : List ℕ) (r : ℕ) (s m : List ℕ) → length state ≡ 2320 → IsBytes state → IsBytes mem
+next : (base : ℕ) (e : Event) (state mem : List ℕ) (r : ℕ) (s m : List ℕ) → length state ≡ stateSize → IsBytes state → IsBytes mem
     → Called base e state mem r s m
     → _≡_ {A = Machine} (record { state = stateIn s; mem = m }) (nextOf base (record { state = stateIn state; mem = mem }) e)
 unfolding nextOf
@@ -243,7 +243,7 @@ next base e state mem r s m whole bytes b c =
     (event-means e base state mem (c .value) r s m (c .value′) p whole (c .eight) bytes b) (p .right whole (c .eight) .memory)
 
 -- Calls one after another perform events one after another: what the bytes mean at the end is the machine after them.
-pub calls-mean : (base : ℕ) (es : List Event) (state mem state′ mem′ : List ℕ) → length state ≡ 2320 → IsBytes state → IsBytes mem
+pub calls-mean : (base : ℕ) (es : List Event) (state mem state′ mem′ : List ℕ) → length state ≡ stateSize → IsBytes state → IsBytes mem
     → Calls base es state mem state′ mem′
     → _≡_ {A = Machine} (record { state = stateIn state′; mem = mem′ }) (runOf base (record { state = stateIn state; mem = mem }) es)
 unfolding Calls runOf

@@ -12,7 +12,7 @@ use Rattle.word.proofs.ChooseLaws.{cond-all}
 use Rattle.reserve.specs.declared.Slot.{Slot}
 use Rattle.machine.specs.State.{refusalOf}
 use Rattle.machine.specs.declared.State.{State}
-use Rattle.layout.specs.Layout.{stateIn, stateOver}
+use Rattle.layout.specs.Layout.{stateSize, stateIn, stateOver}
 use Rattle.layout.proofs.Back.{count-in, settings-in, reservation-in, shaped-in, ranged-in, count-kept, settings-kept, read-back}
 use Rattle.events.specs.declared.Event.{Event}
 use Rattle.events.specs.declared.Event.the-variants.{Step}
@@ -103,7 +103,7 @@ module _ (log : List ℕ) (base : ℕ) (state mem told : List ℕ) (r : ℕ) (st
   -- A refused replay and a wrong size leave state and memory as they were. (A stop, which is below 512, does not.)
   pub refused-replay-stays : 512 ≤ r → (state′ ≡ state) × (mem′ ≡ mem)
   refused-replay-stays h =
-      sized (length state) 2320 (length told) 24
+      sized (length state) stateSize (length told) 24
       (λ l k.
       let t = p .right l k in
       let f = refused-code (result .replayed .stop) (small-replay base mem (stateIn state) log) (omega (arith, t .answer)) in (
@@ -112,7 +112,7 @@ module _ (log : List ℕ) (base : ℕ) (state mem told : List ℕ) (r : ℕ) (st
       ))
       (λ w. (p .wrong w .1, p .wrong w .2))
 
-  module _ (whole : length state ≡ 2320) (room : length told ≡ 24) (bytes : IsBytes state) where
+  module _ (whole : length state ≡ stateSize) (room : length told ≡ 24) (bytes : IsBytes state) where
     abbrev before : Machine
     before = record { state = stateIn state; mem = mem }
 

@@ -8,7 +8,7 @@ use native.Mathlib.Omega.{arith}
 use lib.ListN.{length}
 use Rattle.word.specs.Bytes.{le, toLe}
 use Rattle.word.proofs.BytesLaws.{le-toLe}
-use Rattle.layout.specs.Layout.{stateIn}
+use Rattle.layout.specs.Layout.{stateSize, stateIn}
 use Rattle.events.specs.declared.Event.{Event}
 use Rattle.model.specs.Perform.{Machine, brokeAt, outcomeAt}
 use Rattle.model.specs.declared.Outcome.{Outcome}
@@ -29,7 +29,7 @@ retired-value (Refused number) broke h = absurd (omega arith)
 pub tells-losers : (e : Event) (base : ℕ) (state mem value : List ℕ) (r : ℕ) (state′ mem′ value′ : List ℕ)
     → PerformedOn e base state mem value r state′ mem′ value′ → TellsLosers e base state mem r value′
 tells-losers e base state mem value r state′ mem′ value′ p h k =
-    sized (length state) 2320 (length value) 8
+    sized (length state) stateSize (length value) 8
     (λ l n.
     let m : Machine = record { state = stateIn state; mem = mem } in
     let t = p .right l n in

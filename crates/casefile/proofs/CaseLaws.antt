@@ -72,7 +72,7 @@ module _ (file : List ℕ) (m e : ℕ) (least : 40 ≤ m) (next : m ≤ e) (last
         last,
         most,
         refusal-0 (baseOf harts) (e - m) (stateOf (countOf harts) harts) .1
-            ((defaults-allowed, (rw some at q .0, rw some at q .1, rw some at q .2, r .4, r .5)), harts-state harts (baseOf harts) (e - m) r),
+            ((defaults-allowed .0, (rw some at q .0, rw some at q .1, rw some at q .2, r .4, r .5)), harts-state harts (baseOf harts) (e - m) r),
         rw some at c,
         rw rest at w,
       )

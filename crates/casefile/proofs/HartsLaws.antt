@@ -10,6 +10,7 @@ use lib.ListN.{length, getD, replicate, length-replicate, getD-replicate}
 use borrow.Author.Tests.{eqb-true, leb-true, eq-eqb, le-leb}
 use Rattle.word.proofs.TestLaws.{and-both}
 use Rattle.word.proofs.EachLaws.{each-at, each-past, length-each, all-at, all-intro}
+use Rattle.settings.proofs.SettingsLaws.{defaults-allowed}
 use Rattle.reserve.specs.Reserve.{slot}
 use Rattle.reserve.specs.declared.Reservation.the-variants.{None}
 use Rattle.machine.specs.Rules.{HartRules, StateRules, Shaped}
@@ -87,7 +88,7 @@ module _ (body : List ℕ) where
   -- the state of a harts body that 9 doesn't refuse keeps the rules of the machine
   pub harts-state : (base len : ℕ) → HartsRules body → StateRules base len (stateOf (countOf body) body)
   unfolding stateOf
-  harts-state base len r = (r .1, r .2, λ k l. hart k l)
+  harts-state base len r = (r .1, r .2, λ k l. hart k l, defaults-allowed .1)
     where
       hart : (k : ℕ) → k < countOf body → HartRules base len (stateOf (countOf body) body) k
       hart k l =

@@ -8,7 +8,7 @@ use Rattle.word.proofs.ChooseLaws.{_also_}
 use Rattle.isa.specs.Decode as D
 use Rattle.alu.specs.Alu.{aluOf}
 use Rattle.alu.specs.Amo.{minOf, maxOf, amoOf}
-use Rattle.settings.specs.Settings.{sizeOk}
+use Rattle.settings.specs.Settings.{sizeOk, versionOk}
 use Rattle.reserve.specs.Range.{touches, insideOf}
 use Rattle.reserve.specs.Reserve.{coversOf, breaksOf, ownOf, observeOf, brokenOf, observeAllOf}
 use Rattle.machine.specs.State.{lentOk, memoryOk, reservationOk, hartOk, stateOk, refusalOf}
@@ -24,7 +24,7 @@ use Rattle.edges.specs.Edges.{edges}
 pub every-edge : All edges
 unfolding le toLe part splice low toInt ofInt signExtend allBelow
     D.classOf D.storeOf D.branchOf D.atomicOf D.sizedOf D.lrOf D.casOf D.casPairOf D.decodeOf aluOf minOf maxOf amoOf
-    touches insideOf coversOf breaksOf ownOf observeOf brokenOf observeAllOf sizeOk lentOk memoryOk reservationOk hartOk stateOk refusalOf
+    touches insideOf coversOf breaksOf ownOf observeOf brokenOf observeAllOf sizeOk versionOk lentOk memoryOk reservationOk hartOk stateOk refusalOf
     faultOf checked valueAt execStore execLr execSc execAmo execCas execCasPair regAt pairAt execAtomic execute executeWord
     setReg leaves apply fetchOf deviceOf actOn actOf answerOf memoryOf nextOf runOf
     viewOf pastSc wrongOffset clobbers lowestOf scanOf startOf checkOf

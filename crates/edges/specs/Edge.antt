@@ -71,7 +71,7 @@ HoldBytes m [] = Unit {0}
 HoldBytes m ((n at a is v) ∷ rest) = (le (part (m .mem) a n) ≡ v) × HoldBytes m rest
 
 abbrev pub Holds : Edge → Type 0
-Holds (checks words answer) = checkOf words ≡ answer
+Holds (checks words answer) = checkOf defaults words ≡ answer
 Holds (decodes word i) = decodeOf word ≡ i
 Holds (runs words registers bytes events answers registers′ bytes′) =
     (answersOf (start words registers bytes) events ≡ answers)

@@ -8,6 +8,7 @@ use Rattle.word.specs.Bytes.{le, toLe}
 use Rattle.word.specs.Each.{each}
 use Rattle.word.specs.Memory.{part, splice}
 use Rattle.settings.specs.Settings.{defaults}
+use Rattle.settings.specs.declared.Settings.{Settings}
 use Rattle.reserve.specs.Reserve.{slot}
 use Rattle.reserve.specs.declared.Reservation.{Reservation}
 use Rattle.reserve.specs.declared.Reservation.the-variants.{None, Held}
@@ -87,11 +88,16 @@ itemA item = le (part item 8 8)
 abbrev pub itemB : List ℕ → ℕ
 itemB item = le (part item 16 8)
 
--- a state with another setting: number 0 is the size of a reservation's set, and other numbers change nothing
+-- a state with other settings
+abbrev pub withSettings : State → Settings → State
+withSettings s settings = record { count = s .count; settings = settings; x = s .x; pc = s .pc; res = s .res }
+
+-- a state with another setting: number 0 is the size of a reservation's set, 1 the version of A, and other numbers change nothing
 abbrev pub withSetting : State → ℕ → ℕ → State
 withSetting s n v =
-    cond (eqb n 0) (record { count = s .count; settings = record { size = v }; x = s .x; pc = s .pc; res = s .res })
-    s
+    cond (eqb n 0) (withSettings s (record { size = v; version = s .settings .version }))
+    (cond (eqb n 1) (withSettings s (record { size = s .settings .size; version = v }))
+    s)
 
 -- a state with another register, pc or reservation
 abbrev pub withRegister : State → ℕ → ℕ → State

@@ -218,6 +218,7 @@ fn set_setting(s: State, n: u64, v: u64) -> State
     let mut settings = s.settings;
     match n {
         0 => settings.size = v,
+        1 => settings.version = v,
         _ => {}
     }
     let mut t = s;

@@ -8,7 +8,9 @@ use native.Mathlib.Omega.{arith}
 use lib.Dec.{eqb}
 use borrow.Author.Tests.{eqb-true, eqb-false, eq-eqb, ne-eqb}
 use Rattle.word.proofs.TestLaws.{bool-cases, contrary}
+use Rattle.settings.specs.Settings.{DevicesBreak, devicesBreak}
 use Rattle.settings.specs.declared.Settings.{Settings}
+use Rattle.settings.proofs.SettingsLaws.{devices-exact}
 use Rattle.reserve.specs.Range.{Touch, touches, setOf}
 use Rattle.reserve.specs.Reserve.{coversOf, breaksOf, ownOf, observeOf}
 use Rattle.reserve.specs.declared.Reservation.{Reservation}
@@ -40,6 +42,10 @@ module _ (settings : Settings) (h a w : ℕ) where
       → Touch b n (setOf (settings .size) a) (settings .size) → ⊥
   unreached g b n d f = apart-exact b n (setOf (settings .size) a) (settings .size) .0 (rw (ne-eqb g h d) at f)
 
+  -- a device write that did not reach the bytes of the LR, where device writes break reservations
+  untouched : (b n : ℕ) → (devicesBreak settings && touches b n a w) ≡ false → DevicesBreak settings → Touch b n a w → ⊥
+  untouched b n f d = apart-exact b n a w .0 (rw (devices-exact settings .1 d) at f)
+
   -- the LR makes the reservation
   pub made : (r : Reservation) → observeOf settings h (LoadReserved h a w) r ≡ Held a w
   unfolding observeOf breaksOf ownOf
@@ -55,7 +61,8 @@ module _ (settings : Settings) (h a w : ℕ) where
   kept (ScFailed g) s = rw (ne-eqb g h s)
   kept (Write g b n) s =
       bool-cases (eqb g h) (λ t. rw t) (λ t. rw (t, apart-exact b n (setOf (settings .size) a) (settings .size) .1 (s (eqb-false g h t))))
-  kept (DeviceWrite b n) s = rw (apart-exact b n a w .1 s)
+  kept (DeviceWrite b n) s =
+      bool-cases (devicesBreak settings) (λ t. rw (t, apart-exact b n a w .1 (s (devices-exact settings .0 t)))) (λ t. rw t)
   kept (Yield g) s = rw (ne-eqb g h s)
 
   -- where a reservation that is held after a notice comes from: the notice made it, or spared it
@@ -73,7 +80,7 @@ module _ (settings : Settings) (h a w : ℕ) where
   came-by (Write g b n) r f e =
       inr (e, λ d. unreached g b n d (subst (λ (x : Reservation). breaksOf settings h (Write g b n) x ≡ false) e f))
   came-by (DeviceWrite b n) r f e =
-      inr (e, apart-exact b n a w .0 (subst (λ (x : Reservation). breaksOf settings h (DeviceWrite b n) x ≡ false) e f))
+      inr (e, untouched b n (subst (λ (x : Reservation). breaksOf settings h (DeviceWrite b n) x ≡ false) e f))
   came-by (Yield g) r f e = by-hart g None r e (λ s q. none-held q) (λ d q. inr (q, d))
 
   pub came : (n : Notice) (r : Reservation) → observeOf settings h n r ≡ Held a w → (n ≡ LoadReserved h a w) ⊎ ((r ≡ Held a w) × Spares settings h a w n)

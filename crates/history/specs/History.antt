@@ -1,9 +1,10 @@
--- The history that a reservation stands for, in 01's words and without tests. The size of the set is one of the settings.
+-- The history that a reservation stands for, in 01's words and without tests. The size of the set and the version of A are settings.
 -- RULES 5.
 use Prim.Native.Nat.{ℕ}
 use mathlib.Core.Path.{_≡_}
 use mathlib.Core.Logic.{_≢_}
 use mathlib.Core.List.{List, [], _∷_, _++_}
+use Rattle.settings.specs.Settings.{DevicesBreak}
 use Rattle.settings.specs.declared.Settings.{Settings}
 use Rattle.reserve.specs.Range.{Touch, Inside, setOf}
 use Rattle.reserve.specs.Reserve.{observeOf}
@@ -17,15 +18,15 @@ observes settings h [] r = r
 observes settings h (n ∷ ns) r = observes settings h ns (observeOf settings h n r)
 
 -- 01: "What breaks a reservation. Its own hart's next retired LR (replaced) or SC, or a yield; a retired write by another hart that touches a
--- byte of the set, even with the same bytes; a device write that touches a byte the LR read." The notice breaks nothing of what hart h's LR of
--- w bytes at a reserved:
+-- byte of the set, even with the same bytes; a device write that touches a byte the LR read." 02 [7]: "Under 2.0 a device write breaks no
+-- reservation". The notice breaks nothing of what hart h's LR of w bytes at a reserved:
 unfoldable pub Spares : Settings → ℕ → ℕ → ℕ → Notice → Type 0
 Spares settings h a w (LoadReserved g b v) = g ≢ h
 Spares settings h a w (ScStored g b n) = (g ≢ h) × (Touch b n (setOf (settings .size) a) (settings .size) → ⊥)
 Spares settings h a w (ScFailed g) = g ≢ h
 Spares settings h a w (Yield g) = g ≢ h
 Spares settings h a w (Write g b n) = g ≢ h → Touch b n (setOf (settings .size) a) (settings .size) → ⊥
-Spares settings h a w (DeviceWrite b n) = Touch b n a w → ⊥
+Spares settings h a w (DeviceWrite b n) = DevicesBreak settings → Touch b n a w → ⊥
 Spares settings h a w Quiet = Unit {0}
 
 abbrev pub AllSpare : Settings → ℕ → ℕ → ℕ → List Notice → Type 0

@@ -20,7 +20,7 @@ use Rattle.reserve.specs.declared.Reservation.the-variants.{None, Held}
 use Rattle.reserve.specs.declared.Slot.{Slot}
 use Rattle.machine.specs.Rules.{Shaped}
 use Rattle.machine.specs.declared.State.{State}
-use Rattle.layout.specs.Layout.{wordAt, reservationAt, settingsIn, table, stateIn, wordBytes, reservationWords, slotWords, stateOver}
+use Rattle.layout.specs.Layout.{stateSize, wordAt, reservationAt, settingsIn, table, stateIn, wordBytes, reservationWords, slotWords, stateOver}
 use Rattle.machine.specs.Ranged.{Fits64, Ranged}
 use Rattle.layout.proofs.LayoutLaws.{states, length-table, table-at, table-all, length-wordBytes, length-reservation, length-slotWords}
 
@@ -173,7 +173,7 @@ two bytes s = splice (one bytes s) 2056 (wordBytes (s .pc))
 abbrev slotBytes : State → List ℕ
 slotBytes s = wordBytes (slotWords (take (s .count) (s .res)))
 
-module _ (bytes : List ℕ) (whole : length bytes ≡ 2320) (s : State) (shaped : Shaped s) where
+module _ (bytes : List ℕ) (whole : length bytes ≡ stateSize) (s : State) (shaped : Shaped s) where
   size-x : length (wordBytes (s .x)) ≡ 2048
   size-x = omega (arith, length-wordBytes (s .x), shaped .registers)
 
@@ -250,7 +250,7 @@ module _ (bytes : List ℕ) (whole : length bytes ≡ 2320) (s : State) (shaped 
 
   -- so they are the same settings
   settings-same : settingsIn (stateOver bytes s) ≡ settingsIn bytes
-  settings-same = rw (settings-kept 2312 8 (omega arith))
+  settings-same = rw (settings-kept 2312 8 (omega arith), settings-kept 2320 8 (omega arith))
 
   -- a register or a pc that has the value its bytes had keeps its bytes
   module _ (isBytes : IsBytes bytes) where
@@ -271,7 +271,7 @@ module _ (bytes : List ℕ) (whole : length bytes ≡ 2320) (s : State) (shaped 
 word-back : (v : ℕ) → v < 2 ^ 64 → le (toLe 8 v) ≡ v
 word-back v h = le-toLe 8 v ∙ mod-eq-of-lt h
 
-module _ (bytes : List ℕ) (whole : length bytes ≡ 2320) (s : State) (ranged : Ranged s)
+module _ (bytes : List ℕ) (whole : length bytes ≡ stateSize) (s : State) (ranged : Ranged s)
     (count : wordAt bytes 0 ≡ s .count) (settings : settingsIn bytes ≡ s .settings) where
   used-back : (h : ℕ) → h < s .count → h < 8
       → reservationAt (stateOver bytes s) (2120 + 24 * h) ≡ getD (s .res) h (slot None) .reservation

@@ -1,10 +1,11 @@
--- A state as 2320 bytes. Every number has 8 bytes, the lowest first:
+-- A state as 2328 bytes. Every number has 8 bytes, the lowest first:
 --
 --      0   the count of harts
 --      8   x: register r of hart h at 8 + 8 * (32 * h + r)
 --   2056   pc: that of hart h at 2056 + 8 * h
 --   2120   reservations: that of hart h at 2120 + 24 * h, three numbers: held (0 for none, any other number for one), address, width
 --   2312   the size of a reservation's set
+--   2320   the version of A
 use Prim.Native.Nat.{ℕ, zero, suc, _+_, _*_}
 use mathlib.Core.List.{List, [], _∷_, _++_}
 use lib.ListN.{take}
@@ -17,6 +18,9 @@ use Rattle.reserve.specs.declared.Reservation.{Reservation}
 use Rattle.reserve.specs.declared.Reservation.the-variants.{None, Held}
 use Rattle.reserve.specs.declared.Slot.{Slot}
 use Rattle.machine.specs.declared.State.{State}
+
+abbrev pub stateSize : ℕ
+stateSize = 2328
 
 -- ---- what the bytes mean
 
@@ -33,6 +37,7 @@ abbrev pub settingsIn : List ℕ → Settings
 settingsIn bytes =
     record {
       size = wordAt bytes 2312;
+      version = wordAt bytes 2320;
     }
 
 -- f 0, f 1 and so on: n elements

@@ -1,4 +1,4 @@
-// A state kept as 2320 bytes at fixed offsets, as C and Rust keep it: specs/Layout.antt has the offsets.
+// A state kept as 2328 bytes at fixed offsets, as C and Rust keep it: specs/Layout.antt has the offsets.
 use machine::State;
 use reserve::Reservation;
 use reserve::Slot;
@@ -10,7 +10,10 @@ ghost use Prim.Native.Nat.{_+_, _*_, _≤_, min};
 ghost use lib.ListN.{length, take};
 ghost use Rattle.word.specs.Memory.{splice};
 ghost use Rattle.reserve.specs.Reserve.{slot};
-ghost use Rattle.layout.specs.Layout.{wordAt, reservationAt, settingsIn, table, stateIn, wordBytes, reservationWords, slotWords, stateOver};
+ghost use Rattle.layout.specs.Layout.{stateSize, wordAt, reservationAt, settingsIn, table, stateIn, wordBytes, reservationWords, slotWords, stateOver};
+
+// How many bytes a state has.
+pub const STATE_SIZE: usize = 2328;
 
 // Sets out to the numbers from a place on.
 pub fn load_words(bytes: &[u8], place: usize, out: &mut [u64])
@@ -43,7 +46,7 @@ fn load_slot(bytes: &[u8], place: usize) -> Slot
 
 // The reservations of all eight harts.
 fn load_slots(bytes: &[u8]) -> [Slot; 8]
-    requires { ⌜ length (now bytes) ≡ 2320 ⌝ }
+    requires { ⌜ length (now bytes) ≡ stateSize ⌝ }
     ensures { λ r. ⌜ r ≡ table (λ h. slot (reservationAt (now (bytes .entry)) (2120 + 24 * h))) 8 ⌝ }
 {
     let mut res = [Slot {
@@ -59,17 +62,18 @@ fn load_slots(bytes: &[u8]) -> [Slot; 8]
 
 // The settings that the bytes have.
 fn load_settings(bytes: &[u8]) -> Settings
-    requires { ⌜ length (now bytes) ≡ 2320 ⌝ }
+    requires { ⌜ length (now bytes) ≡ stateSize ⌝ }
     ensures { λ r. ⌜ r ≡ settingsIn (now (bytes .entry)) ⌝ }
 {
     Settings {
         size: load_at(bytes, 2312, 8),
+        version: load_at(bytes, 2320, 8),
     }
 }
 
 // The state that the bytes are.
 pub fn read_state(bytes: &[u8]) -> State
-    requires { ⌜ length (now bytes) ≡ 2320 ⌝ }
+    requires { ⌜ length (now bytes) ≡ stateSize ⌝ }
     ensures { λ s. ⌜ s ≡ stateIn (now (bytes .entry)) ⌝ }
 {
     let count = load_at(bytes, 0, 8) as usize;
@@ -102,7 +106,7 @@ pub fn store_words(bytes: &mut [u8], place: usize, words: &[u64])
 
 // Writes the registers of all harts. The array comes by value, so that its length is known.
 fn store_registers(bytes: &mut [u8], x: [u64; 256])
-    requires { ⌜ length (now bytes) ≡ 2320 ⌝ }
+    requires { ⌜ length (now bytes) ≡ stateSize ⌝ }
     ensures { λ _. ⌜ now (bytes .exit) ≡ splice (now (bytes .entry)) 8 (wordBytes x) ⌝ }
 {
     store_words(bytes, 8, &x);
@@ -110,7 +114,7 @@ fn store_registers(bytes: &mut [u8], x: [u64; 256])
 
 // Writes the pc of all harts.
 fn store_pcs(bytes: &mut [u8], pc: [u64; 8])
-    requires { ⌜ length (now bytes) ≡ 2320 ⌝ }
+    requires { ⌜ length (now bytes) ≡ stateSize ⌝ }
     ensures { λ _. ⌜ now (bytes .exit) ≡ splice (now (bytes .entry)) 2056 (wordBytes pc) ⌝ }
 {
     store_words(bytes, 2056, &pc);
@@ -136,7 +140,7 @@ fn used(count: usize) -> usize
 
 // Writes the reservations of the first count harts.
 fn store_slots(bytes: &mut [u8], res: [Slot; 8], count: usize)
-    requires { ⌜ length (now bytes) ≡ 2320 ⌝ }
+    requires { ⌜ length (now bytes) ≡ stateSize ⌝ }
     ensures { λ _. ⌜ now (bytes .exit) ≡ splice (now (bytes .entry)) 2120 (wordBytes (slotWords (take count res))) ⌝ }
 {
     let n = used(count);
@@ -151,7 +155,7 @@ fn store_slots(bytes: &mut [u8], res: [Slot; 8], count: usize)
 
 // Puts a state over the bytes. The count, the settings and the reservations of unused harts keep their bytes.
 pub fn write_state(bytes: &mut [u8], s: State)
-    requires { ⌜ length (now bytes) ≡ 2320 ⌝ }
+    requires { ⌜ length (now bytes) ≡ stateSize ⌝ }
     ensures { λ _. ⌜ now (bytes .exit) ≡ stateOver (now (bytes .entry)) s ⌝ }
 {
     let count = s.count;

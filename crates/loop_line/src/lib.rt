@@ -23,6 +23,17 @@ fn put_rejected(out: &mut [u8], place: usize, reason: usize) -> usize
     put_byte(out, t, b'\n')
 }
 
+// The line of a block that is refused.
+fn put_refused(out: &mut [u8], number: usize) -> usize
+    requires { ⌜ 51 ≤ length (now out) ⌝ }
+    ensures { λ r. ⌜ Put (now (out .entry)) 0 (loopLine (LoopAnswer.Refused number)) (now (out .exit)) r ⌝ }
+    ensures { λ r. ⌜ r ≤ 51 ⌝ }
+{
+    let p = put_bytes(out, 0, b"refused ");
+    let q = put_decimal(out, p, number as u64);
+    put_byte(out, q, b'\n')
+}
+
 fn put_line(out: &mut [u8], answer: LoopAnswer) -> usize
     requires { ⌜ 51 ≤ length (now out) ⌝ }
     ensures { λ r. ⌜ Put (now (out .entry)) 0 (loopLine answer) (now (out .exit)) r ⌝ }
@@ -31,7 +42,7 @@ fn put_line(out: &mut [u8], answer: LoopAnswer) -> usize
     match answer {
         LoopAnswer::Accepted => put_bytes(out, 0, b"accepted\n"),
         LoopAnswer::Rejected { place, reason } => put_rejected(out, place, reason),
-        LoopAnswer::Refused => put_bytes(out, 0, b"refused 6\n"),
+        LoopAnswer::Refused { number } => put_refused(out, number),
     }
 }
 

@@ -1,13 +1,22 @@
-// Says of the words on standard input, 4 bytes each and the lowest first, whether they are a retry loop that document 01 accepts: a line
-// `accepted`, `rejected PLACE REASON` or `refused 6`. What can't be read or written is told on standard error.
+// loopcheck [VERSION]: says of the words on standard input, 4 bytes each and the lowest first, whether they are a retry loop that is accepted, under A 2.1
+// or the VERSION that is given, 20 for 2.0 and 21 for 2.1: a line `accepted`, `rejected PLACE REASON` or `refused NUMBER`. What can't be read or written
+// is told on standard error.
 use input::Input;
+use libc::STDERR_FILENO;
 use libc::STDIN_FILENO;
 use libc::STDOUT_FILENO;
+ghost use Prim.Native.Nat.{_≤_};
 
 // What the length of the whole input leaves when it is divided by 4, and whether a read of it failed.
 struct Whole {
     left: usize,
     failed: bool,
+}
+
+// The version that is asked for, if the arguments say one.
+struct Asked {
+    said: bool,
+    version: u64,
 }
 
 // The whole input, whose first part has been read. The rest is read and dropped: so long a block is refused, whatever its words. The bound on
@@ -35,7 +44,60 @@ fn write_line(line: &[u8]) {
     }
 }
 
-fn main() {
+// A decimal digit's value, or 10.
+fn digit(c: u8) -> u64
+    ensures { λ r. ⌜ r ≤ 10 ⌝ }
+{
+    if c < b'0' {
+        return 10;
+    }
+    let d = (c - b'0') as u64;
+    if d < 10 { d } else { 10 }
+}
+
+// A number with one more digit. All numbers from 1,000 on count as 1,000: none of them is a version.
+fn longer(version: u64, d: u64) -> u64
+    requires { ⌜ (version ≤ 1000) × (d ≤ 10) ⌝ }
+    ensures { λ r. ⌜ r ≤ 1000 ⌝ }
+{
+    let v = 10 * version + d;
+    if v < 1000 { v } else { 1000 }
+}
+
+// The version that digits say.
+fn version_in(text: &[u8]) -> Asked {
+    let mut said = text.len() != 0;
+    let mut version: u64 = 0;
+    let mut i: usize = 0;
+    while i < text.len() && said {
+        let d = digit(text[i]);
+        said = d < 10;
+        version = longer(version, d);
+        i += 1;
+    }
+    Asked { said, version }
+}
+
+// The version that the arguments say: 2.1 where there are none.
+fn read_arguments() -> Asked {
+    if os::arg_count() == 1 {
+        return Asked {
+            said: true,
+            version: 21,
+        };
+    }
+    let mut text = io::buffer();
+    let n = os::arg(1, &mut text);
+    if (os::arg_count() != 2) | (os::errno() != 0) {
+        return Asked {
+            said: false,
+            version: 0,
+        };
+    }
+    version_in(&text[..n])
+}
+
+fn check(version: u64) {
     let mut space = io::large_buffer();
     let first = input::read_input(STDIN_FILENO, &mut space);
     let whole = read_rest(first);
@@ -49,6 +111,16 @@ fn main() {
     }
     let n = first.length;
     let mut out = [0u8; 51];
-    let r = loop_line::line(retry::check_bytes(&space[..n]), &mut out);
+    let settings = settings::of_version(version);
+    let r = loop_line::line(retry::check_bytes(settings, &space[..n]), &mut out);
     write_line(&out[..r]);
+}
+
+fn main() {
+    let a = read_arguments();
+    if a.said {
+        check(a.version);
+    } else {
+        io::write_all(STDERR_FILENO, b"use: loopcheck [VERSION] < WORDS\n");
+    }
 }

@@ -1,4 +1,4 @@
--- The tests of refusals 1 and 2 say what the rules of 01, with 02 [5], say. Assumes nothing.
+-- The tests of refusals 1 and 2 say what the rules of 01, with 02 [5] and [7], say. Assumes nothing.
 use mathlib.Core.Path.{_≡_, refl}
 use mathlib.Core.Logic.{_↔_, _⊎_, inl, inr, ⊎-elim}
 use mathlib.Core.Bool.{Bool, true, false, cond, _&&_, _||_}
@@ -9,9 +9,9 @@ use lib.ListN.{getD}
 use borrow.Author.Tests.{eqb-true, leb-true, eq-eqb, le-leb}
 use Rattle.word.proofs.TestLaws.{bool-cases, contrary, and-both, or-either}
 use Rattle.word.proofs.EachLaws.{all-at, all-intro}
-use Rattle.settings.specs.Settings.{sizeOk, granuleOf}
+use Rattle.settings.specs.Settings.{sizeOk, granuleOf, versionOk}
 use Rattle.settings.specs.declared.Settings.{Settings}
-use Rattle.settings.proofs.SettingsLaws.{size-exact, granule-whole}
+use Rattle.settings.proofs.SettingsLaws.{size-exact, version-exact, granule-whole}
 use Rattle.reserve.specs.Range.{Inside, setOf}
 use Rattle.reserve.specs.Reserve.{slot, coversOf}
 use Rattle.reserve.specs.declared.Reservation.{Reservation}
@@ -111,16 +111,19 @@ module _ (base len : ℕ) where
     state-exact = (
       λ e.
           let p = and-both (leb 1 (s .count) && leb (s .count) 8) _ e in
-          let q = and-both (leb 1 (s .count)) (leb (s .count) 8) (p .0) in (
+          let q = and-both (leb 1 (s .count)) (leb (s .count) 8) (p .0) in
+          let v = and-both (versionOk (s .settings)) _ (p .1) in (
             leb-true 1 (s .count) (q .0),
             leb-true (s .count) 8 (q .1),
             λ k h.
-                hart-exact k .0 (all-at (hartAt base len (s .x) (s .pc) (s .res)) k (s .count) (p .1) h),
+                hart-exact k .0 (all-at (hartAt base len (s .x) (s .pc) (s .res)) k (s .count) (v .1) h),
+            version-exact (s .settings) .0 (v .0),
           ),
       λ r.
           rw (
             le-leb 1 (s .count) (r .0),
             le-leb (s .count) 8 (r .1),
+            version-exact (s .settings) .1 (r .3),
             all-intro (hartAt base len (s .x) (s .pc) (s .res)) (s .count)
                 (λ k h. hart-exact k .1 (r .2 k h)),
           ),

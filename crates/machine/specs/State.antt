@@ -1,4 +1,4 @@
--- Which memories and states are refused (refusals 1 and 2 of 01, with 02 [5]).
+-- Which memories and states are refused (refusals 1 and 2 of 01, with 02 [5] and [7]).
 -- RULES 1.1, 1.2, 1.3, 1.6, 2.1.
 use Prim.Native.Nat.{ℕ, _*_, _%_, _^_}
 use mathlib.Core.Bool.{Bool, true, cond, _&&_, _||_}
@@ -6,7 +6,7 @@ use mathlib.Core.List.{List}
 use lib.Dec.{eqb, leb}
 use lib.ListN.{getD}
 use Rattle.word.specs.Each.{allBelow}
-use Rattle.settings.specs.Settings.{sizeOk, granuleOf}
+use Rattle.settings.specs.Settings.{sizeOk, granuleOf, versionOk}
 use Rattle.settings.specs.declared.Settings.{Settings}
 use Rattle.reserve.specs.Range.{insideOf}
 use Rattle.reserve.specs.Reserve.{slot}
@@ -38,9 +38,10 @@ hartOk base len x0 pc r = eqb x0 0 && (eqb (pc % 4) 0 && reservationOk base len 
 abbrev pub hartAt : ℕ → ℕ → List ℕ → List ℕ → List Slot → ℕ → Bool
 hartAt base len x pc res k = hartOk base len (getD x (k * 32) 0) (getD pc k 0) (getD res k (slot None) .reservation)
 
--- 01: "1 to 8 harts"; "unused harts' fields aren't looked at"
+-- 01: "1 to 8 harts"; "unused harts' fields aren't looked at"; 02 [7]: "any other version is 2"
 unfoldable pub stateOk : ℕ → ℕ → State → Bool
-stateOk base len s = (leb 1 (s .count) && leb (s .count) 8) && allBelow (hartAt base len (s .x) (s .pc) (s .res)) (s .count)
+stateOk base len s =
+    (leb 1 (s .count) && leb (s .count) 8) && (versionOk (s .settings) && allBelow (hartAt base len (s .x) (s .pc) (s .res)) (s .count))
 
 -- the first of refusals 1 and 2 that applies, or 0
 unfoldable pub refusalOf : ℕ → ℕ → State → ℕ

@@ -106,6 +106,9 @@ pub fn refusal<'a>(
     if 8 < count {
         return 2;
     }
+    if !settings::version_ok(settings) {
+        return 2;
+    }
     if harts_ok(base, len, count, x, pc, res) {
         0
     } else {

@@ -1,6 +1,6 @@
 -- Unused harts' fields aren't looked at: states that agree on the used harts get the same answers, leave the same memory and agree afterwards, for one
 -- event, for every list of events and for every run of an events body. Assumes nothing; the states are of the right shape, as values of their type are.
-use mathlib.Core.Path.{_≡_, refl, sym, ap, ap₂, _∙_, fun-ext}
+use mathlib.Core.Path.{_≡_, refl, sym, ap, ap₂, _∙_, subst, fun-ext}
 use mathlib.Core.List.{List, [], _∷_}
 use Prim.Native.Nat.{ℕ, zero, suc, _+_, _*_, _%_, _≤_, _<_}
 use native.Mathlib.Nat.{add-zero}
@@ -10,6 +10,7 @@ use lib.ListN.{length, getD, set, take}
 use borrow.Author.Tests.{ltb-true}
 use Rattle.word.specs.Each.{each}
 use Rattle.word.proofs.TestLaws.{bool-cases, contrary}
+use Rattle.settings.specs.Settings.{VersionRules}
 use Rattle.settings.specs.declared.Settings.{Settings}
 use Rattle.reserve.specs.Reserve.{slot, observeSlot, brokenOf, observeAllOf}
 use Rattle.reserve.specs.declared.Reservation.the-variants.{None}
@@ -151,6 +152,7 @@ module _ (base len : ℕ) where
           rw (a .pcs k l) at h .1,
           rw (a .reservations k l) at h .2,
         ),
+    subst VersionRules (a .settings) (r .3),
   )
 
   pub refusal-agree : (s t : State) → Agree s t → refusalOf base len s ≡ refusalOf base len t

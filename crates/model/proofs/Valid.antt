@@ -120,10 +120,11 @@ module _ (base len : ℕ) where
       set-all (λ (p : ℕ). p % 4 ≡ 0) (s .pc) h k to 0 (o .0) (r .2 k l .1),
       noticed-ok (s .settings) s (noticeOf h t) k (access-notice h t (o .1)) l (r .2 k l .2),
     ),
+    r .3,
   )
   apply-rules s (put a bs) o r =
-      (r .0, r .1, λ k l. (r .2 k l .0, r .2 k l .1, noticed-ok (s .settings) s (DeviceWrite a (length bs)) k tt l (r .2 k l .2)))
-  apply-rules s (release h) o r = (r .0, r .1, λ k l. (r .2 k l .0, r .2 k l .1, noticed-ok (s .settings) s (Yield h) k tt l (r .2 k l .2)))
+      (r .0, r .1, λ k l. (r .2 k l .0, r .2 k l .1, noticed-ok (s .settings) s (DeviceWrite a (length bs)) k tt l (r .2 k l .2)), r .3)
+  apply-rules s (release h) o r = (r .0, r .1, λ k l. (r .2 k l .0, r .2 k l .1, noticed-ok (s .settings) s (Yield h) k tt l (r .2 k l .2)), r .3)
 
 -- and the memory's length
 pub length-leaves : (base : ℕ) (mem : List ℕ) (act : Act) → ActOk base (length mem) act → length (leaves base mem act) ≡ length mem

@@ -64,6 +64,10 @@ pub record Machine : Type 0 where
 abbrev pub setSize : Machine → ℕ
 setSize m = m .state .settings .size
 
+-- the version of A: 20 or 21
+abbrev pub version : Machine → ℕ
+version m = m .state .settings .version
+
 -- the answer to an event, with the harts whose reservation it broke and the state, and the memory afterwards
 unfoldable pub answerOf : ℕ → List ℕ → State → Event → Answer
 answerOf base mem s e =

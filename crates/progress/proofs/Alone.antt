@@ -1,10 +1,12 @@
 -- Demand 3 with its premise in terms of events. Assumes nothing.
-use mathlib.Core.Path.{sym, _∙_, ap, subst}
+use mathlib.Core.Path.{_≡_, sym, _∙_, ap, subst}
 use mathlib.Core.Logic.{_↔_, _⊎_, inl, inr}
 use mathlib.Core.Bool.{Bool, true, false, cond}
 use mathlib.Core.List.{List, [], _∷_}
 use Prim.Native.Nat.{ℕ, _-_, _<_}
 use lib.ListN.{length}
+use Rattle.settings.specs.Settings.{ofVersion, JalrPermitted}
+use Rattle.settings.specs.declared.Settings.{Settings}
 use Rattle.reserve.specs.declared.Notice.the-variants as N
 use Rattle.isa.specs.declared.Atomic.{Atomic}
 use Rattle.events.specs.declared.Event.{Event}
@@ -15,7 +17,11 @@ use Rattle.model.proofs.Valid.{valid-next}
 use Rattle.model.proofs.Frame.{count-next}
 use Rattle.notices.proofs.Notices.{notice-yield}
 use Rattle.notices.proofs.Exact.{notice-exact, writes-exact}
-use Rattle.progress.specs.Claim.{isStep, Start, LeftAlone, Harmless, Fine, Finish, Safe, Finishes, Calm, Unfinished, NextStep}
+use Rattle.retry.specs.Loop.{checkOf}
+use Rattle.retry.specs.Versions.{NoJalr}
+use Rattle.retry.specs.declared.LoopAnswer.the-variants.{Accepted}
+use Rattle.retry.proofs.VersionLaws.{accepted-either}
+use Rattle.progress.specs.Claim.{isStep, StartUnder, Start, LeftAlone, Harmless, Fine, Finish, Safe, Finishes, Calm, Unfinished, NextStep}
 use Rattle.progress.proofs.Retry.{retry, next-step}
 
 module _ (base h p addr : ℕ) (words : List ℕ) (lr : Atomic) where
@@ -103,3 +109,29 @@ module _ (base h p addr : ℕ) (words : List ℕ) (lr : Atomic) where
   next-step-alone m st so-far c u =
       next-step base h p addr words lr m st so-far
       (calm-by (LeftAlone base h p addr words lr) (Harmless base h p addr words lr) harmless so-far m (st .valid) (st .used) c) u
+
+  -- ---- by the state's own version
+
+  start-as : (settings : Settings) (m : Machine) → StartUnder base h p addr words lr settings m → checkOf (ofVersion 21) words ≡ Accepted
+      → Start base h p addr words lr m
+  start-as settings m st accepted =
+      record {
+        valid = st .valid;
+        shaped = st .shaped;
+        used = st .used;
+        here = st .here;
+        accepted = accepted;
+        placed = st .placed;
+        mapped = st .mapped;
+        first = st .first;
+        address = st .address;
+        aligned = st .aligned;
+        reachable = st .reachable;
+      }
+
+  -- 02 [7]: "Demand 3 stands for 2.1 as before, and for 2.0 only for loops with no JALR": a block that the checker accepts under the state's settings
+  pub retry-by-version : (m : Machine) → StartUnder base h p addr words lr (m .state .settings) m → (JalrPermitted (m .state .settings) → NoJalr words)
+      → Finishes base h p addr words lr (LeftAlone base h p addr words lr) m
+  retry-by-version m st none =
+      let settings = m .state .settings in
+      retry-alone m (start-as settings m st (accepted-either words settings (st .valid .1 .3) .0 (st .accepted, none)))

@@ -12,6 +12,7 @@ use borrow.Author.Tests.{eqb-false}
 use Rattle.word.specs.Word.{signExtend}
 use Rattle.word.specs.Bytes.{toLe}
 use Rattle.word.proofs.TestLaws.{bool-cases}
+use Rattle.settings.specs.Settings.{ofVersion}
 use Rattle.reserve.specs.Range.{Inside}
 use Rattle.isa.specs.Width.{bitsOf, bytesOf}
 use Rattle.isa.specs.Wf.{Regs}
@@ -85,7 +86,7 @@ module _ (pc : ℕ) (aligned : pc % 4 ≡ 0) (small : pc + 4 < 2 ^ 64) where
     does-atomic A.CasPair a e = tt
     does-atomic (A.Rmw op) a e = tt
 
-    pub does : (i : Instr) → Regs i → Does (viewOf i) pc (execute 64 i word x pc base mem covered)
+    pub does : (i : Instr) → Regs i → Does (viewOf (ofVersion 21) i) pc (execute 64 i word x pc base mem covered)
     unfolding viewOf execute
     does I.Illegal r = tt
     does (I.Lui rd imm) r = computes rd imm r

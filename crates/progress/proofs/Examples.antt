@@ -1,6 +1,6 @@
 -- Loops that meet the start of the claim, and runs of them that finish in each of the three ways; and what a store into the set does. Computed.
 -- Assumes nothing.
-use mathlib.Core.Path.{_≡_, refl, sym, subst}
+use mathlib.Core.Path.{_≡_, refl, sym, _∙_, subst}
 use mathlib.Core.Logic.{_≢_, _⊎_, inl, inr}
 use mathlib.Core.Bool.{true, false}
 use mathlib.Core.List.{List, [], _∷_, _++_}
@@ -12,27 +12,28 @@ use Rattle.word.specs.Bytes.{le, toLe}
 use Rattle.word.specs.Memory.{part, splice}
 use Rattle.word.specs.Each.{allBelow}
 use Rattle.word.proofs.TestLaws.{contrary}
-use Rattle.settings.specs.Settings.{defaults, sizeOk}
+use Rattle.settings.specs.Settings.{defaults, ofVersion, sizeOk, versionOk}
+use Rattle.settings.specs.declared.Settings.{Settings}
 use Rattle.reserve.specs.Range.{Touch, touches, insideOf, setOf}
-use Rattle.reserve.specs.Reserve.{slot, coversOf, breaksOf, ownOf, observeOf, observeAllOf}
+use Rattle.reserve.specs.Reserve.{slot, coversOf, breaksOf, ownOf, observeOf, brokenOf, observeAllOf}
 use Rattle.reserve.specs.declared.Reservation.the-variants.{None, Held}
 use Rattle.reserve.specs.declared.Notice.{Notice}
 use Rattle.reserve.specs.declared.Notice.the-variants as N
-use Rattle.isa.specs.Decode.{classOf, branchOf, storeOf, systemOf, sizedOf, lrOf, atomicOf, decodeOf}
+use Rattle.isa.specs.Decode.{classOf, branchOf, jalrOf, storeOf, systemOf, sizedOf, lrOf, atomicOf, decodeOf}
 use Rattle.isa.specs.declared.Width.the-variants.{Word}
 use Rattle.isa.specs.declared.Atomic.{Atomic}
 use Rattle.isa.specs.declared.AtomicOp.the-variants as A
 use Rattle.reserve.proofs.RangeLaws.{inside-of}
 use Rattle.machine.specs.State.{lentOk, memoryOk, reservationOk, hartOk, stateOk, refusalOf}
 use Rattle.machine.proofs.StateLaws.{refusal-0}
-use Rattle.effect.specs.Integer.{holdsOf, execBranch}
+use Rattle.effect.specs.Integer.{holdsOf, execBranch, execJump}
 use Rattle.effect.specs.Memory.{faultOf, checked, valueAt, execStore}
 use Rattle.effect.specs.Atomic.{execLr, execSc}
 use Rattle.effect.specs.Execute.{regAt, execAtomic, execute, executeWord}
 use Rattle.events.specs.declared.Event.{Event}
 use Rattle.events.specs.declared.Event.the-variants.{Step, Device, Yield}
 use Rattle.model.specs.Act.{setReg, apply, leaves}
-use Rattle.model.specs.Perform.{Machine, fetchOf, deviceOf, actOn, actOf, answerOf, memoryOf, nextOf, runOf, outcomeAt}
+use Rattle.model.specs.Perform.{Machine, fetchOf, deviceOf, actOn, actOf, answerOf, memoryOf, nextOf, runOf, outcomeAt, brokeAt, version}
 use Rattle.model.specs.Trace.{noticeAt, WritesInto}
 use Rattle.model.specs.Valid.{Valid}
 use Rattle.model.specs.declared.Outcome.{Outcome}
@@ -41,9 +42,9 @@ use Rattle.model.proofs.Valid.{valid-run}
 use Rattle.notices.specs.Happened.{WritesBytes, byHart}
 use Rattle.notices.proofs.Exact.{notice-exact, writes-exact}
 use Rattle.retry.specs.Reasons.{LrAt}
-use Rattle.retry.specs.declared.LoopAnswer.the-variants.{Accepted}
+use Rattle.retry.specs.declared.LoopAnswer.the-variants.{Accepted, Rejected}
 use Rattle.retry.specs.Loop.{viewOf, pastSc, wrongOffset, clobbers, lowestOf, scanOf, startOf, checkOf}
-use Rattle.progress.specs.Claim.{Start, LeftAlone, Harmless, Finish, bySc, left, back, Safe, Finishes, Calm, Unfinished}
+use Rattle.progress.specs.Claim.{hartPc, StartUnder, Start, LeftAlone, Harmless, Finish, bySc, left, back, Safe, Finishes, Calm, Unfinished}
 use Rattle.progress.proofs.Alone.{alone-exact, calm-alone, retry-alone}
 
 -- Edge 12's loop: lr.w x6,(x5); bne x6,x0,+12; sc.w x7,x8,(x5); bne x7,x0,-12.
@@ -75,19 +76,23 @@ registers = 0 ∷ 0 ∷ 0 ∷ 0 ∷ 0 ∷ 1096 ∷ 0 ∷ 0 ∷ 0x700000009 ∷ r
 
 -- Three harts. Hart 0 holds another reservation, hart 1 stands at a store, sw x8,8(x5), and hart 2 outside memory. 128 bytes at 1024: the loop first,
 -- hart 1's store at 1056, and the word v at 1096, in the set from 1088 on.
-abbrev begin : List ℕ → ℕ → Machine
-begin words v =
+abbrev begin-with : Settings → List ℕ → ℕ → Machine
+begin-with settings words v =
     record {
       state =
           record {
             count = 3;
-            settings = defaults;
+            settings = settings;
             x = registers ++ (registers ++ replicate 192 0);
             pc = 1024 ∷ 1056 ∷ replicate 6 0;
             res = slot (Held 1144 8) ∷ replicate 7 (slot None);
           };
       mem = code words ++ (replicate (32 - 4 * length words) 0 ++ (toLe 4 0x0082A423 ++ (replicate 36 0 ++ (toLe 4 v ++ replicate 52 0))));
     }
+
+-- with the default settings
+abbrev begin : List ℕ → ℕ → Machine
+begin words v = begin-with defaults words v
 
 -- What is computed with. To name one of these on an `unfolding` line is to name all that its own line does: reading a word of memory and its instruction,
 reading : Unit {0}
@@ -96,21 +101,21 @@ reading = tt
 
 -- checking a loop,
 checking : Unit {0}
-unfolding viewOf pastSc wrongOffset clobbers lowestOf scanOf startOf checkOf
+unfolding viewOf pastSc wrongOffset clobbers lowestOf scanOf startOf checkOf versionOk
 checking = tt
 
 -- and running events
 running : Unit {0}
-unfolding reading splice regAt setReg insideOf allBelow sizeOk lentOk memoryOk reservationOk hartOk stateOk refusalOf
+unfolding reading splice regAt setReg insideOf allBelow sizeOk versionOk lentOk memoryOk reservationOk hartOk stateOk refusalOf
     touches coversOf breaksOf ownOf observeOf observeAllOf
     holdsOf execBranch faultOf checked execLr execSc execAtomic execute executeWord apply leaves fetchOf deviceOf actOn actOf answerOf memoryOf nextOf runOf
 running = tt
 
 -- They meet the start, whatever the word at 1096.
-meets : (words : List ℕ) (v : ℕ) → length (begin words v .mem) ≡ 128 → length words ≤ 8 → checkOf words ≡ Accepted → LrAt words 0 lr
+meets : (words : List ℕ) (v : ℕ) → length (begin words v .mem) ≡ 128 → length words ≤ 8 → checkOf (ofVersion 21) words ≡ Accepted → LrAt words 0 lr
     → ((k : ℕ) → k < length words → valueAt 1024 (begin words v .mem) (1024 + 4 * k) 4 ≡ getD words k 0)
     → Start 1024 0 1024 1096 words lr (begin words v)
-unfolding refusalOf sizeOk lentOk memoryOk stateOk hartOk reservationOk insideOf allBelow regAt
+unfolding refusalOf sizeOk versionOk lentOk memoryOk stateOk hartOk reservationOk insideOf allBelow regAt
 meets words v len few accepted first placed =
     record {
       valid = refusal-0 1024 (length (begin words v .mem)) (begin words v .state) .0 (rw len refl);
@@ -294,7 +299,7 @@ disturbed =
       fails = refl;
     }
 
--- A yield of hart 0 makes its SC fail, and so does a device write to a byte that the LR read; a device write into the loop, of ECALL, makes it trap.
+-- A yield of hart 0 makes its SC fail, and so does, under A 2.1, a device write to a byte that the LR read; a device write into the loop, of ECALL, makes it trap.
 pub record Broken : Type 0 where
   pub yields : next (Step 0 ∷ Yield 0 ∷ Step 0 ∷ []) ≡ O.ScFailed
   pub device : next (Step 0 ∷ Device 1099 1 0 ∷ Step 0 ∷ []) ≡ O.ScFailed
@@ -306,19 +311,14 @@ broken = record { yields = refl; device = refl; code-changes = refl }
 
 -- ---- the set is as large as the state says
 
--- the machine of edge 12's loop with another set size
-abbrev sized : ℕ → Machine
-sized size =
-    let s = begin leaving 0 .state in
-    record { state = record { count = s .count; settings = record { size = size }; x = s .x; pc = s .pc; res = s .res }; mem = begin leaving 0 .mem }
-
--- it meets the start too
-pub starts-sized : (size : ℕ) → refusalOf 1024 128 (sized size .state) ≡ 0 → Start 1024 0 1024 1096 leaving lr (sized size)
+-- the machine of edge 12's loop with other settings meets the start too
+pub starts-with : (settings : Settings) → refusalOf 1024 128 (begin-with settings leaving 0 .state) ≡ 0
+    → Start 1024 0 1024 1096 leaving lr (begin-with settings leaving 0)
 unfolding toLe
-starts-sized size none =
+starts-with settings none =
     let start = starts-leaving 0 in
     record {
-      valid = refusal-0 1024 128 (sized size .state) .0 none;
+      valid = refusal-0 1024 128 (begin-with settings leaving 0 .state) .0 none;
       shaped = record { registers = refl; pcs = refl; reservations = refl };
       used = start .used;
       here = start .here;
@@ -331,13 +331,17 @@ starts-sized size none =
       reachable = start .reachable;
     }
 
+-- another set size
+abbrev of-size : ℕ → Settings
+of-size size = record { size = size; version = 21 }
+
 -- after the LR, with sets of 16 bytes
 abbrev reserved-16 : Machine
-reserved-16 = runOf 1024 (sized 16) (Step 0 ∷ [])
+reserved-16 = runOf 1024 (begin-with (of-size 16) leaving 0) (Step 0 ∷ [])
 
-start-16 : Start 1024 0 1024 1096 leaving lr (sized 16)
-unfolding refusalOf sizeOk lentOk memoryOk stateOk hartOk reservationOk insideOf allBelow
-start-16 = starts-sized 16 refl
+start-16 : Start 1024 0 1024 1096 leaving lr (begin-with (of-size 16) leaving 0)
+unfolding refusalOf sizeOk versionOk lentOk memoryOk stateOk hartOk reservationOk insideOf allBelow
+start-16 = starts-with (of-size 16) refl
 
 used-16 : 0 < reserved-16 .state .count
 unfolding running
@@ -353,25 +357,152 @@ harmless-16 =
     record { block = λ t. absurd (omega arith); reserved = λ t. absurd (omega arith); stays = λ y. let z : _≡_ {A = ℕ} 0 1 = cc in omega arith }
 
 -- hart 0's step after these events
-abbrev next-sized : ℕ → List Event → Outcome
-next-sized size es = outcomeAt 1024 (runOf 1024 (sized size) es) (Step 0)
+abbrev next-with : Settings → List Event → Outcome
+next-with settings es = outcomeAt 1024 (runOf 1024 (begin-with settings leaving 0) es) (Step 0)
 
 -- After the LR at 1096 hart 1 stores at 1104. With sets of 16 bytes, and of 8, that is behind the set, and the SC stores; of 16 it is proved too that the
 -- store leaves the loop alone. It is inside sets of 64 and of 128, and the SC fails.
 pub record BySize : Type 0 where
   pub alone : LeftAlone 1024 0 1024 1096 leaving lr reserved-16 (Step 1)
-  pub stores-8 : next-sized 8 (Step 0 ∷ Step 1 ∷ Step 0 ∷ []) ≡ O.ScStored
-  pub stores-16 : next-sized 16 (Step 0 ∷ Step 1 ∷ Step 0 ∷ []) ≡ O.ScStored
-  pub fails-64 : next-sized 64 (Step 0 ∷ Step 1 ∷ Step 0 ∷ []) ≡ O.ScFailed
-  pub fails-128 : next-sized 128 (Step 0 ∷ Step 1 ∷ Step 0 ∷ []) ≡ O.ScFailed
+  pub stores-8 : next-with (of-size 8) (Step 0 ∷ Step 1 ∷ Step 0 ∷ []) ≡ O.ScStored
+  pub stores-16 : next-with (of-size 16) (Step 0 ∷ Step 1 ∷ Step 0 ∷ []) ≡ O.ScStored
+  pub fails-64 : next-with (of-size 64) (Step 0 ∷ Step 1 ∷ Step 0 ∷ []) ≡ O.ScFailed
+  pub fails-128 : next-with (of-size 128) (Step 0 ∷ Step 1 ∷ Step 0 ∷ []) ≡ O.ScFailed
 
 pub by-size : BySize
 unfolding running storeOf execStore
 by-size =
     record {
-      alone = alone-exact 1024 0 1024 1096 leaving lr reserved-16 (valid-run 1024 (sized 16) (start-16 .valid) (Step 0 ∷ [])) used-16 (Step 1) .1 harmless-16;
+      alone = alone-exact 1024 0 1024 1096 leaving lr reserved-16 (valid-run 1024 (begin-with (of-size 16) leaving 0) (start-16 .valid) (Step 0 ∷ [])) used-16 (Step 1) .1 harmless-16;
       stores-8 = refl;
       stores-16 = refl;
       fails-64 = refl;
       fails-128 = refl;
     }
+
+-- ---- the state's version
+
+-- edge 12's loop on a machine of A 2.0
+pub starts-20 : Start 1024 0 1024 1096 leaving lr (begin-with (ofVersion 20) leaving 0)
+unfolding refusalOf sizeOk versionOk lentOk memoryOk stateOk hartOk reservationOk insideOf allBelow
+starts-20 = starts-with (ofVersion 20) refl
+
+-- the harts whose reservation hart 0's LR and then a device write of a byte that it read broke
+abbrev lost : Settings → ℕ
+lost settings = brokeAt 1024 (runOf 1024 (begin-with settings leaving 0) (Step 0 ∷ [])) (Device 1099 1 0)
+
+-- After the LR a device writes a byte that it read: under 2.0 this breaks no reservation and the SC stores, under 2.1 it breaks that of hart 0, bit 0,
+-- and the SC fails.
+pub record ByVersion : Type 0 where
+  pub breaks-none-20 : lost (ofVersion 20) ≡ 0
+  pub stores-20 : next-with (ofVersion 20) (Step 0 ∷ Device 1099 1 0 ∷ Step 0 ∷ []) ≡ O.ScStored
+  pub breaks-21 : lost (ofVersion 21) ≡ 1
+  pub fails-21 : next-with (ofVersion 21) (Step 0 ∷ Device 1099 1 0 ∷ Step 0 ∷ []) ≡ O.ScFailed
+
+pub by-version : ByVersion
+unfolding running brokenOf
+by-version = record { breaks-none-20 = refl; stores-20 = refl; breaks-21 = refl; fails-21 = refl }
+
+-- ---- a loop with a JALR
+
+-- lr.w x6,(x5); jalr x0,1028(x0), which leads to itself; sc.w x7,x8,(x5)
+abbrev staying : List ℕ
+staying = 0x1002A32F ∷ 0x40400067 ∷ 0x1882A3AF ∷ []
+
+abbrev on-20 : Machine
+on-20 = begin-with (ofVersion 20) staying 0
+
+-- 2.0 accepts it, and 2.1 does not
+pub accepted-20 : checkOf (ofVersion 20) staying ≡ Accepted
+unfolding reading checking jalrOf
+accepted-20 = refl
+
+pub rejected-21 : checkOf (ofVersion 21) staying ≡ Rejected 1 2
+unfolding reading checking jalrOf
+rejected-21 = refl
+
+-- It meets every clause of the start but one: it is 2.0, the version of the state, that accepts it.
+pub starts-staying : StartUnder 1024 0 1024 1096 staying lr (on-20 .state .settings) on-20
+unfolding reading checking jalrOf refusalOf sizeOk versionOk lentOk memoryOk stateOk hartOk reservationOk insideOf allBelow regAt
+starts-staying =
+    record {
+      valid = refusal-0 1024 128 (on-20 .state) .0 refl;
+      shaped = record { registers = refl; pcs = refl; reservations = refl };
+      used = omega arith;
+      here = refl;
+      accepted = accepted-20;
+      placed = placed;
+      mapped = λ k l. (omega arith, omega arith);
+      first = (record { inBlock = omega arith; decodes = refl }, refl);
+      address = refl;
+      aligned = refl;
+      reachable = (omega arith, omega arith);
+    }
+  where
+    placed : (k : ℕ) → k < 3 → valueAt 1024 (on-20 .mem) (1024 + 4 * k) 4 ≡ getD staying k 0
+    placed zero l = refl
+    placed (suc zero) l = refl
+    placed (suc (suc zero)) l = refl
+    placed (suc (suc (suc k))) l = absurd (omega arith)
+
+-- hart 0 steps as often as the block has words, and nobody else does anything
+abbrev three : List Event
+three = Step 0 ∷ Step 0 ∷ Step 0 ∷ []
+
+abbrev on-way : List Event → Outcome
+on-way es = outcomeAt 1024 (runOf 1024 on-20 es) (Step 0)
+
+-- the three steps retire, and none is a finish: the hart stays at the second word
+pub record Stays : Type 0 where
+  pub first : on-way [] ≡ O.Retired
+  pub second : on-way (Step 0 ∷ []) ≡ O.Retired
+  pub third : on-way (Step 0 ∷ Step 0 ∷ []) ≡ O.Retired
+  pub unfinished : Unfinished 1024 0 1024 1096 staying lr on-20 three
+  pub there : hartPc (runOf 1024 on-20 three) 0 ≡ 1028
+
+-- a step that retires and leads to the second word is no finish
+no-finish : (m : Machine) → outcomeAt 1024 m (Step 0) ≡ O.Retired → hartPc (nextOf 1024 m (Step 0)) 0 ≡ 1028
+    → Finish 1024 0 1024 1096 staying lr m (Step 0) → ⊥
+no-finish m o q (bySc f) = let a = f .success .stored in let z : _≡_ {A = ℕ} 0 1 = cc in omega arith
+no-finish m o q (left d) = d 1 (omega arith) q
+no-finish m o q (back b) = let z : _≡_ {A = ℕ} 1028 1024 = sym q ∙ b in omega arith
+
+pub stays : Stays
+unfolding running jalrOf execJump
+stays =
+    record {
+      first = refl;
+      second = refl;
+      third = refl;
+      unfinished = (
+        λ q. no-finish on-20 refl refl,
+        (λ q. no-finish (runOf 1024 on-20 (Step 0 ∷ [])) refl refl, (λ q. no-finish (runOf 1024 on-20 (Step 0 ∷ Step 0 ∷ [])) refl refl, tt)),
+      );
+      there = refl;
+    }
+
+-- So on a machine of 2.0 the claim doesn't hold of every block that 2.0 accepts: `retry-by-version` needs its premise on JALR.
+pub not-under-20 : ((base h p addr : ℕ) (words : List ℕ) (first : Atomic) (m : Machine) → version m ≡ 20
+    → StartUnder base h p addr words first (m .state .settings) m → Finishes base h p addr words first (LeftAlone base h p addr words first) m)
+    → ⊥
+not-under-20 claim = unsafe (claim 1024 0 1024 1096 staying lr on-20 refl starts-staying three)
+  where
+    unsafe : Safe 1024 0 1024 1096 staying lr (LeftAlone 1024 0 1024 1096 staying lr) 3 on-20 three → ⊥
+    unsafe s = one (s .1)
+      where
+        end : Finish 1024 0 1024 1096 staying lr (nextOf 1024 (nextOf 1024 on-20 (Step 0)) (Step 0)) (Step 0) ⊎ ((1 < 1) × Unit {0}) → ⊥
+        end (inl f) = stays .unfinished .1 .1 .0 refl f
+        end (inr f) = omega (arith, f .0)
+
+        two : Finish 1024 0 1024 1096 staying lr (nextOf 1024 on-20 (Step 0)) (Step 0)
+            ⊎ ((1 < 2)
+            × Safe 1024 0 1024 1096 staying lr (LeftAlone 1024 0 1024 1096 staying lr) 1 (nextOf 1024 (nextOf 1024 on-20 (Step 0)) (Step 0)) (Step 0 ∷ []))
+            → ⊥
+        two (inl f) = stays .unfinished .1 .0 refl f
+        two (inr f) = end (f .1 .1)
+
+        one : Finish 1024 0 1024 1096 staying lr on-20 (Step 0)
+            ⊎ ((1 < 3)
+            × Safe 1024 0 1024 1096 staying lr (LeftAlone 1024 0 1024 1096 staying lr) 2 (nextOf 1024 on-20 (Step 0)) (Step 0 ∷ Step 0 ∷ [])) → ⊥
+        one (inl f) = stays .unfinished .0 refl f
+        one (inr f) = two (f .1 .1)

@@ -13,6 +13,7 @@ use Rattle.word.specs.Bytes.{toLe}
 use Rattle.word.specs.Memory.{part}
 use Rattle.word.proofs.BytesLaws.{length-toLe}
 use Rattle.word.proofs.MemoryLaws.{part-splice}
+use Rattle.settings.specs.Settings.{ofVersion}
 use Rattle.settings.specs.declared.Settings.{Settings}
 use Rattle.reserve.specs.Range.{Touch, Inside, setOf}
 use Rattle.reserve.specs.Reserve.{coversOf, observeOf}
@@ -83,7 +84,7 @@ spares settings h addr w i (N.LoadReserved g b v) d r y = d
 spares settings h addr w i (N.ScStored g b k) d r y = (d, r)
 spares settings h addr w i (N.ScFailed g) d r y = d
 spares settings h addr w i (N.Write g b k) d r y = λ z. r
-spares settings h addr w i (N.DeviceWrite b k) d r y = λ t. r (touch-in b k addr w (setOf (settings .size) addr) (settings .size) (i .0) (i .1) t)
+spares settings h addr w i (N.DeviceWrite b k) d r y = λ v t. r (touch-in b k addr w (setOf (settings .size) addr) (settings .size) (i .0) (i .1) t)
 spares settings h addr w i (N.Yield g) d r y = λ z. y (ap N.Yield z)
 
 -- ---- events
@@ -131,9 +132,9 @@ module _ (base h p addr : ℕ) (words : List ℕ) (lr : Atomic) (j : ℕ)
     (first : decodeOf (getD words 0 0) ≡ I.Amo lr) (isLr : lr .op ≡ A.Lr)
     (keeps : Keeps (lr .rs1) (lr .rd))
     (j-pos : 0 < j) (j-in : j < length words)
-    (sc-view : viewAt words j ≡ Sc (lr .rs1) (bytesOf (lr .width)))
-    (before : (k : ℕ) → 0 < k → k < j → Before (lr .rs1) (viewAt words k))
-    (after : (k : ℕ) → j < k → k < length words → After k (viewAt words k)) where
+    (sc-view : viewAt (ofVersion 21) words j ≡ Sc (lr .rs1) (bytesOf (lr .width)))
+    (before : (k : ℕ) → 0 < k → k < j → Before (lr .rs1) (viewAt (ofVersion 21) words k))
+    (after : (k : ℕ) → j < k → k < length words → After k (viewAt (ofVersion 21) words k)) where
   own-set : (m : Machine) → Valid base m → Inside (setOf (setSize m) addr) (setSize m) addr (bytesOf (lr .width))
   own-set m v = reserved-in-set (m .state .settings) (v .0 .0) addr (bytesOf (lr .width)) (width-is (lr .width)) aligned
 
@@ -364,7 +365,7 @@ module _ (base h p addr : ℕ) (words : List ℕ) (lr : Atomic) (j : ℕ)
     )
       where
         s : SeenSc (decodeOf (getD words i 0)) (lr .rs1) (bytesOf (lr .width))
-        s = subst (Seen (decodeOf (getD words i 0))) (ap (viewAt words) z ∙ sc-view) (seen (decodeOf (getD words i 0)))
+        s = subst (Seen (decodeOf (getD words i 0))) (ap (viewAt (ofVersion 21) words) z ∙ sc-view) (seen (ofVersion 21) (decodeOf (getD words i 0)))
 
         new : List ℕ
         new = toLe (bytesOf (lr .width)) (regAt (m .state .x) h (s .of .rs2))
@@ -433,16 +434,16 @@ module _ (base h p addr : ℕ) (words : List ℕ) (lr : Atomic) (j : ℕ)
     own : Good m i
     own = go place
       where
-        d : Does (viewAt words i) (hartPc m h) exec
+        d : Does (viewAt (ofVersion 21) words i) (hartPc m h) exec
         d =
             does (hartPc m h) pc-aligned pc-low (valueAt base (m .mem) (hartPc m h) 4) (regAt (m .state .x) h) base (m .mem)
             (coversOf (m .state .settings) (reservationOf (m .state) h)) (decodeOf (getD words i 0)) (regs-below (getD words i 0))
 
         go : Place → Good m i
         go (at-lr z) = opening z
-        go (at-middle z l) = middle z (viewAt words i) (before i z l) d
+        go (at-middle z l) = middle z (viewAt (ofVersion 21) words i) (before i z l) d
         go (at-sc z) = closing z
-        go (at-late z) = late z (viewAt words i) (after i z (a .inLoop)) d
+        go (at-late z) = late z (viewAt (ofVersion 21) words i) (after i z (a .inLoop)) d
 
   -- the claim, from any place at which enough steps are left
   safe : (es : List Event) (m : Machine) (i k : ℕ) → At m i → length words ≤ k + i → SafeAlone base h p addr words lr k m es
@@ -468,21 +469,21 @@ module _ (base h p addr : ℕ) (words : List ℕ) (lr : Atomic) (j : ℕ)
           on (inl f) = inl f
           on (inr s) = let b : s .0 < length words = s .2 .inLoop in inr (omega arith, ih (s .0) (k - 1) (s .2) (omega arith))
 
--- Every accepted block has the LR that the start names.
-pub has-lr : (words : List ℕ) → checkOf words ≡ Accepted → (lr : Atomic) × LrAt words 0 lr
+-- Every block that A 2.1 accepts has the LR that the start names.
+pub has-lr : (words : List ℕ) → checkOf (ofVersion 21) words ≡ Accepted → (lr : Atomic) × LrAt words 0 lr
 has-lr words q =
-    let b : Block words = block words q in
+    let b : Block (ofVersion 21) words = block (ofVersion 21) words q in
     let i = decodeOf (getD words 0 0) in
-    let s : SeenLr i (b .rd) (b .rs1) (b .width) = subst (Seen i) (b .lr-is) (seen i) in
+    let s : SeenLr i (b .rd) (b .rs1) (b .width) = subst (Seen i) (b .lr-is) (seen (ofVersion 21) i) in
     (s .of, (record { inBlock = omega (arith, b .inBlock); decodes = s .is }, s .kind))
 
 module _ (base h p addr : ℕ) (words : List ℕ) (lr : Atomic) (m : Machine) (st : Start base h p addr words lr m) where
-  b : Block words
-  b = block words (st .accepted)
+  b : Block (ofVersion 21) words
+  b = block (ofVersion 21) words (st .accepted)
 
   -- the LR that acceptance tells of is the start's
   same : Lr (b .rd) (b .rs1) (b .width) ≡ Lr (lr .rd) (lr .rs1) (bytesOf (lr .width))
-  same = sym (b .lr-is) ∙ ap viewOf (st .first .0 .decodes) ∙ lr-view lr (st .first .1)
+  same = sym (b .lr-is) ∙ ap (viewOf (ofVersion 21)) (st .first .0 .decodes) ∙ lr-view (ofVersion 21) lr (st .first .1)
 
   rd-same : b .rd ≡ lr .rd
   rd-same = cc same
@@ -499,7 +500,7 @@ module _ (base h p addr : ℕ) (words : List ℕ) (lr : Atomic) (m : Machine) (s
       safe base h p addr words lr (b .sc) (st .aligned) (st .first .0 .decodes) (st .first .1)
       (λ q. let f : b .rs1 ≡ 0 = b .keeps (rs1-same ∙ q ∙ sym rd-same) in sym rs1-same ∙ f) (b .later) (b .inBlock)
       (b .sc-is-first ∙ ap₂ Sc rs1-same width-same)
-      (λ k z l. subst (λ (r : ℕ). Before r (viewAt words k)) rs1-same (b .before k z l)) (b .after) es m 0 _
+      (λ k z l. subst (λ (r : ℕ). Before r (viewAt (ofVersion 21) words k)) rs1-same (b .before k z l)) (b .after) es m 0 _
       (record {
         ground =
             record { valid = st .valid; shaped = st .shaped; used = st .used; placed = st .placed; mapped = st .mapped; reachable = st .reachable };

@@ -10,6 +10,8 @@ use lib.Dec.{eqb}
 use lib.ListN.{length, getD}
 use Rattle.word.specs.Bytes.{toLe}
 use Rattle.word.specs.Memory.{part}
+use Rattle.settings.specs.Settings.{ofVersion}
+use Rattle.settings.specs.declared.Settings.{Settings}
 use Rattle.reserve.specs.Range.{Touch, Inside, setOf}
 use Rattle.reserve.specs.declared.Notice.the-variants as N
 use Rattle.isa.specs.Width.{bytesOf}
@@ -46,8 +48,8 @@ steps h (e ∷ es) = cond (isStep h e) (suc (steps h es)) (steps h es)
 
 -- A memory at base; hart h; a block of words whose place 0 stands at p and is the LR lr; the LR's address addr.
 module _ (base h p addr : ℕ) (words : List ℕ) (lr : Atomic) where
-  -- where the claim starts
-  pub record Start (m : Machine) : Type 0 where
+  -- where the claim starts, with a block that the checker accepts under these settings
+  pub record StartUnder (settings : Settings) (m : Machine) : Type 0 where
     -- "a memory and a state that 1 and 2 don't refuse, with any reservations": a value of the state's type, whose arrays have their lengths
     pub valid : Valid base m
     pub shaped : Shaped (m .state)
@@ -56,7 +58,7 @@ module _ (base h p addr : ℕ) (words : List ℕ) (lr : Atomic) where
     -- "Its pc is the address of place 0"
     pub here : hartPc m h ≡ p
     -- "of an accepted block"
-    pub accepted : checkOf words ≡ Accepted
+    pub accepted : checkOf settings words ≡ Accepted
     -- "the word at place k stands at that address plus 4k"
     pub placed : (k : ℕ) → k < length words → valueAt base (m .mem) (p + 4 * k) 4 ≡ getD words k 0
     -- "every word of the block inside memory"
@@ -68,6 +70,11 @@ module _ (base h p addr : ℕ) (words : List ℕ) (lr : Atomic) where
     pub aligned : addr % bytesOf (lr .width) ≡ 0
     -- "its 4 or 8 bytes inside memory"
     pub reachable : Inside base (length (m .mem)) addr (bytesOf (lr .width))
+
+  -- The claim is of blocks that A 2.1 accepts, whichever version the state has. 02 [7]: "Demand 3 stands for 2.1 as before, and for 2.0 only for loops with
+  -- no JALR"; these "are exactly the loops that 2.1 accepts" (retry/proofs/VersionLaws: without-jalr).
+  abbrev pub Start : Machine → Type 0
+  Start m = StartUnder (ofVersion 21) m
 
   -- The event leaves the loop alone: it writes into neither the loop's words nor the reserved set, and is no yield of the hart. The reserved set is "the
   -- set around it, from the first event on": as many bytes as the state's set size (02 [5]), which no event changes. "Something writes into bytes if it

@@ -1,5 +1,6 @@
 -- A block as bytes. Assumes nothing.
 use mathlib.Core.Path.{_≡_, refl, _∙_}
+use mathlib.Core.Bool.{true}
 use mathlib.Core.List.{List, [], _∷_}
 use Prim.Native.Nat.{ℕ, zero, suc, _*_, _^_, _≤_, _<_}
 use native.Mathlib.Nat.{lt-of-lt-of-le, pow-le-pow-right}
@@ -9,6 +10,8 @@ use borrow.Author.Tests.{le-ltb, lt-ltb}
 use Rattle.word.specs.Bytes.{le, IsBytes}
 use Rattle.word.specs.Memory.{part}
 use Rattle.word.proofs.BytesLaws.{le-lt, bytes-drop}
+use Rattle.settings.specs.Settings.{versionOk}
+use Rattle.settings.specs.declared.Settings.{Settings}
 use Rattle.retry.specs.declared.LoopAnswer.the-variants.{Refused}
 use Rattle.retry.specs.Loop.{checkOf, wordsOf}
 
@@ -31,8 +34,8 @@ length-words bytes zero = refl
 length-words bytes (suc n) =
     length-append (wordsOf bytes n) (le (part bytes (4 * n) 4) ∷ []) ∙ let e = length-words bytes n in omega arith
 
-pub too-long : (bytes : List ℕ) (n : ℕ) → 16 < n → Refused ≡ checkOf (wordsOf bytes n)
+pub too-long : (settings : Settings) (bytes : List ℕ) (n : ℕ) → versionOk settings ≡ true → 16 < n → Refused 6 ≡ checkOf settings (wordsOf bytes n)
 unfolding checkOf
-too-long bytes n h =
+too-long settings bytes n v h =
     let e = length-words bytes n in
-    rw (le-ltb (length (wordsOf bytes n)) 2 (omega arith), lt-ltb 16 (length (wordsOf bytes n)) (omega arith))
+    rw (v, le-ltb (length (wordsOf bytes n)) 2 (omega arith), lt-ltb 16 (length (wordsOf bytes n)) (omega arith))

@@ -6,8 +6,11 @@ use mathlib.Core.List.{List, [], _∷_}
 use Prim.Native.Nat.{ℕ}
 use lib.Dec.{eqb}
 use borrow.Author.Tests.{eqb-true}
+use Rattle.word.proofs.TestLaws.{bool-cases}
 use Rattle.word.specs.Choose.{Row, _⇒_, select}
 use Rattle.word.proofs.ChooseLaws.{cond-all, cond-cases, select-rows, select-all, _also_}
+use Rattle.settings.specs.Settings.{jalrPermitted}
+use Rattle.settings.specs.declared.Settings.{Settings}
 use Rattle.isa.specs.Fields.{bits, rdOf, rs1Of, rs2Of, funct3Of, funct5Of, funct6Of, funct7Of, immI}
 use Rattle.isa.specs.Decode as D
 use Rattle.isa.specs.declared.AluOp.the-variants.{Add}
@@ -136,30 +139,30 @@ either : (t : Bool) → cond t Other Other ≡ Other
 either true = refl
 either false = refl
 
-by-class : (c : ℕ) (i : Instr) → InClass c i → cond (lookedAt c) (fieldsOf i) Other ≡ viewOf i
+by-class : (settings : Settings) (c : ℕ) (i : Instr) → InClass c i → cond (lookedAt settings c) (fieldsOf i) Other ≡ viewOf settings i
 unfolding fieldsOf viewOf
-by-class c I.Illegal e = either (lookedAt c)
-by-class c (I.Lui rd imm) e = rw e
-by-class c (I.Auipc rd imm) e = rw e
-by-class c (I.Jal rd imm) e = rw e
-by-class c (I.Jalr rd rs1 imm) e = rw e
-by-class c (I.Branch op rs1 rs2 imm) e = rw e
-by-class c (I.Load op rd rs1 imm) e = rw e
-by-class c (I.Store op rs1 rs2 imm) e = rw e
-by-class c (I.OpImm op rd rs1 imm) e = rw e
-by-class c (I.OpImm32 op rd rs1 imm) e = rw e
-by-class c (I.Op op rd rs1 rs2) e = rw e
-by-class c (I.Op32 op rd rs1 rs2) e = rw e
-by-class c (I.Fence rd rs1 imm) e = rw e
-by-class c I.Ecall e = rw e
-by-class c I.Ebreak e = rw e
-by-class c (I.Amo a) e = rw e
+by-class settings c I.Illegal e = either (lookedAt settings c)
+by-class settings c (I.Lui rd imm) e = rw e
+by-class settings c (I.Auipc rd imm) e = rw e
+by-class settings c (I.Jal rd imm) e = rw e
+by-class settings c (I.Jalr rd rs1 imm) e = bool-cases (jalrPermitted settings) (λ p. rw (e, p)) (λ p. rw (e, p))
+by-class settings c (I.Branch op rs1 rs2 imm) e = rw e
+by-class settings c (I.Load op rd rs1 imm) e = rw e
+by-class settings c (I.Store op rs1 rs2 imm) e = rw e
+by-class settings c (I.OpImm op rd rs1 imm) e = rw e
+by-class settings c (I.OpImm32 op rd rs1 imm) e = rw e
+by-class settings c (I.Op op rd rs1 rs2) e = rw e
+by-class settings c (I.Op32 op rd rs1 rs2) e = rw e
+by-class settings c (I.Fence rd rs1 imm) e = rw e
+by-class settings c I.Ecall e = rw e
+by-class settings c I.Ebreak e = rw e
+by-class settings c (I.Amo a) e = rw e
 
 -- what the code sees, by the class, is what the definition sees
-pub looked : (w : ℕ) → lookedAt (D.classOf w) ≡ true → fieldsOf (D.decodeOf w) ≡ viewOf (D.decodeOf w)
-looked w t =
-    ap (λ (b : Bool). cond b (fieldsOf (D.decodeOf w)) Other) (sym t) ∙ by-class (D.classOf w) (D.decodeOf w) (in-class w)
+pub looked : (settings : Settings) (w : ℕ) → lookedAt settings (D.classOf w) ≡ true → fieldsOf (D.decodeOf w) ≡ viewOf settings (D.decodeOf w)
+looked settings w t =
+    ap (λ (b : Bool). cond b (fieldsOf (D.decodeOf w)) Other) (sym t) ∙ by-class settings (D.classOf w) (D.decodeOf w) (in-class w)
 
-pub passed-over : (w : ℕ) → lookedAt (D.classOf w) ≡ false → Other ≡ viewOf (D.decodeOf w)
-passed-over w t =
-    ap (λ (b : Bool). cond b (fieldsOf (D.decodeOf w)) Other) (sym t) ∙ by-class (D.classOf w) (D.decodeOf w) (in-class w)
+pub passed-over : (settings : Settings) (w : ℕ) → lookedAt settings (D.classOf w) ≡ false → Other ≡ viewOf settings (D.decodeOf w)
+passed-over settings w t =
+    ap (λ (b : Bool). cond b (fieldsOf (D.decodeOf w)) Other) (sym t) ∙ by-class settings (D.classOf w) (D.decodeOf w) (in-class w)

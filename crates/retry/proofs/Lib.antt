@@ -6,3 +6,4 @@ pub mod ViewLaws
 pub mod PlaceLaws
 pub mod ReasonLaws
 pub mod ShapeLaws
+pub mod VersionLaws

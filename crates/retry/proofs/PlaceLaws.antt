@@ -9,6 +9,7 @@ use lib.Dec.{ltb, eqb}
 use lib.ListN.{length, getD}
 use borrow.Author.Tests.{lt-ltb, ltb-true, ltb-false, eq-eqb, eqb-true, eqb-false, ne-eqb, not-true, not-false}
 use Rattle.word.proofs.TestLaws.{bool-cases, contrary, and-both, or-either}
+use Rattle.settings.specs.declared.Settings.{Settings}
 use Rattle.isa.specs.Width.{bytesOf}
 use Rattle.isa.specs.Decode.{decodeOf}
 use Rattle.isa.specs.declared.Atomic.{Atomic}
@@ -111,55 +112,55 @@ seen-sc i (Jump rd offset) s t = contrary t refl
 seen-sc i (Branch offset) s t = contrary t refl
 seen-sc i Other s t = contrary t refl
 
-module _ (ws : List ℕ) where
+module _ (settings : Settings) (ws : List ℕ) where
   abbrev word : ℕ → Instr
   word p = decodeOf (getD ws p 0)
 
-  pub sc-is : (p : ℕ) → AnSc ws p → isSc (viewAt ws p) ≡ true
+  pub sc-is : (p : ℕ) → AnSc ws p → isSc (viewAt settings ws p) ≡ true
   sc-is p s =
-      ap (λ (i : Instr). isSc (viewOf i)) (s .1 .0 .decodes) ∙ ap isSc (sc-view (s .0) (s .1 .1))
+      ap (λ (i : Instr). isSc (viewOf settings i)) (s .1 .0 .decodes) ∙ ap isSc (sc-view settings (s .0) (s .1 .1))
 
-  pub is-sc : (p : ℕ) → p < length ws → isSc (viewAt ws p) ≡ true → AnSc ws p
+  pub is-sc : (p : ℕ) → p < length ws → isSc (viewAt settings ws p) ≡ true → AnSc ws p
   is-sc p h t =
-      let s = seen-sc (word p) (viewOf (word p)) (seen (word p)) t in
+      let s = seen-sc (word p) (viewOf settings (word p)) (seen settings (word p)) t in
       (s .0, (record { inBlock = h; decodes = s .1 }, s .2))
 
-  pub past-none : (p : ℕ) → pastSc ws p ≡ false → (k : ℕ) → k < p → AnSc ws k → ⊥
+  pub past-none : (p : ℕ) → pastSc settings ws p ≡ false → (k : ℕ) → k < p → AnSc ws k → ⊥
   unfolding pastSc
   past-none zero t k h s = omega arith
   past-none (suc p) t k h s =
-      bool-cases (ltb k p) (λ l. past-none p (or-left (pastSc ws p) (isSc (viewAt ws p)) t) k (ltb-true k p l) s)
+      bool-cases (ltb k p) (λ l. past-none p (or-left (pastSc settings ws p) (isSc (viewAt settings ws p)) t) k (ltb-true k p l) s)
       (λ l.
       let e : k ≡ p = omega (arith, ltb-false k p l) in
-      contrary (sc-is p (subst (λ (n : ℕ). AnSc ws n) e s)) (or-right (pastSc ws p) (isSc (viewAt ws p)) t))
+      contrary (sc-is p (subst (λ (n : ℕ). AnSc ws n) e s)) (or-right (pastSc settings ws p) (isSc (viewAt settings ws p)) t))
 
-  pub past-first : (p : ℕ) → p ≤ length ws → pastSc ws p ≡ true → AfterSc ws p
+  pub past-first : (p : ℕ) → p ≤ length ws → pastSc settings ws p ≡ true → AfterSc ws p
   unfolding pastSc
   past-first zero l t = contrary t refl
   past-first (suc p) l t =
-      bool-cases (pastSc ws p)
+      bool-cases (pastSc settings ws p)
       (λ q. let f = past-first p (omega arith) q in (f .0, f .1, omega (arith, f .2)))
-      (λ q. (p, (is-sc p l (last (pastSc ws p) (isSc (viewAt ws p)) q t), past-none p q), omega arith))
+      (λ q. (p, (is-sc p l (last (pastSc settings ws p) (isSc (viewAt settings ws p)) q t), past-none p q), omega arith))
     where
       last : (a b : Bool) → a ≡ false → (a || b) ≡ true → b ≡ true
       last true b e f = contrary refl e
       last false b e f = f
 
   -- a first SC has none before it
-  pub first-past : (p : ℕ) → p ≤ length ws → FirstSc ws p → pastSc ws p ≡ false
+  pub first-past : (p : ℕ) → p ≤ length ws → FirstSc ws p → pastSc settings ws p ≡ false
   first-past p l f =
-      bool-cases (pastSc ws p) (λ t. let s = past-first p l t in absurd (f .1 (s .0) (s .2) (s .1 .0))) (λ t. t)
+      bool-cases (pastSc settings ws p) (λ t. let s = past-first p l t in absurd (f .1 (s .0) (s .2) (s .1 .0))) (λ t. t)
 
-  pub after-past : (p : ℕ) → AfterSc ws p → pastSc ws p ≡ true
+  pub after-past : (p : ℕ) → AfterSc ws p → pastSc settings ws p ≡ true
   after-past p s =
-      bool-cases (pastSc ws p) (λ t. t) (λ t. absurd (past-none p t (s .0) (s .2) (s .1 .0)))
+      bool-cases (pastSc settings ws p) (λ t. t) (λ t. absurd (past-none p t (s .0) (s .2) (s .1 .0)))
 
-  pub before-past : (p : ℕ) → p ≤ length ws → BeforeSc ws p → pastSc ws p ≡ false
+  pub before-past : (p : ℕ) → p ≤ length ws → BeforeSc ws p → pastSc settings ws p ≡ false
   before-past p l b =
-      bool-cases (pastSc ws p) (λ t. let s = past-first p l t in absurd (omega (arith, b (s .0) (s .1), s .2))) (λ t. t)
+      bool-cases (pastSc settings ws p) (λ t. let s = past-first p l t in absurd (omega (arith, b (s .0) (s .1), s .2))) (λ t. t)
 
   -- a place that is no SC and has none before it stands before the first SC
-  pub past-before : (p : ℕ) → pastSc ws p ≡ false → isSc (viewAt ws p) ≡ false → BeforeSc ws p
+  pub past-before : (p : ℕ) → pastSc settings ws p ≡ false → isSc (viewAt settings ws p) ≡ false → BeforeSc ws p
   past-before p t n first f =
       bool-cases (ltb p first) (λ l. ltb-true p first l)
       (λ l.
@@ -169,27 +170,27 @@ module _ (ws : List ℕ) where
       contrary (sc-is p (subst (λ (k : ℕ). AnSc ws k) e (f .0))) n))
 
   -- an SC is not before the first SC
-  pub sc-late : (p : ℕ) → p < length ws → isSc (viewAt ws p) ≡ true → BeforeSc ws p → ⊥
+  pub sc-late : (p : ℕ) → p < length ws → isSc (viewAt settings ws p) ≡ true → BeforeSc ws p → ⊥
   unfolding pastSc
   sc-late p l t b =
-      let s = past-first (suc p) l (second-of (pastSc ws p) (isSc (viewAt ws p)) t) in omega (arith, b (s .0) (s .1), s .2)
+      let s = past-first (suc p) l (second-of (pastSc settings ws p) (isSc (viewAt settings ws p)) t) in omega (arith, b (s .0) (s .1), s .2)
 
   -- ---- the reasons at a place
 
   module _ (p : ℕ) (l : p < length ws) where
     abbrev past : Bool
-    past = pastSc ws p
+    past = pastSc settings ws p
 
     abbrev stands : (i : Instr) → word p ≡ i → Stands ws p i
     stands i e = record { inBlock = l; decodes = e }
 
-    body : (v : View) → viewAt ws p ≡ v → Permitted (getD ws p 0) → Body v
-    body v q h = subst Body q (permitted-body (getD ws p 0) h)
+    body : (v : View) → viewAt settings ws p ≡ v → Permitted settings (getD ws p 0) → Body v
+    body v q h = subst Body q (permitted-body settings (getD ws p 0) h)
 
-    no-first : (v : View) → viewAt ws p ≡ v → isSc v ≡ false → FirstSc ws p → ⊥
+    no-first : (v : View) → viewAt settings ws p ≡ v → isSc v ≡ false → FirstSc ws p → ⊥
     no-first v q n f = contrary (sc-is p (f .0)) (ap isSc q ∙ n)
 
-    pub two-true : (v : View) → viewAt ws p ≡ v → reason2 past p v ≡ true → NotPermitted ws p
+    pub two-true : (v : View) → viewAt settings ws p ≡ v → reason2 past p v ≡ true → NotPermitted settings ws p
     two-true (Lr rd s u) q t = (ltb-true 0 p t, l, no-first (Lr rd s u) q refl, body (Lr rd s u) q)
     two-true (Sc s u) q t =
         let b = and-both (ltb 0 p) past t in
@@ -199,10 +200,10 @@ module _ (ws : List ℕ) where
     two-true (Branch off) q t = contrary t refl
     two-true Other q t = (ltb-true 0 p t, l, no-first Other q refl, body Other q)
 
-    allowed : (v : View) → viewAt ws p ≡ v → Body v → NotPermitted ws p → ⊥
-    allowed v q b n = n .3 (body-permitted (getD ws p 0) (subst Body (sym q) b))
+    allowed : (v : View) → viewAt settings ws p ≡ v → Body v → NotPermitted settings ws p → ⊥
+    allowed v q b n = n .3 (body-permitted settings (getD ws p 0) (subst Body (sym q) b))
 
-    pub two-false : (v : View) → viewAt ws p ≡ v → reason2 past p v ≡ false → NotPermitted ws p → ⊥
+    pub two-false : (v : View) → viewAt settings ws p ≡ v → reason2 past p v ≡ false → NotPermitted settings ws p → ⊥
     two-false (Lr rd s u) q t n = contrary (lt-ltb 0 p (n .0)) t
     two-false (Sc s u) q t n =
         n .2 (is-sc p l (ap isSc q), past-none p (and-second (ltb 0 p) past t (lt-ltb 0 p (n .0))))
@@ -221,24 +222,24 @@ module _ (ws : List ℕ) where
     bad-is offset (inl odd) = inl odd
     bad-is offset (inr low) = inr (low .0, λ h. low .1 (past-first p (omega arith) (h .0), h .1))
 
-    pub three-true : (v : View) → viewAt ws p ≡ v → reason3 past p v ≡ true → BadOffset ws p
+    pub three-true : (v : View) → viewAt settings ws p ≡ v → reason3 past p v ≡ true → BadOffset ws p
     three-true (Lr rd s u) q t = contrary t refl
     three-true (Sc s u) q t = contrary t refl
     three-true (Plain rd) q t = contrary t refl
     three-true (Jump rd off) q t =
-        let e : Seen (word p) (Jump rd off) = subst (Seen (word p)) q (seen (word p)) in
+        let e : Seen (word p) (Jump rd off) = subst (Seen (word p)) q (seen settings (word p)) in
         (off, inl (rd, stands (I.Jal rd off) e), is-bad off (wrong past p off t))
     three-true (Branch off) q t =
-        let e : Seen (word p) (Branch off) = subst (Seen (word p)) q (seen (word p)) in
+        let e : Seen (word p) (Branch off) = subst (Seen (word p)) q (seen settings (word p)) in
         (off, inr (e .0, e .1, e .2, stands (I.Branch (e .0) (e .1) (e .2) off) (e .3)), is-bad off (wrong past p off t))
     three-true Other q t = contrary t refl
 
-    leads : (offset : ℕ) → LeadsBy ws p offset → reason3 past p (viewAt ws p) ≡ wrongOffset past p offset
+    leads : (offset : ℕ) → LeadsBy ws p offset → reason3 past p (viewAt settings ws p) ≡ wrongOffset past p offset
     unfolding viewOf
-    leads offset (inl j) = ap (λ (i : Instr). reason3 past p (viewOf i)) (j .1 .decodes)
-    leads offset (inr b) = ap (λ (i : Instr). reason3 past p (viewOf i)) (b .3 .decodes)
+    leads offset (inl j) = ap (λ (i : Instr). reason3 past p (viewOf settings i)) (j .1 .decodes)
+    leads offset (inr b) = ap (λ (i : Instr). reason3 past p (viewOf settings i)) (b .3 .decodes)
 
-    pub three-false : reason3 past p (viewAt ws p) ≡ false → BadOffset ws p → ⊥
+    pub three-false : reason3 past p (viewAt settings ws p) ≡ false → BadOffset ws p → ⊥
     three-false t b = right past p (b .0) (sym (leads (b .0) (b .1)) ∙ t) (bad-is (b .0) (b .2))
 
     -- ---- with the LR at place 0
@@ -254,24 +255,24 @@ module _ (ws : List ℕ) where
       same-lr a s = let e : I.Amo a ≡ I.Amo lr = sym (s .0 .decodes) ∙ first .0 .decodes in cc
 
       -- what stands at place 0
-      pub at-start : p ≡ 0 → viewAt ws p ≡ Lr (lr .rd) rs1 width
+      pub at-start : p ≡ 0 → viewAt settings ws p ≡ Lr (lr .rd) rs1 width
       at-start e =
-          ap (λ (n : ℕ). viewAt ws n) e ∙ ap viewOf (first .0 .decodes) ∙ lr-view lr (first .1)
+          ap (λ (n : ℕ). viewAt settings ws n) e ∙ ap (viewOf settings) (first .0 .decodes) ∙ lr-view settings lr (first .1)
 
-      writes : (v : View) → viewAt ws p ≡ v → isSc v ≡ false → (rd : ℕ) → HasRd (word p) rd → (not past && clobbers rs1 rd) ≡ true → Overwrites ws p
+      writes : (v : View) → viewAt settings ws p ≡ v → isSc v ≡ false → (rd : ℕ) → HasRd (word p) rd → (not past && clobbers rs1 rd) ≡ true → Overwrites ws p
       writes v q n rd h t =
           let s = and-both (not past) (clobbers rs1 rd) t in
           let c = clobbers-true rs1 rd (s .1) in
           (lr, word p, first, inr (past-before p (not-true past (s .0)) (ap isSc q ∙ n)), stands (word p) refl, subst (HasRd (word p)) (c .0) h, c .1)
 
-      pub four-true : (v : View) → viewAt ws p ≡ v → reason4 rs1 past v ≡ true → Overwrites ws p
+      pub four-true : (v : View) → viewAt settings ws p ≡ v → reason4 rs1 past v ≡ true → Overwrites ws p
       four-true (Lr rd s u) q t =
-          let e : Seen (word p) (Lr rd s u) = subst (Seen (word p)) q (seen (word p)) in
+          let e : Seen (word p) (Lr rd s u) = subst (Seen (word p)) q (seen settings (word p)) in
           writes (Lr rd s u) q refl rd (subst (λ (i : Instr). HasRd i rd) (sym (e .is)) (e .rd-is)) t
       four-true (Sc s u) q t = contrary t refl
-      four-true (Plain rd) q t = writes (Plain rd) q refl rd (subst (Seen (word p)) q (seen (word p))) t
+      four-true (Plain rd) q t = writes (Plain rd) q refl rd (subst (Seen (word p)) q (seen settings (word p))) t
       four-true (Jump rd off) q t =
-          let e : Seen (word p) (Jump rd off) = subst (Seen (word p)) q (seen (word p)) in
+          let e : Seen (word p) (Jump rd off) = subst (Seen (word p)) q (seen settings (word p)) in
           writes (Jump rd off) q refl rd (subst (λ (i : Instr). HasRd i rd) (sym e) refl) t
       four-true (Branch off) q t = contrary t refl
       four-true Other q t = contrary t refl
@@ -281,13 +282,13 @@ module _ (ws : List ℕ) where
       early (inl z) = rw z
       early (inr b) = before-past p (omega arith) b
 
-      not-first : (v : View) → viewAt ws p ≡ v → (Lr (lr .rd) rs1 width ≡ v → ⊥) → p ≡ 0 → ⊥
+      not-first : (v : View) → viewAt settings ws p ≡ v → (Lr (lr .rd) rs1 width ≡ v → ⊥) → p ≡ 0 → ⊥
       not-first v q n z = n (sym (at-start z) ∙ q)
 
       caught : (rd : ℕ) → past ≡ false → rd ≡ rs1 → (rs1 ≡ 0 → ⊥) → (not past && clobbers rs1 rd) ≡ false → ⊥
       caught rd e h n t = contrary (both (not past) (clobbers rs1 rd) (not-of past e) (true-clobbers rs1 rd h n)) t
 
-      overwritten : (v : View) → viewAt ws p ≡ v → reason2 past p v ≡ false → reason4 rs1 past v ≡ false
+      overwritten : (v : View) → viewAt settings ws p ≡ v → reason2 past p v ≡ false → reason4 rs1 past v ≡ false
           → (p ≡ 0) ⊎ BeforeSc ws p → RdSeen v rs1 → (rs1 ≡ 0 → ⊥) → ⊥
       overwritten (Lr rd s u) q t f b h n = caught rd (early b) h n f
       overwritten (Sc s u) q t f (inl z) h n = not-first (Sc s u) q (λ e. let z′ : _≡_ {A = ℕ} 0 1 = cc in omega arith) z
@@ -298,17 +299,17 @@ module _ (ws : List ℕ) where
       overwritten Other q t f b h n =
           not-first Other q (λ e. let z′ : _≡_ {A = ℕ} 0 1 = cc in omega arith) (omega (arith, ltb-false 0 p t))
 
-      pub four-false : (v : View) → viewAt ws p ≡ v → reason2 past p v ≡ false → reason4 rs1 past v ≡ false → Overwrites ws p → ⊥
+      pub four-false : (v : View) → viewAt settings ws p ≡ v → reason2 past p v ≡ false → reason4 rs1 past v ≡ false → Overwrites ws p → ⊥
       four-false v q t f o =
           let e : o .0 .rs1 ≡ rs1 = ap (λ (a : Atomic). a .rs1) (same-lr (o .0) (o .2)) in
           let i : word p ≡ o .1 = o .4 .decodes in
           let h : HasRd (word p) rs1 = subst (λ (j : Instr). HasRd j rs1) (sym i) (subst (HasRd (o .1)) e (o .5)) in
-          overwritten v q t f (o .3) (subst (λ (u : View). RdSeen u rs1) q (rd-seen (word p) rs1 h)) (λ z. o .6 (e ∙ z))
+          overwritten v q t f (o .3) (subst (λ (u : View). RdSeen u rs1) q (rd-seen settings (word p) rs1 h)) (λ z. o .6 (e ∙ z))
 
-      pub five-true : (v : View) → viewAt ws p ≡ v → reason5 rs1 width past v ≡ true → OtherSc ws p
+      pub five-true : (v : View) → viewAt settings ws p ≡ v → reason5 rs1 width past v ≡ true → OtherSc ws p
       five-true (Lr rd s u) q t = contrary t refl
       five-true (Sc s u) q t =
-          let e : SeenSc (word p) s u = subst (Seen (word p)) q (seen (word p)) in
+          let e : SeenSc (word p) s u = subst (Seen (word p)) q (seen settings (word p)) in
           let b = and-both (not past) (not (eqb u width) || not (eqb s rs1)) t in
           let sc : ScAt ws p (e .of) = (stands (I.Amo (e .of)) (e .is), e .kind) in (
             lr,
@@ -327,11 +328,11 @@ module _ (ws : List ℕ) where
       five-true (Branch off) q t = contrary t refl
       five-true Other q t = contrary t refl
 
-      pub five-false : reason5 rs1 width past (viewAt ws p) ≡ false → OtherSc ws p → ⊥
+      pub five-false : reason5 rs1 width past (viewAt settings ws p) ≡ false → OtherSc ws p → ⊥
       five-false t o =
           let lr-is : o .0 ≡ lr = same-lr (o .0) (o .2) in
           let sc = o .1 in
-          let v : viewAt ws p ≡ Sc (sc .rs1) (bytesOf (sc .width)) = ap viewOf (o .4 .0 .decodes) ∙ sc-view sc (o .4 .1) in
+          let v : viewAt settings ws p ≡ Sc (sc .rs1) (bytesOf (sc .width)) = ap (viewOf settings) (o .4 .0 .decodes) ∙ sc-view settings sc (o .4 .1) in
           let fits = eqb (bytesOf (sc .width)) width in
           let same = eqb (sc .rs1) rs1 in
           let f : (not past && (not fits || not same)) ≡ false = sym (ap (reason5 rs1 width past) v) ∙ t in

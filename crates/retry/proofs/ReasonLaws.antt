@@ -8,7 +8,10 @@ use native.Mathlib.Omega.{arith}
 use lib.Dec.{ltb}
 use lib.ListN.{length, getD}
 use borrow.Author.Tests.{ltb-true, ltb-false}
-use Rattle.word.proofs.TestLaws.{bool-cases, never}
+use Rattle.word.proofs.TestLaws.{bool-cases, contrary, never}
+use Rattle.settings.specs.Settings.{VersionRules, versionOk}
+use Rattle.settings.specs.declared.Settings.{Settings}
+use Rattle.settings.proofs.SettingsLaws.{version-exact}
 use Rattle.isa.specs.Width.{bytesOf}
 use Rattle.isa.specs.Decode.{decodeOf}
 use Rattle.isa.specs.declared.Atomic.{Atomic}
@@ -18,15 +21,15 @@ use Rattle.retry.specs.declared.LoopAnswer.{LoopAnswer}
 use Rattle.retry.specs.declared.LoopAnswer.the-variants.{Accepted, Rejected, Refused}
 use Rattle.retry.specs.Loop.{loopRefusal, viewOf, viewAt, pastSc, reason2, reason3, reason4, reason5, lowestOf, orElse, scanOf, startOf, checkOf}
 use Rattle.retry.specs.Reasons.{LrAt, NotLr, NotPermitted, BadOffset, LeadsBy, Overwrites, OtherSc, NoSc}
-use Rattle.retry.specs.Reasons.{Reason, one, two, three, four, five, six, Unreasoned, Lowest, Sized, Exactly}
+use Rattle.retry.specs.Reasons.{Reason, one, two, three, four, five, six, Unreasoned, Lowest, Sized, RefusedBy, byVersion, byLength, Exactly}
 use Rattle.retry.proofs.ViewLaws.{SeenLr, seen, Seen, lr-view}
 use Rattle.retry.proofs.PlaceLaws.{past-none, past-first, two-true, two-false, three-true, three-false, four-true, four-false, five-true, five-false}
 
 -- ---- reasons by their numbers
 
-module _ (ws : List ℕ) (p : ℕ) where
-  below : (n : ℕ) → (1 < n → NotLr ws p → ⊥) → (2 < n → NotPermitted ws p → ⊥) → (3 < n → BadOffset ws p → ⊥)
-      → (4 < n → Overwrites ws p → ⊥) → (5 < n → OtherSc ws p → ⊥) → (6 < n → NoSc ws p → ⊥) → (r : ℕ) → r < n → Reason ws p r → ⊥
+module _ (settings : Settings) (ws : List ℕ) (p : ℕ) where
+  below : (n : ℕ) → (1 < n → NotLr ws p → ⊥) → (2 < n → NotPermitted settings ws p → ⊥) → (3 < n → BadOffset ws p → ⊥)
+      → (4 < n → Overwrites ws p → ⊥) → (5 < n → OtherSc ws p → ⊥) → (6 < n → NoSc ws p → ⊥) → (r : ℕ) → r < n → Reason settings ws p r → ⊥
   below n a b c d e f r l (one q x) = a (omega arith) x
   below n a b c d e f r l (two q x) = b (omega arith) x
   below n a b c d e f r l (three q x) = c (omega arith) x
@@ -34,7 +37,7 @@ module _ (ws : List ℕ) (p : ℕ) where
   below n a b c d e f r l (five q x) = e (omega arith) x
   below n a b c d e f r l (six q x) = f (omega arith) x
 
-  numbered : (r : ℕ) → Reason ws p r → (1 ≤ r) × (r ≤ 6)
+  numbered : (r : ℕ) → Reason settings ws p r → (1 ≤ r) × (r ≤ 6)
   numbered r (one q x) = (omega arith, omega arith)
   numbered r (two q x) = (omega arith, omega arith)
   numbered r (three q x) = (omega arith, omega arith)
@@ -43,21 +46,21 @@ module _ (ws : List ℕ) (p : ℕ) where
   numbered r (six q x) = (omega arith, omega arith)
 
 -- the lowest reason at a place, or 0 where there is none
-pub data At (ws : List ℕ) (p r : ℕ) : Type 0 where
-  clear : r ≡ 0 → ((s : ℕ) → Reason ws p s → ⊥) → At ws p r
-  found : (r ≡ 0 → ⊥) → Reason ws p r → ((s : ℕ) → s < r → Reason ws p s → ⊥) → At ws p r
+pub data At (settings : Settings) (ws : List ℕ) (p r : ℕ) : Type 0 where
+  clear : r ≡ 0 → ((s : ℕ) → Reason settings ws p s → ⊥) → At settings ws p r
+  found : (r ≡ 0 → ⊥) → Reason settings ws p r → ((s : ℕ) → s < r → Reason settings ws p s → ⊥) → At settings ws p r
 
 -- what an answer says of the reasons
-abbrev Decides : List ℕ → LoopAnswer → Type 0
-Decides ws Accepted = Unreasoned ws
-Decides ws (Rejected p r) = Lowest ws p r
-Decides ws Refused = ⊥
+abbrev Decides : Settings → List ℕ → LoopAnswer → Type 0
+Decides settings ws Accepted = Unreasoned settings ws
+Decides settings ws (Rejected p r) = Lowest settings ws p r
+Decides settings ws (Refused n) = ⊥
 
 leads-in : (ws : List ℕ) (p offset : ℕ) → LeadsBy ws p offset → p < length ws
 leads-in ws p offset (inl j) = j .1 .inBlock
 leads-in ws p offset (inr b) = b .3 .inBlock
 
-module _ (ws : List ℕ) (lr : Atomic) (first : LrAt ws 0 lr) where
+module _ (settings : Settings) (ws : List ℕ) (lr : Atomic) (first : LrAt ws 0 lr) where
   abbrev rs1 : ℕ
   rs1 = lr .rs1
 
@@ -69,54 +72,54 @@ module _ (ws : List ℕ) (lr : Atomic) (first : LrAt ws 0 lr) where
 
   module _ (p : ℕ) (l : p < length ws) where
     v : View
-    v = viewAt ws p
+    v = viewAt settings ws p
 
     inside : NoSc ws p → ⊥
     inside n = omega (arith, n .0)
 
-    pub at-place : At ws p (lowestOf rs1 width (pastSc ws p) p (viewAt ws p))
+    pub at-place : At settings ws p (lowestOf rs1 width (pastSc settings ws p) p (viewAt settings ws p))
     unfolding lowestOf v
     at-place = by-two (reason2 past p v) refl
       where
         past : Bool
-        past = pastSc ws p
+        past = pastSc settings ws p
 
         by-five : (t : Bool) → reason5 rs1 width past v ≡ t → reason2 past p v ≡ false → reason3 past p v ≡ false → reason4 rs1 past v ≡ false
-            → At ws p (cond t 5 0)
+            → At settings ws p (cond t 5 0)
         by-five true e a b c =
-            found (λ z. omega arith) (five refl (five-true ws p l lr first v refl e))
-            (below ws p 5 (λ h. is-lr p) (λ h. two-false ws p l v refl a) (λ h. three-false ws p l b)
-            (λ h. four-false ws p l lr first v refl a c) (never refl) (λ h. inside))
+            found (λ z. omega arith) (five refl (five-true settings ws p l lr first v refl e))
+            (below settings ws p 5 (λ h. is-lr p) (λ h. two-false settings ws p l v refl a) (λ h. three-false settings ws p l b)
+            (λ h. four-false settings ws p l lr first v refl a c) (never refl) (λ h. inside))
         by-five false e a b c =
             clear refl
             (λ s r.
-            below ws p 7 (λ h. is-lr p) (λ h. two-false ws p l v refl a) (λ h. three-false ws p l b)
-            (λ h. four-false ws p l lr first v refl a c) (λ h. five-false ws p l lr first e) (λ h. inside)
-            s (omega (arith, numbered ws p s r .1)) r)
+            below settings ws p 7 (λ h. is-lr p) (λ h. two-false settings ws p l v refl a) (λ h. three-false settings ws p l b)
+            (λ h. four-false settings ws p l lr first v refl a c) (λ h. five-false settings ws p l lr first e) (λ h. inside)
+            s (omega (arith, numbered settings ws p s r .1)) r)
 
         by-four : (t : Bool) → reason4 rs1 past v ≡ t → reason2 past p v ≡ false → reason3 past p v ≡ false
-            → At ws p (cond t 4 (cond (reason5 rs1 width past v) 5 0))
+            → At settings ws p (cond t 4 (cond (reason5 rs1 width past v) 5 0))
         by-four true e a b =
-            found (λ z. omega arith) (four refl (four-true ws p l lr first v refl e))
-            (below ws p 4 (λ h. is-lr p) (λ h. two-false ws p l v refl a) (λ h. three-false ws p l b) (never refl) (never refl) (λ h. inside))
+            found (λ z. omega arith) (four refl (four-true settings ws p l lr first v refl e))
+            (below settings ws p 4 (λ h. is-lr p) (λ h. two-false settings ws p l v refl a) (λ h. three-false settings ws p l b) (never refl) (never refl) (λ h. inside))
         by-four false e a b = by-five (reason5 rs1 width past v) refl a b e
 
         by-three : (t : Bool) → reason3 past p v ≡ t → reason2 past p v ≡ false
-            → At ws p (cond t 3 (cond (reason4 rs1 past v) 4 (cond (reason5 rs1 width past v) 5 0)))
+            → At settings ws p (cond t 3 (cond (reason4 rs1 past v) 4 (cond (reason5 rs1 width past v) 5 0)))
         by-three true e a =
-            found (λ z. omega arith) (three refl (three-true ws p l v refl e))
-            (below ws p 3 (λ h. is-lr p) (λ h. two-false ws p l v refl a) (never refl) (never refl) (never refl) (λ h. inside))
+            found (λ z. omega arith) (three refl (three-true settings ws p l v refl e))
+            (below settings ws p 3 (λ h. is-lr p) (λ h. two-false settings ws p l v refl a) (never refl) (never refl) (never refl) (λ h. inside))
         by-three false e a = by-four (reason4 rs1 past v) refl a e
 
         by-two : (t : Bool) → reason2 past p v ≡ t
-            → At ws p (cond t 2 (cond (reason3 past p v) 3 (cond (reason4 rs1 past v) 4 (cond (reason5 rs1 width past v) 5 0))))
+            → At settings ws p (cond t 2 (cond (reason3 past p v) 3 (cond (reason4 rs1 past v) 4 (cond (reason5 rs1 width past v) 5 0))))
         by-two true e =
-            found (λ z. omega arith) (two refl (two-true ws p l v refl e))
-            (below ws p 2 (λ h. is-lr p) (never refl) (never refl) (never refl) (never refl) (λ h. inside))
+            found (λ z. omega arith) (two refl (two-true settings ws p l v refl e))
+            (below settings ws p 2 (λ h. is-lr p) (never refl) (never refl) (never refl) (never refl) (λ h. inside))
         by-two false e = by-three (reason3 past p v) refl e
 
   -- at the end of the block, and behind it, only reason 6 can apply
-  at-end : (p : ℕ) → length ws ≤ p → (r : ℕ) → Reason ws p r → (r ≡ 6) × NoSc ws p
+  at-end : (p : ℕ) → length ws ≤ p → (r : ℕ) → Reason settings ws p r → (r ≡ 6) × NoSc ws p
   at-end p l r (one q x) = absurd (is-lr p x)
   at-end p l r (two q x) = absurd (omega (arith, x .1))
   at-end p l r (three q x) = absurd (omega (arith, leads-in ws p (x .0) (x .1)))
@@ -124,98 +127,122 @@ module _ (ws : List ℕ) (lr : Atomic) (first : LrAt ws 0 lr) where
   at-end p l r (five q x) = absurd (omega (arith, x .4 .0 .inBlock))
   at-end p l r (six q x) = (q, x)
 
-  ended : (p : ℕ) (t : Bool) → pastSc ws p ≡ t → p ≡ length ws → ((k r : ℕ) → k < p → Reason ws k r → ⊥)
-      → Decides ws (cond t Accepted (Rejected p 6))
+  ended : (p : ℕ) (t : Bool) → pastSc settings ws p ≡ t → p ≡ length ws → ((k r : ℕ) → k < p → Reason settings ws k r → ⊥)
+      → Decides settings ws (cond t Accepted (Rejected p 6))
   ended p true t e h =
-      let s = past-first ws p (omega arith) t in
+      let s = past-first settings ws p (omega arith) t in
       λ k r q.
       bool-cases (ltb k p) (λ m. h k r (ltb-true k p m) q)
       (λ m. let n = at-end k (omega (arith, ltb-false k p m)) r q .1 in n .1 (s .0) (s .1 .0))
   ended p false t e h =
       record {
-        applies = six refl (e, λ k s. past-none ws p t k (omega (arith, s .1 .0 .inBlock)) s);
+        applies = six refl (e, λ k s. past-none settings ws p t k (omega (arith, s .1 .0 .inBlock)) s);
         lowestPlace = h;
         lowestReason = λ r m q. omega (arith, at-end p (omega arith) r q .0);
       }
 
-  one-more : (p : ℕ) → ((k r : ℕ) → k < p → Reason ws k r → ⊥) → ((r : ℕ) → Reason ws p r → ⊥) → (k r : ℕ) → k < suc p → Reason ws k r → ⊥
+  one-more : (p : ℕ) → ((k r : ℕ) → k < p → Reason settings ws k r → ⊥) → ((r : ℕ) → Reason settings ws p r → ⊥) → (k r : ℕ) → k < suc p → Reason settings ws k r → ⊥
   one-more p h f k r m q =
       bool-cases (ltb k p) (λ t. h k r (ltb-true k p t) q)
-      (λ t. let e : k ≡ p = omega (arith, ltb-false k p t) in f r (subst (λ (n : ℕ). Reason ws n r) e q))
+      (λ t. let e : k ≡ p = omega (arith, ltb-false k p t) in f r (subst (λ (n : ℕ). Reason settings ws n r) e q))
 
-  settles : (p r : ℕ) (rest : LoopAnswer) → At ws p r → ((k s : ℕ) → k < p → Reason ws k s → ⊥)
-      → (((k s : ℕ) → k < suc p → Reason ws k s → ⊥) → Decides ws rest) → Decides ws (orElse p r rest)
+  settles : (p r : ℕ) (rest : LoopAnswer) → At settings ws p r → ((k s : ℕ) → k < p → Reason settings ws k s → ⊥)
+      → (((k s : ℕ) → k < suc p → Reason settings ws k s → ⊥) → Decides settings ws rest) → Decides settings ws (orElse p r rest)
   settles p zero rest (clear z f) h go = go (one-more p h f)
   settles p zero rest (found n a b) h go = absurd (n refl)
   settles p (suc r) rest (clear z f) h go = absurd (omega arith)
   settles p (suc r) rest (found n a b) h go = record { applies = a; lowestPlace = h; lowestReason = b }
 
-  scanned : (n p : ℕ) → p + n ≡ length ws → ((k r : ℕ) → k < p → Reason ws k r → ⊥) → Decides ws (scanOf rs1 width ws n p)
+  scanned : (n p : ℕ) → p + n ≡ length ws → ((k r : ℕ) → k < p → Reason settings ws k r → ⊥) → Decides settings ws (scanOf settings rs1 width ws n p)
   unfolding scanOf
-  scanned zero p e h = ended p (pastSc ws p) refl (omega arith) h
+  scanned zero p e h = ended p (pastSc settings ws p) refl (omega arith) h
   scanned (suc n) p e h =
-      settles p (lowestOf rs1 width (pastSc ws p) p (viewAt ws p)) (scanOf rs1 width ws n (suc p)) (at-place p (omega arith)) h
+      settles p (lowestOf rs1 width (pastSc settings ws p) p (viewAt settings ws p)) (scanOf settings rs1 width ws n (suc p)) (at-place p (omega arith)) h
       (λ more. scanned n (suc p) (omega arith) more)
 
 -- ---- the whole block
 
-lr-at : (ws : List ℕ) (rd s u : ℕ) → 0 < length ws → viewAt ws 0 ≡ Lr rd s u → (a : Atomic) × LrAt ws 0 a × (a .rs1 ≡ s) × (bytesOf (a .width) ≡ u)
-lr-at ws rd s u l q =
+lr-at : (settings : Settings) (ws : List ℕ) (rd s u : ℕ) → 0 < length ws → viewAt settings ws 0 ≡ Lr rd s u → (a : Atomic) × LrAt ws 0 a × (a .rs1 ≡ s) × (bytesOf (a .width) ≡ u)
+lr-at settings ws rd s u l q =
     let i = decodeOf (getD ws 0 0) in
-    let e : SeenLr i rd s u = subst (Seen i) q (seen i) in
+    let e : SeenLr i rd s u = subst (Seen i) q (seen settings i) in
     (e .of, (record { inBlock = l; decodes = e .is }, e .kind), e .rs1-is, e .width-is)
 
-lowest-one : (ws : List ℕ) → ((a : Atomic) → LrAt ws 0 a → ⊥) → Lowest ws 0 1
-lowest-one ws n =
+lowest-one : (settings : Settings) (ws : List ℕ) → ((a : Atomic) → LrAt ws 0 a → ⊥) → Lowest settings ws 0 1
+lowest-one settings ws n =
     record {
       applies = one refl (refl, n);
       lowestPlace = λ p r l q. omega arith;
-      lowestReason = λ r l q. omega (arith, numbered ws 0 r q .0);
+      lowestReason = λ r l q. omega (arith, numbered settings ws 0 r q .0);
     }
 
-no-lr : (ws : List ℕ) (v : View) → viewAt ws 0 ≡ v → ((rd s u : ℕ) → v ≡ Lr rd s u → ⊥) → Lowest ws 0 1
-no-lr ws v q n = lowest-one ws (λ a s. n (a .rd) (a .rs1) (bytesOf (a .width)) (sym q ∙ ap viewOf (s .0 .decodes) ∙ lr-view a (s .1)))
+no-lr : (settings : Settings) (ws : List ℕ) (v : View) → viewAt settings ws 0 ≡ v → ((rd s u : ℕ) → v ≡ Lr rd s u → ⊥) → Lowest settings ws 0 1
+no-lr settings ws v q n = lowest-one settings ws (λ a s. n (a .rd) (a .rs1) (bytesOf (a .width)) (sym q ∙ ap (viewOf settings) (s .0 .decodes) ∙ lr-view settings a (s .1)))
 
-started : (ws : List ℕ) (v : View) → viewAt ws 0 ≡ v → 0 < length ws → Decides ws (startOf v ws)
+started : (settings : Settings) (ws : List ℕ) (v : View) → viewAt settings ws 0 ≡ v → 0 < length ws → Decides settings ws (startOf settings v ws)
 unfolding startOf
-started ws (Lr rd s u) q l =
-    let f = lr-at ws rd s u l q in
-    subst (λ (n : ℕ). Decides ws (scanOf n u ws (length ws) 0)) (f .2)
-    (subst (λ (n : ℕ). Decides ws (scanOf (f .0 .rs1) n ws (length ws) 0)) (f .3)
-    (scanned ws (f .0) (f .1) (length ws) 0 (omega arith) (λ k r h. absurd (omega arith))))
-started ws (Sc s u) q l = no-lr ws (Sc s u) q (λ a b c e. let z : _≡_ {A = ℕ} 0 1 = cc in omega arith)
-started ws (Plain rd) q l = no-lr ws (Plain rd) q (λ a b c e. let z : _≡_ {A = ℕ} 0 1 = cc in omega arith)
-started ws (Jump rd off) q l = no-lr ws (Jump rd off) q (λ a b c e. let z : _≡_ {A = ℕ} 0 1 = cc in omega arith)
-started ws (Branch off) q l = no-lr ws (Branch off) q (λ a b c e. let z : _≡_ {A = ℕ} 0 1 = cc in omega arith)
-started ws Other q l = no-lr ws Other q (λ a b c e. let z : _≡_ {A = ℕ} 0 1 = cc in omega arith)
+started settings ws (Lr rd s u) q l =
+    let f = lr-at settings ws rd s u l q in
+    subst (λ (n : ℕ). Decides settings ws (scanOf settings n u ws (length ws) 0)) (f .2)
+    (subst (λ (n : ℕ). Decides settings ws (scanOf settings (f .0 .rs1) n ws (length ws) 0)) (f .3)
+    (scanned settings ws (f .0) (f .1) (length ws) 0 (omega arith) (λ k r h. absurd (omega arith))))
+started settings ws (Sc s u) q l = no-lr settings ws (Sc s u) q (λ a b c e. let z : _≡_ {A = ℕ} 0 1 = cc in omega arith)
+started settings ws (Plain rd) q l = no-lr settings ws (Plain rd) q (λ a b c e. let z : _≡_ {A = ℕ} 0 1 = cc in omega arith)
+started settings ws (Jump rd off) q l = no-lr settings ws (Jump rd off) q (λ a b c e. let z : _≡_ {A = ℕ} 0 1 = cc in omega arith)
+started settings ws (Branch off) q l = no-lr settings ws (Branch off) q (λ a b c e. let z : _≡_ {A = ℕ} 0 1 = cc in omega arith)
+started settings ws Other q l = no-lr settings ws Other q (λ a b c e. let z : _≡_ {A = ℕ} 0 1 = cc in omega arith)
 
 abbrev Unsized : List ℕ → Type 0
 Unsized ws = (length ws < 2) ⊎ (16 < length ws)
 
 -- the answer with what it says
-pub data Checked (ws : List ℕ) (r : LoopAnswer) : Type 0 where
-  judged : Sized ws → Decides ws r → Checked ws r
-  turned : Unsized ws → r ≡ Refused → Checked ws r
+pub data Checked (settings : Settings) (ws : List ℕ) (r : LoopAnswer) : Type 0 where
+  judged : VersionRules settings → Sized ws → Decides settings ws r → Checked settings ws r
+  turned : (n : ℕ) → RefusedBy settings ws n → r ≡ Refused n → Checked settings ws r
 
-pub checked : (ws : List ℕ) → Checked ws (checkOf ws)
+pub checked : (settings : Settings) (ws : List ℕ) → Checked settings ws (checkOf settings ws)
 unfolding checkOf
-checked ws = short (ltb (length ws) 2) refl
+checked settings ws = by-version (versionOk settings) refl
   where
-    long : (t : Bool) → ltb 16 (length ws) ≡ t → 2 ≤ length ws → Checked ws (cond t Refused (startOf (viewAt ws 0) ws))
-    long true e h = turned (inr (ltb-true 16 (length ws) e)) refl
-    long false e h = judged (h, ltb-false 16 (length ws) e) (started ws (viewAt ws 0) refl (omega arith))
+    long : VersionRules settings → (t : Bool) → ltb 16 (length ws) ≡ t → 2 ≤ length ws
+        → Checked settings ws (cond t (Refused 6) (startOf settings (viewAt settings ws 0) ws))
+    long v true e h = turned 6 (byLength refl v (inr (ltb-true 16 (length ws) e))) refl
+    long v false e h = judged v (h, ltb-false 16 (length ws) e) (started settings ws (viewAt settings ws 0) refl (omega arith))
 
-    short : (t : Bool) → ltb (length ws) 2 ≡ t → Checked ws (cond t Refused (cond (ltb 16 (length ws)) Refused (startOf (viewAt ws 0) ws)))
-    short true e = turned (inl (ltb-true (length ws) 2 e)) refl
-    short false e = long (ltb 16 (length ws)) refl (ltb-false (length ws) 2 e)
+    short : VersionRules settings → (t : Bool) → ltb (length ws) 2 ≡ t
+        → Checked settings ws (cond t (Refused 6) (cond (ltb 16 (length ws)) (Refused 6) (startOf settings (viewAt settings ws 0) ws)))
+    short v true e = turned 6 (byLength refl v (inl (ltb-true (length ws) 2 e))) refl
+    short v false e = long v (ltb 16 (length ws)) refl (ltb-false (length ws) 2 e)
 
-sized-not : (ws : List ℕ) → Sized ws → Unsized ws → ⊥
-sized-not ws s (inl h) = omega arith
-sized-not ws s (inr h) = omega arith
+    by-version : (t : Bool) → versionOk settings ≡ t
+        → Checked settings ws
+        (cond t (cond (ltb (length ws) 2) (Refused 6) (cond (ltb 16 (length ws)) (Refused 6) (startOf settings (viewAt settings ws 0) ws))) (Refused 2))
+    by-version true e = short (version-exact settings .0 e) (ltb (length ws) 2) refl
+    by-version false e = turned 2 (byVersion refl (λ v. contrary (version-exact settings .1 v) e)) refl
+
+-- what is refused isn't judged
+judged-not : (settings : Settings) (ws : List ℕ) (n : ℕ) → VersionRules settings → Sized ws → RefusedBy settings ws n → ⊥
+judged-not settings ws n v s (byVersion q b) = b v
+judged-not settings ws n v s (byLength q w u) = sized-not u
+  where
+    sized-not : Unsized ws → ⊥
+    sized-not (inl h) = omega arith
+    sized-not (inr h) = omega arith
+
+-- by one number
+same-number : (settings : Settings) (ws : List ℕ) (m n : ℕ) → RefusedBy settings ws m → RefusedBy settings ws n → m ≡ n
+same-number settings ws m n (byVersion p b) (byVersion q c) = omega arith
+same-number settings ws m n (byVersion p b) (byLength q v u) = absurd (b v)
+same-number settings ws m n (byLength p v u) (byVersion q c) = absurd (c v)
+same-number settings ws m n (byLength p v u) (byLength q w o) = omega arith
+
+some-number : (settings : Settings) (ws : List ℕ) (n : ℕ) → RefusedBy settings ws n → 0 < n
+some-number settings ws n (byVersion q b) = omega arith
+some-number settings ws n (byLength q v u) = omega arith
 
 -- the lowest is one
-same-lowest : (ws : List ℕ) (p r q s : ℕ) → Lowest ws p r → Lowest ws q s → (p ≡ q) × (r ≡ s)
-same-lowest ws p r q s a b = (places, reasons)
+same-lowest : (settings : Settings) (ws : List ℕ) (p r q s : ℕ) → Lowest settings ws p r → Lowest settings ws q s → (p ≡ q) × (r ≡ s)
+same-lowest settings ws p r q s a b = (places, reasons)
   where
     places : p ≡ q
     places =
@@ -226,52 +253,61 @@ same-lowest ws p r q s a b = (places, reasons)
     reasons : r ≡ s
     reasons =
         bool-cases (ltb r s)
-        (λ t. absurd (b .lowestReason r (ltb-true r s t) (subst (λ (n : ℕ). Reason ws n r) places (a .applies))))
+        (λ t. absurd (b .lowestReason r (ltb-true r s t) (subst (λ (n : ℕ). Reason settings ws n r) places (a .applies))))
         (λ t.
         bool-cases (ltb s r)
-        (λ u. absurd (a .lowestReason s (ltb-true s r u) (subst (λ (n : ℕ). Reason ws n s) (sym places) (b .applies))))
+        (λ u. absurd (a .lowestReason s (ltb-true s r u) (subst (λ (n : ℕ). Reason settings ws n s) (sym places) (b .applies))))
         (λ u. omega (arith, ltb-false r s t, ltb-false s r u)))
 
-module _ (ws : List ℕ) where
-  accepts-to : (r : LoopAnswer) → Checked ws r → r ≡ Accepted → Sized ws × Unreasoned ws
-  accepts-to r (judged s d) e = (s, subst (Decides ws) e d)
-  accepts-to r (turned u q) e = absurd (let z : _≡_ {A = ℕ} 0 1 = cc in omega arith)
+module _ (settings : Settings) (ws : List ℕ) where
+  accepts-to : (r : LoopAnswer) → Checked settings ws r → r ≡ Accepted → VersionRules settings × Sized ws × Unreasoned settings ws
+  accepts-to r (judged v s d) e = (v, s, subst (Decides settings ws) e d)
+  accepts-to r (turned n u q) e = absurd (let z : _≡_ {A = ℕ} 0 1 = cc in omega arith)
 
-  to-accepts : (r : LoopAnswer) → Checked ws r → Sized ws × Unreasoned ws → r ≡ Accepted
+  to-accepts : (r : LoopAnswer) → Checked settings ws r → VersionRules settings × Sized ws × Unreasoned settings ws → r ≡ Accepted
   to-accepts Accepted c h = refl
-  to-accepts (Rejected p r) (judged s d) h = absurd (h .1 p r (d .applies))
-  to-accepts (Rejected p r) (turned u q) h = absurd (sized-not ws (h .0) u)
-  to-accepts Refused (judged s d) h = absurd d
-  to-accepts Refused (turned u q) h = absurd (sized-not ws (h .0) u)
+  to-accepts (Rejected p r) (judged v s d) h = absurd (h .2 p r (d .applies))
+  to-accepts (Rejected p r) (turned n u q) h = absurd (judged-not settings ws n (h .0) (h .1) u)
+  to-accepts (Refused m) (judged v s d) h = absurd d
+  to-accepts (Refused m) (turned n u q) h = absurd (judged-not settings ws n (h .0) (h .1) u)
 
-  rejects-to : (p r : ℕ) (a : LoopAnswer) → Checked ws a → a ≡ Rejected p r → Sized ws × Lowest ws p r
-  rejects-to p r a (judged s d) e = (s, subst (Decides ws) e d)
-  rejects-to p r a (turned u q) e = absurd (let z : _≡_ {A = ℕ} 0 1 = cc in omega arith)
+  rejects-to : (p r : ℕ) (a : LoopAnswer) → Checked settings ws a → a ≡ Rejected p r → VersionRules settings × Sized ws × Lowest settings ws p r
+  rejects-to p r a (judged v s d) e = (v, s, subst (Decides settings ws) e d)
+  rejects-to p r a (turned n u q) e = absurd (let z : _≡_ {A = ℕ} 0 1 = cc in omega arith)
 
-  to-rejects : (p r : ℕ) (a : LoopAnswer) → Checked ws a → Sized ws × Lowest ws p r → a ≡ Rejected p r
-  to-rejects p r Accepted (judged s d) h = absurd (d p r (h .1 .applies))
-  to-rejects p r Accepted (turned u q) h = absurd (sized-not ws (h .0) u)
-  to-rejects p r (Rejected k s) (judged z d) h = let e = same-lowest ws k s p r d (h .1) in cc
-  to-rejects p r (Rejected k s) (turned u q) h = absurd (sized-not ws (h .0) u)
-  to-rejects p r Refused (judged s d) h = absurd d
-  to-rejects p r Refused (turned u q) h = absurd (sized-not ws (h .0) u)
+  to-rejects : (p r : ℕ) (a : LoopAnswer) → Checked settings ws a → VersionRules settings × Sized ws × Lowest settings ws p r → a ≡ Rejected p r
+  to-rejects p r Accepted (judged v s d) h = absurd (d p r (h .2 .applies))
+  to-rejects p r Accepted (turned n u q) h = absurd (judged-not settings ws n (h .0) (h .1) u)
+  to-rejects p r (Rejected k s) (judged v z d) h = let e = same-lowest settings ws k s p r d (h .2) in cc
+  to-rejects p r (Rejected k s) (turned n u q) h = absurd (judged-not settings ws n (h .0) (h .1) u)
+  to-rejects p r (Refused m) (judged v s d) h = absurd d
+  to-rejects p r (Refused m) (turned n u q) h = absurd (judged-not settings ws n (h .0) (h .1) u)
 
-  refuses-to : (a : LoopAnswer) → Checked ws a → loopRefusal a ≡ 6 → Unsized ws
-  refuses-to Accepted c e = absurd (omega arith)
-  refuses-to (Rejected p r) c e = absurd (omega arith)
-  refuses-to Refused (judged s d) e = absurd d
-  refuses-to Refused (turned u q) e = u
+  refuses-to : (n : ℕ) (a : LoopAnswer) → Checked settings ws a → 0 < n → loopRefusal a ≡ n → RefusedBy settings ws n
+  refuses-to n Accepted c z e = absurd (omega arith)
+  refuses-to n (Rejected p r) c z e = absurd (omega arith)
+  refuses-to n (Refused m) (judged v s d) z e = absurd d
+  refuses-to n (Refused m) (turned k u q) z e =
+      let same : k ≡ n = sym (ap loopRefusal q) ∙ e in
+      subst (RefusedBy settings ws) same u
 
-  to-refuses : (a : LoopAnswer) → Checked ws a → Unsized ws → a ≡ Refused
-  to-refuses a (judged s d) h = absurd (sized-not ws s h)
-  to-refuses a (turned u q) h = q
+  to-refuses : (n : ℕ) (a : LoopAnswer) → Checked settings ws a → RefusedBy settings ws n → a ≡ Refused n
+  to-refuses n a (judged v s d) h = absurd (judged-not settings ws n v s h)
+  to-refuses n a (turned k u q) h = q ∙ ap Refused (same-number settings ws k n u h)
 
-  -- 01, "Retry loops", of every list of words
-  pub exactly : Exactly ws
+  -- a refusal has a number
+  told : (n : ℕ) (a : LoopAnswer) → Checked settings ws a → a ≡ Refused n → RefusedBy settings ws n
+  told n a (judged v s d) e = absurd (subst (Decides settings ws) e d)
+  told n a (turned k u q) e = subst (RefusedBy settings ws) (ap loopRefusal (sym q ∙ e)) u
+
+  -- 01, "Retry loops", of every list of words, under every version
+  pub exactly : Exactly settings ws
   exactly =
+      let answer = checkOf settings ws in
+      let c = checked settings ws in
       record {
-        accepts = (accepts-to (checkOf ws) (checked ws), to-accepts (checkOf ws) (checked ws));
-        rejects = λ p r. (rejects-to p r (checkOf ws) (checked ws), to-rejects p r (checkOf ws) (checked ws));
-        refuses = ((λ e. refuses-to (checkOf ws) (checked ws) (ap loopRefusal e)), to-refuses (checkOf ws) (checked ws));
-        number = (refuses-to (checkOf ws) (checked ws), λ u. ap loopRefusal (to-refuses (checkOf ws) (checked ws) u));
+        accepts = (accepts-to answer c, to-accepts answer c);
+        rejects = λ p r. (rejects-to p r answer c, to-rejects p r answer c);
+        refuses = λ n. (told n answer c, to-refuses n answer c);
+        number = λ n. (λ h. refuses-to n answer c (h .0) (h .1), λ u. (some-number settings ws n u, ap loopRefusal (to-refuses n answer c u)));
       }

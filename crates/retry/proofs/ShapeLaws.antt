@@ -9,6 +9,8 @@ use lib.Dec.{ltb, eqb}
 use lib.ListN.{length, getD}
 use borrow.Author.Tests.{lt-ltb, ltb-true, ltb-false, eqb-true, not-false}
 use Rattle.word.proofs.TestLaws.{bool-cases, contrary, and-both}
+use Rattle.settings.specs.Settings.{versionOk}
+use Rattle.settings.specs.declared.Settings.{Settings}
 use Rattle.isa.specs.Width.{bytesOf}
 use Rattle.isa.specs.Decode.{decodeOf}
 use Rattle.isa.specs.declared.Width.{Width}
@@ -54,20 +56,20 @@ After place (Branch offset) = Ahead offset ⊎ Home place offset
 After place Other = ⊥
 
 -- An accepted block: its LR at place 0, its first SC at place sc, and the words between and behind.
-pub record Block (ws : List ℕ) : Type 0 where
+pub record Block (settings : Settings) (ws : List ℕ) : Type 0 where
   pub rd : ℕ
   pub rs1 : ℕ
   pub width : ℕ
   pub sc : ℕ
   pub sized : Sized ws
-  pub lr-is : viewAt ws 0 ≡ Lr rd rs1 width
+  pub lr-is : viewAt settings ws 0 ≡ Lr rd rs1 width
   pub widths : (width ≡ 4) ⊎ (width ≡ 8)
   pub keeps : Keeps rs1 rd
   pub later : 0 < sc
   pub inBlock : sc < length ws
-  pub sc-is-first : viewAt ws sc ≡ Sc rs1 width
-  pub before : (k : ℕ) → 0 < k → k < sc → Before rs1 (viewAt ws k)
-  pub after : (k : ℕ) → sc < k → k < length ws → After k (viewAt ws k)
+  pub sc-is-first : viewAt settings ws sc ≡ Sc rs1 width
+  pub before : (k : ℕ) → 0 < k → k < sc → Before rs1 (viewAt settings ws k)
+  pub after : (k : ℕ) → sc < k → k < length ws → After k (viewAt settings ws k)
 
 -- ---- tests that failed
 
@@ -165,29 +167,29 @@ goes-on : (place r : ℕ) (rest : LoopAnswer) → orElse place r rest ≡ Accept
 goes-on place zero rest e = (refl, e)
 goes-on place (suc r) rest e = absurd (let z : _≡_ {A = ℕ} 0 1 = cc in omega arith)
 
-module _ (rs1 width : ℕ) (ws : List ℕ) where
+module _ (settings : Settings) (rs1 width : ℕ) (ws : List ℕ) where
   -- every place from p on is clear, and an SC stands in the block
-  cleared : (n p : ℕ) → p + n ≡ length ws → scanOf rs1 width ws n p ≡ Accepted
-      → ((k : ℕ) → p ≤ k → k < length ws → lowestOf rs1 width (pastSc ws k) k (viewAt ws k) ≡ 0) × (pastSc ws (length ws) ≡ true)
+  cleared : (n p : ℕ) → p + n ≡ length ws → scanOf settings rs1 width ws n p ≡ Accepted
+      → ((k : ℕ) → p ≤ k → k < length ws → lowestOf rs1 width (pastSc settings ws k) k (viewAt settings ws k) ≡ 0) × (pastSc settings ws (length ws) ≡ true)
   unfolding scanOf
   cleared zero p e a =
-      ((λ k m l. absurd (omega arith)), subst (λ (n : ℕ). pastSc ws n ≡ true) (let f : p ≡ length ws = omega arith in f) (ended (pastSc ws p) a))
+      ((λ k m l. absurd (omega arith)), subst (λ (n : ℕ). pastSc settings ws n ≡ true) (let f : p ≡ length ws = omega arith in f) (ended (pastSc settings ws p) a))
     where
       ended : (t : Bool) → cond t Accepted (Rejected p 6) ≡ Accepted → t ≡ true
       ended true q = refl
       ended false q = absurd (let z : _≡_ {A = ℕ} 0 1 = cc in omega arith)
   cleared (suc n) p e a =
-      let g = goes-on p (lowestOf rs1 width (pastSc ws p) p (viewAt ws p)) (scanOf rs1 width ws n (suc p)) a in
+      let g = goes-on p (lowestOf rs1 width (pastSc settings ws p) p (viewAt settings ws p)) (scanOf settings rs1 width ws n (suc p)) a in
       let r = cleared n (suc p) (omega arith) (g .1) in (
         (λ k m l.
             bool-cases (ltb p k) (λ t. r .0 k (ltb-true p k t) l)
             (λ t.
             let f : p ≡ k = omega (arith, ltb-false p k t) in
-            subst (λ (j : ℕ). lowestOf rs1 width (pastSc ws j) j (viewAt ws j) ≡ 0) f (g .0))),
+            subst (λ (j : ℕ). lowestOf rs1 width (pastSc settings ws j) j (viewAt settings ws j) ≡ 0) f (g .0))),
         r .1,
       )
 
-  built : (rd : ℕ) → Sized ws → viewAt ws 0 ≡ Lr rd rs1 width → scanOf rs1 width ws (length ws) 0 ≡ Accepted → Block ws
+  built : (rd : ℕ) → Sized ws → viewAt settings ws 0 ≡ Lr rd rs1 width → scanOf settings rs1 width ws (length ws) 0 ≡ Accepted → Block settings ws
   built rd z q a =
       record {
         rd = rd;
@@ -201,65 +203,74 @@ module _ (rs1 width : ℕ) (ws : List ℕ) where
         later = late;
         inBlock = s .2;
         sc-is-first =
-            sc-at rs1 width (pastSc ws j) j late (viewAt ws j) (clear-at j (s .2)) (first-past ws j (omega (arith, s .2)) (s .1)) (sc-is ws j (s .1 .0));
-        before = λ k o h. before-at rs1 width (pastSc ws k) k o (viewAt ws k) (clear-at k (omega (arith, s .2))) (past-early k h) (no-sc k h);
-        after = λ k h l. after-at rs1 width (pastSc ws k) k (omega arith) (viewAt ws k) (clear-at k l) (after-past ws k (j, s .1, h));
+            sc-at rs1 width (pastSc settings ws j) j late (viewAt settings ws j) (clear-at j (s .2)) (first-past settings ws j (omega (arith, s .2)) (s .1)) (sc-is settings ws j (s .1 .0));
+        before = λ k o h. before-at rs1 width (pastSc settings ws k) k o (viewAt settings ws k) (clear-at k (omega (arith, s .2))) (past-early k h) (no-sc k h);
+        after = λ k h l. after-at rs1 width (pastSc settings ws k) k (omega arith) (viewAt settings ws k) (clear-at k l) (after-past settings ws k (j, s .1, h));
       }
     where
-      r : ((k : ℕ) → 0 ≤ k → k < length ws → lowestOf rs1 width (pastSc ws k) k (viewAt ws k) ≡ 0) × (pastSc ws (length ws) ≡ true)
+      r : ((k : ℕ) → 0 ≤ k → k < length ws → lowestOf rs1 width (pastSc settings ws k) k (viewAt settings ws k) ≡ 0) × (pastSc settings ws (length ws) ≡ true)
       r = cleared (length ws) 0 (omega arith) a
 
-      clear-at : (k : ℕ) → k < length ws → Clear rs1 width (pastSc ws k) k (viewAt ws k)
-      clear-at k l = clear rs1 width (pastSc ws k) k (viewAt ws k) (r .0 k (omega arith) l)
+      clear-at : (k : ℕ) → k < length ws → Clear rs1 width (pastSc settings ws k) k (viewAt settings ws k)
+      clear-at k l = clear rs1 width (pastSc settings ws k) k (viewAt settings ws k) (r .0 k (omega arith) l)
 
       s : (first : ℕ) × FirstSc ws first × (first < length ws)
-      s = past-first ws (length ws) (omega arith) (r .1)
+      s = past-first settings ws (length ws) (omega arith) (r .1)
 
       j : ℕ
       j = s .0
 
       lr : SeenLr (decodeOf (getD ws 0 0)) rd rs1 width
-      lr = subst (Seen (decodeOf (getD ws 0 0))) q (seen (decodeOf (getD ws 0 0)))
+      lr = subst (Seen (decodeOf (getD ws 0 0))) q (seen settings (decodeOf (getD ws 0 0)))
 
       late : 0 < j
       late =
           bool-cases (ltb 0 j) (λ t. ltb-true 0 j t)
           (λ t.
           let e : j ≡ 0 = omega (arith, ltb-false 0 j t) in
-          contrary (sc-is ws j (s .1 .0)) (ap (λ (n : ℕ). isSc (viewAt ws n)) e ∙ ap isSc q))
+          contrary (sc-is settings ws j (s .1 .0)) (ap (λ (n : ℕ). isSc (viewAt settings ws n)) e ∙ ap isSc q))
 
-      own : Clear rs1 width (pastSc ws 0) 0 (viewAt ws 0) → Keeps rs1 rd
-      own c = keeps-rs1 rs1 rd (and-second (not (pastSc ws 0)) (clobbers rs1 rd) (sym (ap (reason4 rs1 (pastSc ws 0)) q) ∙ c .no4) (not-of (pastSc ws 0) start))
+      own : Clear rs1 width (pastSc settings ws 0) 0 (viewAt settings ws 0) → Keeps rs1 rd
+      own c = keeps-rs1 rs1 rd (and-second (not (pastSc settings ws 0)) (clobbers rs1 rd) (sym (ap (reason4 rs1 (pastSc settings ws 0)) q) ∙ c .no4) (not-of (pastSc settings ws 0) start))
         where
-          start : pastSc ws 0 ≡ false
-          start = bool-cases (pastSc ws 0) (λ t. let f = past-first ws 0 (omega arith) t in absurd (omega (arith, f .2))) (λ t. t)
+          start : pastSc settings ws 0 ≡ false
+          start = bool-cases (pastSc settings ws 0) (λ t. let f = past-first settings ws 0 (omega arith) t in absurd (omega (arith, f .2))) (λ t. t)
 
-      past-early : (k : ℕ) → k < j → pastSc ws k ≡ false
+      past-early : (k : ℕ) → k < j → pastSc settings ws k ≡ false
       past-early k h =
-          bool-cases (pastSc ws k)
-          (λ t. let f = past-first ws k (omega (arith, s .2)) t in absurd (s .1 .1 (f .0) (omega (arith, f .2)) (f .1 .0))) (λ t. t)
+          bool-cases (pastSc settings ws k)
+          (λ t. let f = past-first settings ws k (omega (arith, s .2)) t in absurd (s .1 .1 (f .0) (omega (arith, f .2)) (f .1 .0))) (λ t. t)
 
-      no-sc : (k : ℕ) → k < j → isSc (viewAt ws k) ≡ false
+      no-sc : (k : ℕ) → k < j → isSc (viewAt settings ws k) ≡ false
       no-sc k h =
-          bool-cases (isSc (viewAt ws k)) (λ t. absurd (s .1 .1 k h (is-sc ws k (omega (arith, s .2)) t))) (λ t. t)
+          bool-cases (isSc (viewAt settings ws k)) (λ t. absurd (s .1 .1 k h (is-sc settings ws k (omega (arith, s .2)) t))) (λ t. t)
 
-started : (ws : List ℕ) (v : View) → viewAt ws 0 ≡ v → Sized ws → startOf v ws ≡ Accepted → Block ws
+started : (settings : Settings) (ws : List ℕ) (v : View) → viewAt settings ws 0 ≡ v → Sized ws → startOf settings v ws ≡ Accepted → Block settings ws
 unfolding startOf
-started ws (Lr rd rs1 width) q z a = built rs1 width ws rd z q a
-started ws (Sc s u) q z a = absurd (let n : _≡_ {A = ℕ} 0 1 = cc in omega arith)
-started ws (Plain rd) q z a = absurd (let n : _≡_ {A = ℕ} 0 1 = cc in omega arith)
-started ws (Jump rd offset) q z a = absurd (let n : _≡_ {A = ℕ} 0 1 = cc in omega arith)
-started ws (Branch offset) q z a = absurd (let n : _≡_ {A = ℕ} 0 1 = cc in omega arith)
-started ws Other q z a = absurd (let n : _≡_ {A = ℕ} 0 1 = cc in omega arith)
+started settings ws (Lr rd rs1 width) q z a = built settings rs1 width ws rd z q a
+started settings ws (Sc s u) q z a = absurd (let n : _≡_ {A = ℕ} 0 1 = cc in omega arith)
+started settings ws (Plain rd) q z a = absurd (let n : _≡_ {A = ℕ} 0 1 = cc in omega arith)
+started settings ws (Jump rd offset) q z a = absurd (let n : _≡_ {A = ℕ} 0 1 = cc in omega arith)
+started settings ws (Branch offset) q z a = absurd (let n : _≡_ {A = ℕ} 0 1 = cc in omega arith)
+started settings ws Other q z a = absurd (let n : _≡_ {A = ℕ} 0 1 = cc in omega arith)
 
-pub block : (ws : List ℕ) → checkOf ws ≡ Accepted → Block ws
+pub block : (settings : Settings) (ws : List ℕ) → checkOf settings ws ≡ Accepted → Block settings ws
 unfolding checkOf
-block ws a = short (ltb (length ws) 2) refl a
+block settings ws a = by-version (versionOk settings) a
   where
-    long : (t : Bool) → ltb 16 (length ws) ≡ t → 2 ≤ length ws → cond t Refused (startOf (viewAt ws 0) ws) ≡ Accepted → Block ws
+    long : (t : Bool) → ltb 16 (length ws) ≡ t → 2 ≤ length ws → cond t (Refused 6) (startOf settings (viewAt settings ws 0) ws) ≡ Accepted
+        → Block settings ws
     long true e h q = absurd (let n : _≡_ {A = ℕ} 0 1 = cc in omega arith)
-    long false e h q = started ws (viewAt ws 0) refl (h, ltb-false 16 (length ws) e) q
+    long false e h q = started settings ws (viewAt settings ws 0) refl (h, ltb-false 16 (length ws) e) q
 
-    short : (t : Bool) → ltb (length ws) 2 ≡ t → cond t Refused (cond (ltb 16 (length ws)) Refused (startOf (viewAt ws 0) ws)) ≡ Accepted → Block ws
+    short : (t : Bool) → ltb (length ws) 2 ≡ t
+        → cond t (Refused 6) (cond (ltb 16 (length ws)) (Refused 6) (startOf settings (viewAt settings ws 0) ws)) ≡ Accepted → Block settings ws
     short true e q = absurd (let n : _≡_ {A = ℕ} 0 1 = cc in omega arith)
     short false e q = long (ltb 16 (length ws)) refl (ltb-false (length ws) 2 e) q
+
+    by-version : (t : Bool)
+        → cond t (cond (ltb (length ws) 2) (Refused 6) (cond (ltb 16 (length ws)) (Refused 6) (startOf settings (viewAt settings ws 0) ws))) (Refused 2)
+        ≡ Accepted
+        → Block settings ws
+    by-version true q = short (ltb (length ws) 2) refl q
+    by-version false q = absurd (let n : _≡_ {A = ℕ} 0 1 = cc in omega arith)

@@ -1,10 +1,14 @@
 -- What the checker sees of an instruction says what the instruction is. Assumes nothing.
-use mathlib.Core.Path.{_≡_, refl, ap, subst}
+use mathlib.Core.Path.{_≡_, refl, ap, subst, _∙_}
 use mathlib.Core.Logic.{_≢_}
 use mathlib.Core.Bool.{true}
 use Prim.Native.Nat.{ℕ}
 use native.Mathlib.Omega.{arith}
-use Rattle.word.proofs.TestLaws.{contrary}
+use Rattle.word.proofs.TestLaws.{bool-cases, contrary}
+use Rattle.word.proofs.ChooseLaws.{cond-all, cond-cases}
+use Rattle.settings.specs.Settings.{jalrPermitted}
+use Rattle.settings.specs.declared.Settings.{Settings}
+use Rattle.settings.proofs.SettingsLaws.{jalr-exact}
 use Rattle.isa.specs.Width.{bytesOf}
 use Rattle.isa.specs.Decode.{classOf, decodeOf}
 use Rattle.isa.specs.declared.BranchOp.{BranchOp}
@@ -18,7 +22,7 @@ use Rattle.isa.specs.declared.Instr.the-variants as I
 use Rattle.retry.specs.declared.View.{View}
 use Rattle.retry.specs.declared.View.the-variants.{Lr, Sc, Plain, Jump, Branch, Other}
 use Rattle.retry.specs.Loop.{atomicView, viewOf, permittedClass}
-use Rattle.retry.specs.Reasons.{PermittedClass, isLui, isAuipc, isJal, isBranch, isOp, isOpImm, isOp32, isOpImm32, Permitted, HasRd}
+use Rattle.retry.specs.Reasons.{PermittedClass, isLui, isAuipc, isJal, isBranch, isOp, isOpImm, isOp32, isOpImm32, isJalr, Permitted, HasRd}
 use Rattle.retry.proofs.ClassLaws.{InClass, in-class}
 
 -- ---- the instruction of a view
@@ -53,32 +57,32 @@ seen-atomic A.Cas a e = tt
 seen-atomic A.CasPair a e = tt
 seen-atomic (A.Rmw op) a e = tt
 
-pub seen : (i : Instr) → Seen i (viewOf i)
+pub seen : (settings : Settings) (i : Instr) → Seen i (viewOf settings i)
 unfolding viewOf
-seen I.Illegal = tt
-seen (I.Lui rd imm) = refl
-seen (I.Auipc rd imm) = refl
-seen (I.Jal rd imm) = refl
-seen (I.Jalr rd rs1 imm) = tt
-seen (I.Branch op rs1 rs2 imm) = (op, rs1, rs2, refl)
-seen (I.Load op rd rs1 imm) = tt
-seen (I.Store op rs1 rs2 imm) = tt
-seen (I.OpImm op rd rs1 imm) = refl
-seen (I.OpImm32 op rd rs1 imm) = refl
-seen (I.Op op rd rs1 rs2) = refl
-seen (I.Op32 op rd rs1 rs2) = refl
-seen (I.Fence rd rs1 imm) = tt
-seen I.Ecall = tt
-seen I.Ebreak = tt
-seen (I.Amo a) = seen-atomic (a .op) a refl
+seen settings I.Illegal = tt
+seen settings (I.Lui rd imm) = refl
+seen settings (I.Auipc rd imm) = refl
+seen settings (I.Jal rd imm) = refl
+seen settings (I.Jalr rd rs1 imm) = cond-all (Seen (I.Jalr rd rs1 imm)) (jalrPermitted settings) (Plain rd) Other refl tt
+seen settings (I.Branch op rs1 rs2 imm) = (op, rs1, rs2, refl)
+seen settings (I.Load op rd rs1 imm) = tt
+seen settings (I.Store op rs1 rs2 imm) = tt
+seen settings (I.OpImm op rd rs1 imm) = refl
+seen settings (I.OpImm32 op rd rs1 imm) = refl
+seen settings (I.Op op rd rs1 rs2) = refl
+seen settings (I.Op32 op rd rs1 rs2) = refl
+seen settings (I.Fence rd rs1 imm) = tt
+seen settings I.Ecall = tt
+seen settings I.Ebreak = tt
+seen settings (I.Amo a) = seen-atomic (a .op) a refl
 
-pub lr-view : (a : Atomic) → a .op ≡ A.Lr → viewOf (I.Amo a) ≡ Lr (a .rd) (a .rs1) (bytesOf (a .width))
+pub lr-view : (settings : Settings) (a : Atomic) → a .op ≡ A.Lr → viewOf settings (I.Amo a) ≡ Lr (a .rd) (a .rs1) (bytesOf (a .width))
 unfolding viewOf
-lr-view a e = ap (λ (op : AtomicOp). atomicView op a) e
+lr-view settings a e = ap (λ (op : AtomicOp). atomicView op a) e
 
-pub sc-view : (a : Atomic) → a .op ≡ A.Sc → viewOf (I.Amo a) ≡ Sc (a .rs1) (bytesOf (a .width))
+pub sc-view : (settings : Settings) (a : Atomic) → a .op ≡ A.Sc → viewOf settings (I.Amo a) ≡ Sc (a .rs1) (bytesOf (a .width))
 unfolding viewOf
-sc-view a e = ap (λ (op : AtomicOp). atomicView op a) e
+sc-view settings a e = ap (λ (op : AtomicOp). atomicView op a) e
 
 -- ---- its rd
 
@@ -97,24 +101,24 @@ rd-atomic A.Cas a n e = tt
 rd-atomic A.CasPair a n e = tt
 rd-atomic (A.Rmw op) a n e = tt
 
-pub rd-seen : (i : Instr) (n : ℕ) → HasRd i n → RdSeen (viewOf i) n
+pub rd-seen : (settings : Settings) (i : Instr) (n : ℕ) → HasRd i n → RdSeen (viewOf settings i) n
 unfolding viewOf
-rd-seen I.Illegal n e = tt
-rd-seen (I.Lui rd imm) n e = e
-rd-seen (I.Auipc rd imm) n e = e
-rd-seen (I.Jal rd imm) n e = e
-rd-seen (I.Jalr rd rs1 imm) n e = tt
-rd-seen (I.Branch op rs1 rs2 imm) n e = e
-rd-seen (I.Load op rd rs1 imm) n e = tt
-rd-seen (I.Store op rs1 rs2 imm) n e = tt
-rd-seen (I.OpImm op rd rs1 imm) n e = e
-rd-seen (I.OpImm32 op rd rs1 imm) n e = e
-rd-seen (I.Op op rd rs1 rs2) n e = e
-rd-seen (I.Op32 op rd rs1 rs2) n e = e
-rd-seen (I.Fence rd rs1 imm) n e = tt
-rd-seen I.Ecall n e = tt
-rd-seen I.Ebreak n e = tt
-rd-seen (I.Amo a) n e = rd-atomic (a .op) a n e
+rd-seen settings I.Illegal n e = tt
+rd-seen settings (I.Lui rd imm) n e = e
+rd-seen settings (I.Auipc rd imm) n e = e
+rd-seen settings (I.Jal rd imm) n e = e
+rd-seen settings (I.Jalr rd rs1 imm) n e = cond-all (λ (v : View). RdSeen v n) (jalrPermitted settings) (Plain rd) Other e tt
+rd-seen settings (I.Branch op rs1 rs2 imm) n e = e
+rd-seen settings (I.Load op rd rs1 imm) n e = tt
+rd-seen settings (I.Store op rs1 rs2 imm) n e = tt
+rd-seen settings (I.OpImm op rd rs1 imm) n e = e
+rd-seen settings (I.OpImm32 op rd rs1 imm) n e = e
+rd-seen settings (I.Op op rd rs1 rs2) n e = e
+rd-seen settings (I.Op32 op rd rs1 rs2) n e = e
+rd-seen settings (I.Fence rd rs1 imm) n e = tt
+rd-seen settings I.Ecall n e = tt
+rd-seen settings I.Ebreak n e = tt
+rd-seen settings (I.Amo a) n e = rd-atomic (a .op) a n e
 
 -- ---- the permitted words
 
@@ -126,37 +130,39 @@ Body (Jump rd offset) = Unit {0}
 Body (Branch offset) = Unit {0}
 Body Other = ⊥
 
-tested : (c : ℕ) → PermittedClass c → permittedClass c ≡ true
-tested c (isLui e) = rw e
-tested c (isAuipc e) = rw e
-tested c (isJal e) = rw e
-tested c (isBranch e) = rw e
-tested c (isOp e) = rw e
-tested c (isOpImm e) = rw e
-tested c (isOp32 e) = rw e
-tested c (isOpImm32 e) = rw e
+tested : (settings : Settings) (c : ℕ) → PermittedClass settings c → permittedClass settings c ≡ true
+tested settings c (isLui e) = rw e
+tested settings c (isAuipc e) = rw e
+tested settings c (isJal e) = rw e
+tested settings c (isBranch e) = rw e
+tested settings c (isOp e) = rw e
+tested settings c (isOpImm e) = rw e
+tested settings c (isOp32 e) = rw e
+tested settings c (isOpImm32 e) = rw e
+tested settings c (isJalr p e) = rw (e, jalr-exact settings .1 p)
 
-body-of : (c : ℕ) (i : Instr) → InClass c i → permittedClass c ≡ true → i ≢ I.Illegal → Body (viewOf i)
+body-of : (settings : Settings) (c : ℕ) (i : Instr) → InClass c i → permittedClass settings c ≡ true → i ≢ I.Illegal → Body (viewOf settings i)
 unfolding viewOf
-body-of c I.Illegal e t h = h refl
-body-of c (I.Lui rd imm) e t h = tt
-body-of c (I.Auipc rd imm) e t h = tt
-body-of c (I.Jal rd imm) e t h = tt
-body-of c (I.Jalr rd rs1 imm) e t h = contrary t (ap permittedClass e)
-body-of c (I.Branch op rs1 rs2 imm) e t h = tt
-body-of c (I.Load op rd rs1 imm) e t h = contrary t (ap permittedClass e)
-body-of c (I.Store op rs1 rs2 imm) e t h = contrary t (ap permittedClass e)
-body-of c (I.OpImm op rd rs1 imm) e t h = tt
-body-of c (I.OpImm32 op rd rs1 imm) e t h = tt
-body-of c (I.Op op rd rs1 rs2) e t h = tt
-body-of c (I.Op32 op rd rs1 rs2) e t h = tt
-body-of c (I.Fence rd rs1 imm) e t h = contrary t (ap permittedClass e)
-body-of c I.Ecall e t h = contrary t (ap permittedClass e)
-body-of c I.Ebreak e t h = contrary t (ap permittedClass e)
-body-of c (I.Amo a) e t h = contrary t (ap permittedClass e)
+body-of settings c I.Illegal e t h = h refl
+body-of settings c (I.Lui rd imm) e t h = tt
+body-of settings c (I.Auipc rd imm) e t h = tt
+body-of settings c (I.Jal rd imm) e t h = tt
+body-of settings c (I.Jalr rd rs1 imm) e t h =
+    cond-cases Body (jalrPermitted settings) (Plain rd) Other (λ p. tt) (λ p. contrary t (ap (permittedClass settings) e ∙ p))
+body-of settings c (I.Branch op rs1 rs2 imm) e t h = tt
+body-of settings c (I.Load op rd rs1 imm) e t h = contrary t (ap (permittedClass settings) e)
+body-of settings c (I.Store op rs1 rs2 imm) e t h = contrary t (ap (permittedClass settings) e)
+body-of settings c (I.OpImm op rd rs1 imm) e t h = tt
+body-of settings c (I.OpImm32 op rd rs1 imm) e t h = tt
+body-of settings c (I.Op op rd rs1 rs2) e t h = tt
+body-of settings c (I.Op32 op rd rs1 rs2) e t h = tt
+body-of settings c (I.Fence rd rs1 imm) e t h = contrary t (ap (permittedClass settings) e)
+body-of settings c I.Ecall e t h = contrary t (ap (permittedClass settings) e)
+body-of settings c I.Ebreak e t h = contrary t (ap (permittedClass settings) e)
+body-of settings c (I.Amo a) e t h = contrary t (ap (permittedClass settings) e)
 
-pub permitted-body : (w : ℕ) → Permitted w → Body (viewOf (decodeOf w))
-permitted-body w p = body-of (classOf w) (decodeOf w) (in-class w) (tested (classOf w) (p .0)) (p .1)
+pub permitted-body : (settings : Settings) (w : ℕ) → Permitted settings w → Body (viewOf settings (decodeOf w))
+permitted-body settings w p = body-of settings (classOf w) (decodeOf w) (in-class w) (tested settings (classOf w) (p .0)) (p .1)
 
 atomic-no-body : (op : AtomicOp) (a : Atomic) → Body (atomicView op a) → ⊥
 atomic-no-body A.Lr a b = b
@@ -165,31 +171,32 @@ atomic-no-body A.Cas a b = b
 atomic-no-body A.CasPair a b = b
 atomic-no-body (A.Rmw op) a b = b
 
-class-of : (c : ℕ) (i : Instr) → InClass c i → Body (viewOf i) → PermittedClass c
+class-of : (settings : Settings) (c : ℕ) (i : Instr) → InClass c i → Body (viewOf settings i) → PermittedClass settings c
 unfolding viewOf
-class-of c I.Illegal e b = absurd b
-class-of c (I.Lui rd imm) e b = isLui e
-class-of c (I.Auipc rd imm) e b = isAuipc e
-class-of c (I.Jal rd imm) e b = isJal e
-class-of c (I.Jalr rd rs1 imm) e b = absurd b
-class-of c (I.Branch op rs1 rs2 imm) e b = isBranch e
-class-of c (I.Load op rd rs1 imm) e b = absurd b
-class-of c (I.Store op rs1 rs2 imm) e b = absurd b
-class-of c (I.OpImm op rd rs1 imm) e b = isOpImm e
-class-of c (I.OpImm32 op rd rs1 imm) e b = isOpImm32 e
-class-of c (I.Op op rd rs1 rs2) e b = isOp e
-class-of c (I.Op32 op rd rs1 rs2) e b = isOp32 e
-class-of c (I.Fence rd rs1 imm) e b = absurd b
-class-of c I.Ecall e b = absurd b
-class-of c I.Ebreak e b = absurd b
-class-of c (I.Amo a) e b = absurd (atomic-no-body (a .op) a b)
+class-of settings c I.Illegal e b = absurd b
+class-of settings c (I.Lui rd imm) e b = isLui e
+class-of settings c (I.Auipc rd imm) e b = isAuipc e
+class-of settings c (I.Jal rd imm) e b = isJal e
+class-of settings c (I.Jalr rd rs1 imm) e b =
+    bool-cases (jalrPermitted settings) (λ p. isJalr (jalr-exact settings .0 p) e) (λ p. absurd (rw p at b))
+class-of settings c (I.Branch op rs1 rs2 imm) e b = isBranch e
+class-of settings c (I.Load op rd rs1 imm) e b = absurd b
+class-of settings c (I.Store op rs1 rs2 imm) e b = absurd b
+class-of settings c (I.OpImm op rd rs1 imm) e b = isOpImm e
+class-of settings c (I.OpImm32 op rd rs1 imm) e b = isOpImm32 e
+class-of settings c (I.Op op rd rs1 rs2) e b = isOp e
+class-of settings c (I.Op32 op rd rs1 rs2) e b = isOp32 e
+class-of settings c (I.Fence rd rs1 imm) e b = absurd b
+class-of settings c I.Ecall e b = absurd b
+class-of settings c I.Ebreak e b = absurd b
+class-of settings c (I.Amo a) e b = absurd (atomic-no-body (a .op) a b)
 
-legal : (i : Instr) → Body (viewOf i) → i ≢ I.Illegal
+legal : (settings : Settings) (i : Instr) → Body (viewOf settings i) → i ≢ I.Illegal
 unfolding viewOf
-legal i b e = subst (λ (j : Instr). Body (viewOf j)) e b
+legal settings i b e = subst (λ (j : Instr). Body (viewOf settings j)) e b
 
-pub body-permitted : (w : ℕ) → Body (viewOf (decodeOf w)) → Permitted w
-body-permitted w b = (class-of (classOf w) (decodeOf w) (in-class w) b, legal (decodeOf w) b)
+pub body-permitted : (settings : Settings) (w : ℕ) → Body (viewOf settings (decodeOf w)) → Permitted settings w
+body-permitted settings w b = (class-of settings (classOf w) (decodeOf w) (in-class w) b, legal settings (decodeOf w) b)
 
 -- ---- widths
 

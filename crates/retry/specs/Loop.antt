@@ -1,5 +1,5 @@
 -- Which blocks of words are accepted: 01, "A block is a list of words. It is accepted exactly if no reason below applies; otherwise the answer is the
--- lowest place with a reason, and at that place the lowest reason."
+-- lowest place with a reason, and at that place the lowest reason." By the version of A that the settings have (02 [7]).
 -- RULES 6.1.
 use mathlib.Core.Bool.{Bool, true, false, cond, not, _&&_, _||_}
 use mathlib.Core.List.{List, [], _∷_, _++_}
@@ -8,8 +8,10 @@ use lib.Dec.{ltb, eqb}
 use lib.ListN.{length, getD}
 use Rattle.word.specs.Bytes.{le}
 use Rattle.word.specs.Memory.{part}
+use Rattle.settings.specs.Settings.{versionOk, jalrPermitted}
+use Rattle.settings.specs.declared.Settings.{Settings}
 use Rattle.isa.specs.Width.{bytesOf}
-use Rattle.isa.specs.Decode.{AUIPC, LUI, JAL, BRANCH, OP, OP-IMM, OP-32, OP-IMM-32, AMO, decodeOf}
+use Rattle.isa.specs.Decode.{AUIPC, LUI, JAL, JALR, BRANCH, OP, OP-IMM, OP-32, OP-IMM-32, AMO, decodeOf}
 use Rattle.isa.specs.declared.Atomic.{Atomic}
 use Rattle.isa.specs.declared.AtomicOp.{AtomicOp}
 use Rattle.isa.specs.declared.AtomicOp.the-variants as A
@@ -24,10 +26,11 @@ use Rattle.retry.specs.declared.LoopAnswer.the-variants.{Accepted, Rejec
 abbrev pub loopRefusal : LoopAnswer → ℕ
 loopRefusal Accepted = 0
 loopRefusal (Rejected place reason) = 0
-loopRefusal Refused = 6
+loopRefusal (Refused number) = number
 
 -- What the checker sees of an instruction. The words of reason 2, "LUI, AUIPC, JAL, a branch, or an OP, OP-IMM, OP-32, OP-IMM-32 word of RV64I", are
--- Plain by their rd, Jump by rd and offset, and Branch by its offset. An offset is a number modulo 2 ^ 64.
+-- Plain by their rd, Jump by rd and offset, and Branch by its offset. An offset is a number modulo 2 ^ 64. 02 [7]: under 2.0 "the loop rules also allow
+-- JALR as any later word": then it is Plain too.
 abbrev pub atomicView : AtomicOp → Atomic → View
 atomicView A.Lr a = Lr (a .rd) (a .rs1) (bytesOf (a .width))
 atomicView A.Sc a = Sc (a .rs1) (bytesOf (a .width))
@@ -35,27 +38,27 @@ atomicView A.Cas a = Other
 atomicView A.CasPair a = Other
 atomicView (A.Rmw op) a = Other
 
-unfoldable pub viewOf : Instr → View
-viewOf I.Illegal = Other
-viewOf (I.Lui rd imm) = Plain rd
-viewOf (I.Auipc rd imm) = Plain rd
-viewOf (I.Jal rd imm) = Jump rd imm
-viewOf (I.Jalr rd rs1 imm) = Other
-viewOf (I.Branch op rs1 rs2 imm) = Branch imm
-viewOf (I.Load op rd rs1 imm) = Other
-viewOf (I.Store op rs1 rs2 imm) = Other
-viewOf (I.OpImm op rd rs1 imm) = Plain rd
-viewOf (I.OpImm32 op rd rs1 imm) = Plain rd
-viewOf (I.Op op rd rs1 rs2) = Plain rd
-viewOf (I.Op32 op rd rs1 rs2) = Plain rd
-viewOf (I.Fence rd rs1 imm) = Other
-viewOf I.Ecall = Other
-viewOf I.Ebreak = Other
-viewOf (I.Amo a) = atomicView (a .op) a
+unfoldable pub viewOf : Settings → Instr → View
+viewOf settings I.Illegal = Other
+viewOf settings (I.Lui rd imm) = Plain rd
+viewOf settings (I.Auipc rd imm) = Plain rd
+viewOf settings (I.Jal rd imm) = Jump rd imm
+viewOf settings (I.Jalr rd rs1 imm) = cond (jalrPermitted settings) (Plain rd) Other
+viewOf settings (I.Branch op rs1 rs2 imm) = Branch imm
+viewOf settings (I.Load op rd rs1 imm) = Other
+viewOf settings (I.Store op rs1 rs2 imm) = Other
+viewOf settings (I.OpImm op rd rs1 imm) = Plain rd
+viewOf settings (I.OpImm32 op rd rs1 imm) = Plain rd
+viewOf settings (I.Op op rd rs1 rs2) = Plain rd
+viewOf settings (I.Op32 op rd rs1 rs2) = Plain rd
+viewOf settings (I.Fence rd rs1 imm) = Other
+viewOf settings I.Ecall = Other
+viewOf settings I.Ebreak = Other
+viewOf settings (I.Amo a) = atomicView (a .op) a
 
 -- the word at a place of a block
-abbrev pub viewAt : List ℕ → ℕ → View
-viewAt ws place = viewOf (decodeOf (getD ws place 0))
+abbrev pub viewAt : Settings → List ℕ → ℕ → View
+viewAt settings ws place = viewOf settings (decodeOf (getD ws place 0))
 
 abbrev pub isSc : View → Bool
 isSc (Lr rd rs1 width) = false
@@ -66,9 +69,9 @@ isSc (Branch offset) = false
 isSc Other = false
 
 -- an SC stands before a place: what comes after the first SC
-unfoldable pub pastSc : List ℕ → ℕ → Bool
-pastSc ws zero = false
-pastSc ws (suc place) = pastSc ws place || isSc (viewAt ws place)
+unfoldable pub pastSc : Settings → List ℕ → ℕ → Bool
+pastSc settings ws zero = false
+pastSc settings ws (suc place) = pastSc settings ws place || isSc (viewAt settings ws place)
 
 -- ---- the reasons 2 to 5, of the word at a place. past says that an SC stands before it; the LR has rs1 and width.
 
@@ -134,23 +137,27 @@ orElse place (suc r) rest = Rejected place (suc r)
 
 -- "the lowest place with a reason", from a place on that has n words from it to the end
 -- 6. "No SC (given at the place after the last word)."
-unfoldable pub scanOf : ℕ → ℕ → List ℕ → ℕ → ℕ → LoopAnswer
-scanOf rs1 width ws zero place = cond (pastSc ws place) Accepted (Rejected place 6)
-scanOf rs1 width ws (suc n) place =
-    orElse place (lowestOf rs1 width (pastSc ws place) place (viewAt ws place)) (scanOf rs1 width ws n (suc place))
+unfoldable pub scanOf : Settings → ℕ → ℕ → List ℕ → ℕ → ℕ → LoopAnswer
+scanOf settings rs1 width ws zero place = cond (pastSc settings ws place) Accepted (Rejected place 6)
+scanOf settings rs1 width ws (suc n) place =
+    orElse place (lowestOf rs1 width (pastSc settings ws place) place (viewAt settings ws place)) (scanOf settings rs1 width ws n (suc place))
 
 -- 1. "Place 0 isn't an LR."
-unfoldable pub startOf : View → List ℕ → LoopAnswer
-startOf (Lr rd rs1 width) ws = scanOf rs1 width ws (length ws) 0
-startOf (Sc rs1 width) ws = Rejected 0 1
-startOf (Plain rd) ws = Rejected 0 1
-startOf (Jump rd offset) ws = Rejected 0 1
-startOf (Branch offset) ws = Rejected 0 1
-startOf Other ws = Rejected 0 1
+unfoldable pub startOf : Settings → View → List ℕ → LoopAnswer
+startOf settings (Lr rd rs1 width) ws = scanOf settings rs1 width ws (length ws) 0
+startOf settings (Sc rs1 width) ws = Rejected 0 1
+startOf settings (Plain rd) ws = Rejected 0 1
+startOf settings (Jump rd offset) ws = Rejected 0 1
+startOf settings (Branch offset) ws = Rejected 0 1
+startOf settings Other ws = Rejected 0 1
 
--- 01, refusal 6: "loop block of fewer than 2 or more than 16 words"
-unfoldable pub checkOf : List ℕ → LoopAnswer
-checkOf ws = cond (ltb (length ws) 2) Refused (cond (ltb 16 (length ws)) Refused (startOf (viewAt ws 0) ws))
+-- 01, refusal 6: "loop block of fewer than 2 or more than 16 words"; before it 02 [7], refusal 2: "any other version". Of the settings only the version is
+-- looked at: no set size is refused here
+unfoldable pub checkOf : Settings → List ℕ → LoopAnswer
+checkOf settings ws =
+    cond (versionOk settings)
+    (cond (ltb (length ws) 2) (Refused 6) (cond (ltb 16 (length ws)) (Refused 6) (startOf settings (viewAt settings ws 0) ws)))
+    (Refused 2)
 
 -- the first n words of a block given as bytes
 unfoldable pub wordsOf : List ℕ → ℕ → List ℕ
@@ -159,16 +166,17 @@ wordsOf bytes (suc n) = wordsOf bytes n ++ (le (part bytes (4 * n) 4) ∷ [])
 
 -- ---- the same by the table of classes
 
--- the classes of reason 2's words
-abbrev pub permittedClass : ℕ → Bool
-permittedClass c =
+-- the classes of reason 2's words, and that of JALR where the version permits it
+abbrev pub permittedClass : Settings → ℕ → Bool
+permittedClass settings c =
     eqb c LUI || eqb c AUIPC || eqb c JAL || eqb c BRANCH || eqb c OP || eqb c OP-IMM || eqb c OP-32 || eqb c OP-IMM-32
+    || (eqb c JALR && jalrPermitted settings)
 
 -- with that of LR and SC
-abbrev pub lookedAt : ℕ → Bool
-lookedAt c = eqb c AMO || permittedClass c
+abbrev pub lookedAt : Settings → ℕ → Bool
+lookedAt settings c = eqb c AMO || permittedClass settings c
 
--- what an instruction writes and where it leads, whether it is permitted or not
+-- an instruction by its rd and, of a JAL or a branch, its offset, whether it is permitted or not. No reason asks where a JALR leads
 unfoldable pub fieldsOf : Instr → View
 fieldsOf I.Illegal = Other
 fieldsOf (I.Lui rd imm) = Plain rd

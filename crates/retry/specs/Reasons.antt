@@ -1,11 +1,14 @@
 -- The six reasons of 01, "Retry loops", one by one and without tests, and what they decide. "LR", "SC" and "word of RV64I" are meant of legal words.
+-- 02 [7]: by the version of A that the settings have.
 -- RULES 6.1.
 use mathlib.Core.Path.{_≡_}
 use mathlib.Core.Logic.{_≢_, _⊎_, _↔_}
 use mathlib.Core.List.{List}
 use Prim.Native.Nat.{ℕ, _+_, _*_, _^_, _%_, _≤_, _<_}
 use lib.ListN.{length, getD}
-use Rattle.isa.specs.Decode.{AUIPC, LUI, JAL, BRANCH, OP, OP-IMM, OP-32, OP-IMM-32, classOf, decodeOf}
+use Rattle.settings.specs.Settings.{VersionRules, JalrPermitted}
+use Rattle.settings.specs.declared.Settings.{Settings}
+use Rattle.isa.specs.Decode.{AUIPC, LUI, JAL, JALR, BRANCH, OP, OP-IMM, OP-32, OP-IMM-32, classOf, decodeOf}
 use Rattle.isa.specs.declared.BranchOp.{BranchOp}
 use Rattle.isa.specs.declared.Atomic.{Atomic}
 use Rattle.isa.specs.declared.AtomicOp.the-variants as A
@@ -47,21 +50,24 @@ abbrev pub NotLr : List ℕ → ℕ → Type 0
 NotLr ws place = (place ≡ 0) × ((a : Atomic) → LrAt ws 0 a → ⊥)
 
 -- 2. "A later word, other than the first SC, isn't LUI, AUIPC, JAL, a branch, or an OP, OP-IMM, OP-32, OP-IMM-32 word of RV64I."
-pub data PermittedClass (c : ℕ) : Type 0 where
-  isLui : c ≡ LUI → PermittedClass c
-  isAuipc : c ≡ AUIPC → PermittedClass c
-  isJal : c ≡ JAL → PermittedClass c
-  isBranch : c ≡ BRANCH → PermittedClass c
-  isOp : c ≡ OP → PermittedClass c
-  isOpImm : c ≡ OP-IMM → PermittedClass c
-  isOp32 : c ≡ OP-32 → PermittedClass c
-  isOpImm32 : c ≡ OP-IMM-32 → PermittedClass c
+-- 02 [7]: under 2.0 "the loop rules also allow JALR as any later word, reason 4 still applying, because 004 doesn't exclude it"
+pub data PermittedClass (settings : Settings) (c : ℕ) : Type 0 where
+  isLui : c ≡ LUI → PermittedClass settings c
+  isAuipc : c ≡ AUIPC → PermittedClass settings c
+  isJal : c ≡ JAL → PermittedClass settings c
+  isBranch : c ≡ BRANCH → PermittedClass settings c
+  isOp : c ≡ OP → PermittedClass settings c
+  isOpImm : c ≡ OP-IMM → PermittedClass settings c
+  isOp32 : c ≡ OP-32 → PermittedClass settings c
+  isOpImm32 : c ≡ OP-IMM-32 → PermittedClass settings c
+  isJalr : JalrPermitted settings → c ≡ JALR → PermittedClass settings c
 
-abbrev pub Permitted : ℕ → Type 0
-Permitted w = PermittedClass (classOf w) × (decodeOf w ≢ I.Illegal)
+abbrev pub Permitted : Settings → ℕ → Type 0
+Permitted settings w = PermittedClass settings (classOf w) × (decodeOf w ≢ I.Illegal)
 
-abbrev pub NotPermitted : List ℕ → ℕ → Type 0
-NotPermitted ws place = (0 < place) × (place < length ws) × (FirstSc ws place → ⊥) × (Permitted (getD ws place 0) → ⊥)
+abbrev pub NotPermitted : Settings → List ℕ → ℕ → Type 0
+NotPermitted settings ws place =
+    (0 < place) × (place < length ws) × (FirstSc ws place → ⊥) × (Permitted settings (getD ws place 0) → ⊥)
 
 -- 3. "A JAL or branch whose offset isn't a multiple of 4; or isn't above 0, unless it stands after the first SC and its target is place 0." The offset is
 -- a number modulo 2 ^ 64.
@@ -116,32 +122,38 @@ abbrev pub NoSc : List ℕ → ℕ → Type 0
 NoSc ws place = (place ≡ length ws) × ((k : ℕ) → AnSc ws k → ⊥)
 
 -- the reason applies at the place
-pub data Reason (ws : List ℕ) (place reason : ℕ) : Type 0 where
-  one : reason ≡ 1 → NotLr ws place → Reason ws place reason
-  two : reason ≡ 2 → NotPermitted ws place → Reason ws place reason
-  three : reason ≡ 3 → BadOffset ws place → Reason ws place reason
-  four : reason ≡ 4 → Overwrites ws place → Reason ws place reason
-  five : reason ≡ 5 → OtherSc ws place → Reason ws place reason
-  six : reason ≡ 6 → NoSc ws place → Reason ws place reason
+pub data Reason (settings : Settings) (ws : List ℕ) (place reason : ℕ) : Type 0 where
+  one : reason ≡ 1 → NotLr ws place → Reason settings ws place reason
+  two : reason ≡ 2 → NotPermitted settings ws place → Reason settings ws place reason
+  three : reason ≡ 3 → BadOffset ws place → Reason settings ws place reason
+  four : reason ≡ 4 → Overwrites ws place → Reason settings ws place reason
+  five : reason ≡ 5 → OtherSc ws place → Reason settings ws place reason
+  six : reason ≡ 6 → NoSc ws place → Reason settings ws place reason
 
 -- ---- the answer
 
-abbrev pub Unreasoned : List ℕ → Type 0
-Unreasoned ws = (place reason : ℕ) → Reason ws place reason → ⊥
+abbrev pub Unreasoned : Settings → List ℕ → Type 0
+Unreasoned settings ws = (place reason : ℕ) → Reason settings ws place reason → ⊥
 
 -- "the lowest place with a reason, and at that place the lowest reason"
-pub record Lowest (ws : List ℕ) (place reason : ℕ) : Type 0 where
-  pub applies : Reason ws place reason
-  pub lowestPlace : (p r : ℕ) → p < place → Reason ws p r → ⊥
-  pub lowestReason : (r : ℕ) → r < reason → Reason ws place r → ⊥
+pub record Lowest (settings : Settings) (ws : List ℕ) (place reason : ℕ) : Type 0 where
+  pub applies : Reason settings ws place reason
+  pub lowestPlace : (p r : ℕ) → p < place → Reason settings ws p r → ⊥
+  pub lowestReason : (r : ℕ) → r < reason → Reason settings ws place r → ⊥
 
--- not refused: refusal 6 is for a "loop block of fewer than 2 or more than 16 words"
+-- not refused by 6
 abbrev pub Sized : List ℕ → Type 0
 Sized ws = (2 ≤ length ws) × (length ws ≤ 16)
 
+-- 02 [7]: "Refusals: any other version is 2"; 01, refusal 6: "loop block of fewer than 2 or more than 16 words"; the lower number first
+pub data RefusedBy (settings : Settings) (ws : List ℕ) (number : ℕ) : Type 0 where
+  byVersion : number ≡ 2 → (VersionRules settings → ⊥) → RefusedBy settings ws number
+  byLength : number ≡ 6 → VersionRules settings → (length ws < 2) ⊎ (16 < length ws) → RefusedBy settings ws number
+
 -- 01: "It is accepted exactly if no reason below applies; otherwise the answer is the lowest place with a reason, and at that place the lowest reason."
-pub record Exactly (ws : List ℕ) : Type 0 where
-  pub accepts : (checkOf ws ≡ Accepted) ↔ (Sized ws × Unreasoned ws)
-  pub rejects : (place reason : ℕ) → (checkOf ws ≡ Rejected place reason) ↔ (Sized ws × Lowest ws place reason)
-  pub refuses : (checkOf ws ≡ Refused) ↔ ((length ws < 2) ⊎ (16 < length ws))
-  pub number : (loopRefusal (checkOf ws) ≡ 6) ↔ ((length ws < 2) ⊎ (16 < length ws))
+pub record Exactly (settings : Settings) (ws : List ℕ) : Type 0 where
+  pub accepts : (checkOf settings ws ≡ Accepted) ↔ (VersionRules settings × Sized ws × Unreasoned settings ws)
+  pub rejects : (place reason : ℕ)
+      → (checkOf settings ws ≡ Rejected place reason) ↔ (VersionRules settings × Sized ws × Lowest settings ws place reason)
+  pub refuses : (number : ℕ) → (checkOf settings ws ≡ Refused number) ↔ RefusedBy settings ws number
+  pub number : (n : ℕ) → ((0 < n) × (loopRefusal (checkOf settings ws) ≡ n)) ↔ RefusedBy settings ws n

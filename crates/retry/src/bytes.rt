@@ -1,5 +1,6 @@
 // A block as the bytes of its words, the lowest byte of each first.
 use crate::LoopAnswer;
+use settings::Settings;
 use word::bytes::load_at;
 ghost use mathlib.Core.Path.{_≡_};
 ghost use Prim.Native.Nat.{_+_, _*_, _/_, _≤_};
@@ -30,13 +31,16 @@ fn words(bytes: &[u8], n: usize) -> [u32; 16]
 }
 
 // check_loop on the words. Up to three bytes behind the last whole word are no part of the block.
-pub fn check_bytes(bytes: &[u8]) -> LoopAnswer
-    ensures { λ r. ⌜ r ≡ checkOf (wordsOf (now (bytes .entry)) (length (now (bytes .entry)) / 4)) ⌝ }
+pub fn check_bytes(settings: Settings, bytes: &[u8]) -> LoopAnswer
+    ensures { λ r. ⌜ r ≡ checkOf settings (wordsOf (now (bytes .entry)) (length (now (bytes .entry)) / 4)) ⌝ }
 {
+    if !settings::version_ok(settings) {
+        return LoopAnswer::Refused { number: 2 };
+    }
     let n = bytes.len() / 4;
     if 16 < n {
-        return LoopAnswer::Refused;
+        return LoopAnswer::Refused { number: 6 };
     }
     let found = words(bytes, n);
-    crate::check_loop(&found[..n])
+    crate::check_loop(settings, &found[..n])
 }

@@ -1,4 +1,5 @@
-// The checker of retry loops: document 01, "Retry loops".
+// The checker of retry loops: document 01, "Retry loops", by the version of A that the settings have.
+use settings::Settings;
 ghost use mathlib.Core.Path.{_≡_};
 ghost use Prim.Native.Nat.{_≤_};
 ghost use lib.ListN.{length};
@@ -20,22 +21,22 @@ pub enum View {
     Other,
 }
 
-// Refused is 01's refusal 6.
+// Refused has 01's number: 2 for a version that is not kept, 6 for a block that is too short or too long.
 pub enum LoopAnswer {
     Accepted,
     Rejected { place: usize, reason: usize },
-    Refused,
+    Refused { number: usize },
 }
 
 // The words from place 0 on, which is an LR of this rs1 and width.
-fn scan(words: &[u32], rs1: usize, width: usize) -> LoopAnswer
+fn scan(settings: Settings, words: &[u32], rs1: usize, width: usize) -> LoopAnswer
     requires { ⌜ length (now words) ≤ 16 ⌝ }
-    ensures { λ r. ⌜ r ≡ scanOf rs1 width (now (words .entry)) (length (now (words .entry))) 0 ⌝ }
+    ensures { λ r. ⌜ r ≡ scanOf settings rs1 width (now (words .entry)) (length (now (words .entry))) 0 ⌝ }
 {
     let mut past = false;
     let mut place = 0;
     while place < words.len() {
-        let v = look::look(words[place]);
+        let v = look::look(settings, words[place]);
         let reason = reasons::lowest(rs1, width, past, place, v);
         if reason != 0 {
             return LoopAnswer::Rejected { place, reason };
@@ -50,22 +51,26 @@ fn scan(words: &[u32], rs1: usize, width: usize) -> LoopAnswer
     }
 }
 
-// Whether a block of words is a retry loop that 01 accepts, or else the lowest place with a reason and the lowest reason there.
-pub fn check_loop(words: &[u32]) -> LoopAnswer
-    ensures { λ r. ⌜ r ≡ checkOf (now (words .entry)) ⌝ }
+// Whether a block of words is a retry loop that is accepted under the settings' version, or else the lowest place with a reason and the lowest reason
+// there. The size of the sets is not looked at.
+pub fn check_loop(settings: Settings, words: &[u32]) -> LoopAnswer
+    ensures { λ r. ⌜ r ≡ checkOf settings (now (words .entry)) ⌝ }
 {
+    if !settings::version_ok(settings) {
+        return LoopAnswer::Refused { number: 2 };
+    }
     if words.len() < 2 {
-        return LoopAnswer::Refused;
+        return LoopAnswer::Refused { number: 6 };
     }
     if 16 < words.len() {
-        return LoopAnswer::Refused;
+        return LoopAnswer::Refused { number: 6 };
     }
-    let first = look::look(words[0]);
+    let first = look::look(settings, words[0]);
     let View::Lr { rd: _, rs1, width } = first else {
         return LoopAnswer::Rejected {
             place: 0,
             reason: 1,
         };
     };
-    scan(words, rs1, width)
+    scan(settings, words, rs1, width)
 }

@@ -4,13 +4,15 @@ use isa::Atomic;
 use isa::AtomicOp;
 use isa::Instr;
 use isa::class;
+use settings::Settings;
+use settings::jalr_permitted;
 ghost use mathlib.Core.Path.{_≡_};
 ghost use Rattle.retry.specs.Loop.{atomicView, fieldsOf, viewOf, lookedAt, permittedClass};
 ghost use Rattle.isa.specs.Decode.{decodeOf};
 
-// The classes of 01's reason 2.
-fn permitted(c: u8) -> bool
-    ensures { λ r. ⌜ r ≡ permittedClass c ⌝ }
+// The classes of 01's reason 2, and that of JALR where the version permits it.
+fn permitted(settings: Settings, c: u8) -> bool
+    ensures { λ r. ⌜ r ≡ permittedClass settings c ⌝ }
 {
     (c == class::LUI)
         | (c == class::AUIPC)
@@ -20,13 +22,14 @@ fn permitted(c: u8) -> bool
         | (c == class::OP_IMM)
         | (c == class::OP_32)
         | (c == class::OP_IMM_32)
+        | ((c == class::JALR) & jalr_permitted(settings))
 }
 
 // The classes with a word that is no reason by itself at some place: the permitted ones, and that of LR and SC.
-fn looked_at(c: u8) -> bool
-    ensures { λ r. ⌜ r ≡ lookedAt c ⌝ }
+fn looked_at(settings: Settings, c: u8) -> bool
+    ensures { λ r. ⌜ r ≡ lookedAt settings c ⌝ }
 {
-    (c == class::AMO) | permitted(c)
+    (c == class::AMO) | permitted(settings, c)
 }
 
 fn atomic(a: Atomic) -> View
@@ -50,7 +53,7 @@ fn atomic(a: Atomic) -> View
     }
 }
 
-// What an instruction writes and where it leads. Which instructions are permitted is left to the table of classes.
+// An instruction by its rd and, of a JAL or a branch, its offset. Which instructions are permitted is left to the table of classes.
 fn fields(i: Instr) -> View
     ensures { λ r. ⌜ r ≡ fieldsOf i ⌝ }
 {
@@ -109,10 +112,10 @@ fn fields(i: Instr) -> View
     }
 }
 
-pub fn look(word: u32) -> View
-    ensures { λ r. ⌜ r ≡ viewOf (decodeOf word) ⌝ }
+pub fn look(settings: Settings, word: u32) -> View
+    ensures { λ r. ⌜ r ≡ viewOf settings (decodeOf word) ⌝ }
 {
-    if looked_at(class::class_of(word)) {
+    if looked_at(settings, class::class_of(word)) {
         fields(isa::decode(word))
     } else {
         View::Other

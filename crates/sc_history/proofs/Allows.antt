@@ -4,7 +4,9 @@ use native.Mathlib.Omega.{arith}
 use mathlib.Core.Path.{_≡_, refl, sym, _∙_, ap, subst}
 use mathlib.Core.Logic.{_↔_, _≢_, _⊎_, inl, inr, ⊎-elim}
 use mathlib.Core.List.{List, [], _∷_, _++_}
+use Rattle.settings.specs.Settings.{DevicesBreak}
 use Rattle.settings.specs.declared.Settings.{Settings}
+use Rattle.settings.proofs.SettingsLaws.{not-both}
 use Rattle.reserve.specs.Range.{Touch, setOf}
 use Rattle.reserve.specs.Reserve.{observeOf}
 use Rattle.reserve.specs.declared.Reservation.the-variants.{Held}
@@ -14,7 +16,7 @@ use Rattle.isa.specs.declared.Atomic.{Atomic}
 use Rattle.machine.specs.Rules.{Shaped}
 use Rattle.events.specs.declared.Event.{Event}
 use Rattle.events.specs.declared.Event.the-variants.{Step, Yield}
-use Rattle.model.specs.Perform.{Machine, setSize, reservationOf, nextOf, runOf, outcomeAt}
+use Rattle.model.specs.Perform.{Machine, setSize, version, reservationOf, nextOf, runOf, outcomeAt}
 use Rattle.model.specs.Valid.{Valid}
 use Rattle.model.specs.Trace.{noticeAt, traceOf}
 use Rattle.model.specs.Retired.{Traps}
@@ -28,44 +30,55 @@ use Rattle.notices.specs.Notices.{ComesFrom}
 use Rattle.notices.proofs.Notices.{notice-yield}
 use Rattle.notices.proofs.Exact.{notice-exact, sc-either}
 use Rattle.sc_history.specs.Sc.{Reservationless, FetchesSc}
-use Rattle.sc_history.specs.Allows.{LeavesReserved, AllLeave, ReservedSince, Allows}
+use Rattle.sc_history.specs.Allows.{HartsLeave, DevicesLeave, LeavesReserved, under20, under21, AllLeave, ReservedSince, Allows}
 use Rattle.sc_history.proofs.ScHistory.{held-exact, sc-since-run, sc-stored-run, sc-failed-run}
 
 -- ---- one event
 
 module _ (base h : ℕ) (m : Machine) (v : Valid base m) (u : h < m .state .count) (e : Event) (a w : ℕ) where
-  spared : LeavesReserved base h m e a w → (n : Notice) → ComesFrom base m e n → Spares (m .state .settings) h a w n
+  -- what both versions ask, and what is asked of devices where they break reservations
+  spared-by : HartsLeave base h m e a → (DevicesBreak (m .state .settings) → DevicesLeave base h m e a w)
+      → (n : Notice) → ComesFrom base m e n → Spares (m .state .settings) h a w n
   unfolding Spares
-  spared l N.Quiet c = tt
-  spared l (N.LoadReserved g b k) c = λ s. l .noLr b k (subst (λ (i : ℕ). RetiredLr base m e i b k) s c)
-  spared l (N.ScStored g b n) c = (own, λ t. l .noWrite g b n own (inr c) t)
+  spared-by l d N.Quiet c = tt
+  spared-by l d (N.LoadReserved g b k) c = λ s. l .noLr b k (subst (λ (i : ℕ). RetiredLr base m e i b k) s c)
+  spared-by l d (N.ScStored g b n) c = (own, λ t. l .noWrite g b n own (inr c) t)
     where
       own : g ≢ h
       own s = l .noSc (subst (RetiredSc base m e) s (record { sc = c .sc; retires = c .retires; operation = c .operation }))
-  spared l (N.ScFailed g) c = λ s. l .noSc (subst (RetiredSc base m e) s (record { sc = c .sc; retires = c .retires; operation = c .operation }))
-  spared l (N.Write g b n) c = λ d t. l .noWrite g b n d (inl c) t
-  spared l (N.DeviceWrite b n) c = λ t. l .noDevice b n c t
-  spared l (N.Yield g) c = λ s. l .noYield (c .theYield ∙ ap Yield s)
+  spared-by l d (N.ScFailed g) c = λ s. l .noSc (subst (RetiredSc base m e) s (record { sc = c .sc; retires = c .retires; operation = c .operation }))
+  spared-by l d (N.Write g b n) c = λ o t. l .noWrite g b n o (inl c) t
+  spared-by l d (N.DeviceWrite b n) c = λ y t. d y b n c t
+  spared-by l d (N.Yield g) c = λ s. l .noYield (c .theYield ∙ ap Yield s)
+
+  spared : LeavesReserved base h m e a w → (n : Notice) → ComesFrom base m e n → Spares (m .state .settings) h a w n
+  spared (under20 q l) = spared-by l (λ y. absurd (not-both (m .state .settings) y q))
+  spared (under21 q l d) = spared-by l (λ y. d)
 
   module _ (s : Spares (m .state .settings) h a w (noticeAt base m e)) where
     spare : (n : Notice) → ComesFrom base m e n → Spares (m .state .settings) h a w n
     spare n c = subst (Spares (m .state .settings) h a w) (notice-exact base m v e n .1 c) s
 
-    leaves : LeavesReserved base h m e a w
+    harts-leave : HartsLeave base h m e a
     unfolding Spares
-    leaves =
+    harts-leave =
         record {
           noLr = λ b n r. spare (N.LoadReserved h b n) r refl;
           noSc = λ r. ⊎-elim (λ (c : (b : ℕ) × (n : ℕ) × StoredSc base m e h b n). spare (N.ScStored h (c .0) (c .1)) (c .2) .0 refl)
               (λ (c : FailedSc base m e h). spare (N.ScFailed h) c refl) (sc-either base m v e h r);
           noYield = λ q. subst (Spares (m .state .settings) h a w) (ap (noticeAt base m) q ∙ notice-yield base m v h u) s refl;
           noWrite = λ g b n d o t. go g b n d o t;
-          noDevice = λ b n c t. spare (N.DeviceWrite b n) c t;
         }
       where
         go : (g b n : ℕ) → g ≢ h → HartWrites base m e g b n → Touch b n (setOf (setSize m) a) (setSize m) → ⊥
         go g b n d (inl c) t = spare (N.Write g b n) c d t
         go g b n d (inr c) t = spare (N.ScStored g b n) c .1 t
+
+    leaves : LeavesReserved base h m e a w
+    unfolding Spares
+    leaves =
+        ⊎-elim (λ (q : version m ≡ 20). under20 q harts-leave)
+        (λ (q : version m ≡ 21). under21 q harts-leave (λ b n c t. spare (N.DeviceWrite b n) c q t)) (v .1 .3)
 
   pub leaves-exact : LeavesReserved base h m e a w ↔ Spares (m .state .settings) h a w (noticeAt base m e)
   leaves-exact = (λ l. spared l (noticeAt base m e) (notice-exact base m v e (noticeAt base m e) .0 refl), leaves)

@@ -8,21 +8,30 @@ use mathlib.Core.List.{List, [], _∷_, _++_}
 use Rattle.reserve.specs.Range.{Touch, Inside, setOf}
 use Rattle.events.specs.declared.Event.{Event}
 use Rattle.events.specs.declared.Event.the-variants.{Yield}
-use Rattle.model.specs.Perform.{Machine, setSize, nextOf, runOf}
+use Rattle.model.specs.Perform.{Machine, setSize, version, nextOf, runOf}
 use Rattle.notices.specs.Happened.{RetiredLr, RetiredSc, HartWrites, DeviceWrites}
 
--- a memory at base; hart h. The set's size is that of the machine that the event is put to; no event changes it (model/proofs/Frame: settings-run)
+-- a memory at base; hart h. The set's size and the version of A are those of the machine that the event is put to; no event changes them
+-- (model/proofs/Frame: settings-run)
 module _ (base h : ℕ) where
-  -- The event, put to the machine m, breaks nothing of what hart h's LR of w bytes at a reserved.
-  pub record LeavesReserved (m : Machine) (e : Event) (a w : ℕ) : Type 0 where
+  -- The event, put to the machine m, is none of those that break, under either version of A, what hart h's LR at a reserved.
+  pub record HartsLeave (m : Machine) (e : Event) (a : ℕ) : Type 0 where
     -- 01: "Its own hart's next retired LR (replaced) or SC, or a yield"
     pub noLr : (b n : ℕ) → RetiredLr base m e h b n → ⊥
     pub noSc : RetiredSc base m e h → ⊥
     pub noYield : e ≢ Yield h
     -- 01: "a retired write by another hart that touches a byte of the set, even with the same bytes"
     pub noWrite : (g b n : ℕ) → g ≢ h → HartWrites base m e g b n → Touch b n (setOf (setSize m) a) (setSize m) → ⊥
-    -- 01: "a device write that touches a byte the LR read"
-    pub noDevice : (b n : ℕ) → DeviceWrites base m e b n → Touch b n a w → ⊥
+
+  -- nor is it, 01: "a device write that touches a byte the LR read", of its w bytes
+  abbrev pub DevicesLeave : Machine → Event → ℕ → ℕ → Type 0
+  DevicesLeave m e a w = (b n : ℕ) → DeviceWrites base m e b n → Touch b n a w → ⊥
+
+  -- The event breaks nothing of what hart h's LR of w bytes at a reserved. 02 [7]: "Demand 2 reads by version."; "Under 2.0 a device write breaks no
+  -- reservation, because 004 speaks only of harts".
+  pub data LeavesReserved (m : Machine) (e : Event) (a w : ℕ) : Type 0 where
+    under20 : version m ≡ 20 → HartsLeave m e a → LeavesReserved m e a w
+    under21 : version m ≡ 21 → HartsLeave m e a → DevicesLeave m e a w → LeavesReserved m e a w
 
   -- so of each of the events, each put to the machine that the ones before left
   abbrev pub AllLeave : Machine → List Event → ℕ → ℕ → Type 0

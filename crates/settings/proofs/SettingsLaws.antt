@@ -1,8 +1,8 @@
 -- Sizes that are powers of two: the test says what the rule says, and what is a multiple of the larger of 64 and the size is one of the size. Proved over
--- the exponent and over the digits. Assumes nothing.
+-- the exponent and over the digits. And the versions of A. Assumes nothing.
 use mathlib.Core.Path.{_≡_, refl, sym, ap, _∙_, subst}
-use mathlib.Core.Bool.{true, _&&_}
-use mathlib.Core.Logic.{_↔_, ⊎-elim}
+use mathlib.Core.Bool.{true, _&&_, _||_}
+use mathlib.Core.Logic.{_↔_, inl, inr, ⊎-elim}
 use Prim.Native.Nat.{ℕ, zero, suc, _+_, _*_, _-_, _/_, _%_, _^_, _≤_, _<_, min, max}
 use native.Mathlib.Nat.{pow-suc, one-mul, zero-mod}
 use native.Mathlib.Omega.{arith}
@@ -11,9 +11,9 @@ use lib.Bits.{bitAnd, and-step, and-self, and-shifted}
 use lib.Dec.{eqb, leb}
 use lib.Pow.{pow-lt, pow-mono, mod-mod-pow, ones-lt}
 use borrow.Author.Tests.{eqb-true, leb-true, eq-eqb, le-leb}
-use Rattle.word.proofs.TestLaws.{and-both}
+use Rattle.word.proofs.TestLaws.{and-both, or-either}
 use Rattle.word.proofs.WordLaws.{split-lt}
-use Rattle.settings.specs.Settings.{PowerOfTwo, defaults, SizeRules, sizeOk, granuleOf}
+use Rattle.settings.specs.Settings.{PowerOfTwo, defaults, SizeRules, sizeOk, granuleOf, VersionRules, versionOk, DevicesBreak, devicesBreak, JalrPermitted, jalrPermitted}
 use Rattle.settings.specs.declared.Settings.{Settings}
 
 -- a power of two and the number before it have no bit in common
@@ -87,6 +87,27 @@ granule-whole s r n e =
     let size = r .0 .1 in
     ap (λ (m : ℕ). n % m) size ∙ larger-whole 6 k n (ap (λ (m : ℕ). n % max 64 m) (sym size) ∙ e)
 
--- the default is allowed
-pub defaults-allowed : SizeRules defaults
-defaults-allowed = ((6, refl), omega arith, omega arith)
+-- the test of the version passes exactly if the rule holds
+pub version-exact : (s : Settings) → (versionOk s ≡ true) ↔ VersionRules s
+unfolding versionOk
+version-exact s = (
+  λ e.
+      ⊎-elim (λ (t : eqb (s .version) 20 ≡ true). inl (eqb-true (s .version) 20 t)) (λ (t : eqb (s .version) 21 ≡ true). inr (eqb-true (s .version) 21 t))
+      (or-either (eqb (s .version) 20) (eqb (s .version) 21) e),
+  λ r. ⊎-elim (λ (e : s .version ≡ 20). rw e) (λ (e : s .version ≡ 21). rw e) r,
+)
+
+-- and so do the tests of what a version permits
+pub devices-exact : (s : Settings) → (devicesBreak s ≡ true) ↔ DevicesBreak s
+devices-exact s = (λ e. eqb-true (s .version) 21 e, λ q. eq-eqb (s .version) 21 q)
+
+pub jalr-exact : (s : Settings) → (jalrPermitted s ≡ true) ↔ JalrPermitted s
+jalr-exact s = (λ e. eqb-true (s .version) 20 e, λ q. eq-eqb (s .version) 20 q)
+
+-- no version has both
+pub not-both : (s : Settings) → DevicesBreak s → JalrPermitted s → ⊥
+not-both s d j = omega (arith, d, j)
+
+-- the defaults are allowed
+pub defaults-allowed : SizeRules defaults × VersionRules defaults
+defaults-allowed = (((6, refl), omega arith, omega arith), inr refl)

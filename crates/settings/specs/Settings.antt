@@ -1,15 +1,20 @@
--- What a machine is set to (02 [5]): which settings are allowed, and what a state has that is not set otherwise.
+-- What a machine is set to (02 [5], [7]): which settings are allowed, and what a state has that is not set otherwise.
 -- RULES 1.6; `granuleOf` 1.2.
 use mathlib.Core.Path.{_≡_}
+use mathlib.Core.Logic.{_⊎_}
 use Prim.Native.Nat.{ℕ, _-_, _^_, _≤_, max}
-use mathlib.Core.Bool.{Bool, _&&_}
+use mathlib.Core.Bool.{Bool, _&&_, _||_}
 use lib.Bits.{bitAnd}
 use lib.Dec.{eqb, leb}
 use Rattle.settings.specs.declared.Settings.{Settings}
 
--- "a power of two from 8 to 4,096, the same for all harts, default 64"
+-- 02 [5]: "a power of two from 8 to 4,096, the same for all harts, default 64"; [7]: "2.1 the default"
 abbrev pub defaults : Settings
-defaults = record { size = 64 }
+defaults = record { size = 64; version = 21 }
+
+-- the same with another version of A
+abbrev pub ofVersion : ℕ → Settings
+ofVersion version = record { size = 64; version = version }
 
 abbrev pub PowerOfTwo : ℕ → Type 0
 PowerOfTwo n = (k : ℕ) × (n ≡ 2 ^ k)
@@ -25,3 +30,27 @@ sizeOk s = leb 8 (s .size) && (leb (s .size) 4096 && eqb (bitAnd (s .size) (s .s
 -- "Memory base and length are now multiples of the larger of 64 and the size."
 abbrev pub granuleOf : Settings → ℕ
 granuleOf s = max 64 (s .size)
+
+-- 02 [7]: "Keep both versions, chosen in the state": 20 is A 2.0, 21 is A 2.1, and "any other version is 2"
+abbrev pub VersionRules : Settings → Type 0
+VersionRules s = (s .version ≡ 20) ⊎ (s .version ≡ 21)
+
+-- the same as a test
+unfoldable pub versionOk : Settings → Bool
+versionOk s = eqb (s .version) 20 || eqb (s .version) 21
+
+-- "Under 2.0 a device write breaks no reservation, because 004 speaks only of harts": under 2.1 it can break one
+abbrev pub DevicesBreak : Settings → Type 0
+DevicesBreak s = s .version ≡ 21
+
+-- the same as a test
+abbrev pub devicesBreak : Settings → Bool
+devicesBreak s = eqb (s .version) 21
+
+-- "and the loop rules also allow JALR as any later word .. because 004 doesn't exclude it": under 2.0
+abbrev pub JalrPermitted : Settings → Type 0
+JalrPermitted s = s .version ≡ 20
+
+-- the same as a test
+abbrev pub jalrPermitted : Settings → Bool
+jalrPermitted s = eqb (s .version) 20

@@ -1,4 +1,5 @@
-// Writes the line of each block on standard input. A block is a byte with the number of its words, then the words, 4 bytes each and the lowest first.
+// Writes the line of each block on standard input. A block is a byte with the version of A, one with the number of its words, then the words, 4 bytes
+// each and the lowest first.
 // The lines that are expected were made by an independent model of document 01.
 use libc::STDIN_FILENO;
 use libc::STDOUT_FILENO;
@@ -16,14 +17,18 @@ fn one(blocks: &[u8], at: usize) -> usize
     requires { ⌜ at < length (now blocks) ⌝ }
     ensures { λ r. ⌜ at < r ⌝ }
 {
-    let n = wide(blocks[at]);
-    let from = at + 1;
+    if blocks.len() - at < 2 {
+        return blocks.len();
+    }
+    let settings = settings::of_version(wide(blocks[at]) as u64);
+    let n = wide(blocks[at + 1]);
+    let from = at + 2;
     if blocks.len() - from < 4 * n {
         return blocks.len();
     }
     let to = from + 4 * n;
     let mut out = [0u8; 51];
-    let r = loop_line::line(retry::check_bytes(&blocks[from..to]), &mut out);
+    let r = loop_line::line(retry::check_bytes(settings, &blocks[from..to]), &mut out);
     io::write_all(STDOUT_FILENO, &out[..r]);
     to
 }

@@ -17,21 +17,21 @@ enum-known-place c = search needs
 
 add-result : tie.Need-add-result
 add-result c =
-    let s = subst Small (sym (c .before .before .before .check-bytes .ensures) ∙ c .before .place .given .1) (small-check _) in
+    let s = subst Small (sym (c .before .before .before .check-bytes .ensures) ∙ c .before .place .given .1) (small-check _ _) in
     omega (arith, s .0, s .1)
 
 mul-result : tie.Need-mul-result
 mul-result c =
-    let s = subst Small (sym (c .before .before .before .check-bytes .ensures) ∙ c .before .place .given .1) (small-check _) in
+    let s = subst Small (sym (c .before .before .before .check-bytes .ensures) ∙ c .before .place .given .1) (small-check _ _) in
     omega (arith, s .0, s .1)
 
 add-result-2 : tie.Need-add-result-2
 add-result-2 c =
-    let s = subst Small (sym (c .before .before .before .check-bytes .ensures) ∙ c .before .place .given .1) (small-check _) in
+    let s = subst Small (sym (c .before .before .before .check-bytes .ensures) ∙ c .before .place .given .1) (small-check _ _) in
     omega (arith, s .0, s .1)
 
-enum-told-2 : tie.Need-enum-told-2
-enum-told-2 c = search needs
+enum-known-number : tie.Need-enum-known-number
+enum-known-number c = search needs
 
 returns : tie.Need-returns
 returns c = sym (ap loopNumber (sym (c .before .before .check-bytes .ensures) ∙ c .enum-told .given .1))
@@ -40,7 +40,7 @@ returns-2 : tie.Need-returns-2
 returns-2 c = sym (ap loopNumber (sym (c .before .before .before .check-bytes .ensures) ∙ c .before .place .given .1))
 
 returns-3 : tie.Need-returns-3
-returns-3 c = sym (ap loopNumber (sym (c .before .before .check-bytes .ensures) ∙ c .enum-told2 .given .1))
+returns-3 c = sym (ap loopNumber (sym (c .before .before .before .check-bytes .ensures) ∙ c .before .number .given .1))
 
 pub loop-number-spec : {M : Type 1} → statement M
 loop-number-spec =
@@ -52,7 +52,7 @@ loop-number-spec =
     add-result
     mul-result
     add-result-2
-    enum-told-2
+    enum-known-number
     returns
     returns-2
     returns-3)

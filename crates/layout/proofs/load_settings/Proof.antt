@@ -6,8 +6,11 @@ use Rattle.layout.proofs.load_settings.Tie as tie
 load-at-requires : tie.Need-load-at-requires
 load-at-requires c κs = search needs
 
+load-at-requires-2 : tie.Need-load-at-requires-2
+load-at-requires-2 c κs = search needs
+
 returns : tie.Need-returns
-returns c = rw (c .load-at .ensures) refl
+returns c = rw (c .before .load-at .ensures, c .load-at2 .ensures) refl
 
 pub load-settings-spec : {M : Type 1} → statement M
-load-settings-spec = tie.close (tie.spec load-at-requires returns)
+load-settings-spec = tie.close (tie.spec load-at-requires load-at-requires-2 returns)

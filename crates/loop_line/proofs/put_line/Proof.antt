@@ -1,5 +1,4 @@
 use native.Mathlib.Omega.{arith}
-use Rattle.text.specs.Number.{decimalFrom}
 use borrow.Author.Needs.{needs}
 use Rattle.loop_line.proofs.put_line.Statement.{statement}
 use Rattle.loop_line.proofs.put_line.Tie as tie
@@ -19,14 +18,11 @@ enum-known-answer c = search needs
 put-rejected-requires : tie.Need-put-rejected-requires
 put-rejected-requires c κs = search needs
 
-enum-told-2 : tie.Need-enum-told-2
-enum-told-2 c = search needs
+enum-known-answer-2 : tie.Need-enum-known-answer-2
+enum-known-answer-2 c = search needs
 
-slice-aggregate-put-bytes-2 : tie.Need-slice-aggregate-put-bytes-2
-slice-aggregate-put-bytes-2 c = search needs
-
-put-bytes-requires-2 : tie.Need-put-bytes-requires-2
-put-bytes-requires-2 c κs = search needs
+put-refused-requires : tie.Need-put-refused-requires
+put-refused-requires c κs = search needs
 
 same-length : tie.Need-same-length
 same-length c = search needs
@@ -48,10 +44,9 @@ same-length-3 : tie.Need-same-length-3
 same-length-3 c = search needs
 
 returns-3 : tie.Need-returns-3
-unfolding decimalFrom
 returns-3 c =
-    let p = c .before .before .put-bytes2 .ensures in
-    (rw (c .before .before .before .before .before .enum-told2 .given .1) p, omega (arith, p .end))
+    let p = c .before .before .put-refused .ensures in
+    (rw (c .before .before .before .before .before .answer2 .given .1) (p .0), p .1)
 
 pub put-line-spec : {M : Type 1} → statement M
 put-line-spec =
@@ -62,9 +57,8 @@ put-line-spec =
     put-bytes-requires
     enum-known-answer
     put-rejected-requires
-    enum-told-2
-    slice-aggregate-put-bytes-2
-    put-bytes-requires-2
+    enum-known-answer-2
+    put-refused-requires
     same-length
     returns
     same-length-2

@@ -27,30 +27,62 @@ returns-3 c =
       lt-leb _ _ (c .if3 .taken),
     )
 
-harts-ok-requires : tie.Need-harts-ok-requires
-harts-ok-requires c κs = search needs
+version-ok-requires : tie.Need-version-ok-requires
+version-ok-requires c κs = search needs
 
 returns-4 : tie.Need-returns-4
 unfolding refusalOf stateOk
 returns-4 c =
+    let counted = c .before .before .before .before in
+    let a = counted .before .before .args in
     rw (
-      sym (c .before .before .before .before .before .memory-ok .ensures) ∙ not-false _ (c .before .before .before .before .if1 .left),
-      le-leb 1 (c .before .before .before .before .before .before .args .count) (omega arith),
-      le-leb (c .before .before .before .before .before .before .args .count) 8 (omega arith),
-      sym (c .before .harts-ok .ensures) ∙ c .if4 .taken,
+      sym (counted .before .memory-ok .ensures) ∙ not-false _ (counted .if1 .left),
+      le-leb 1 (a .count) (omega arith),
+      le-leb (a .count) 8 (omega arith),
+      sym (c .before .version-ok .ensures) ∙ not-true _ (c .if4 .taken),
     )
+
+harts-ok-requires : tie.Need-harts-ok-requires
+harts-ok-requires c κs = search needs
 
 returns-5 : tie.Need-returns-5
 unfolding refusalOf stateOk
 returns-5 c =
+    let versioned = c .before .before in
+    let counted = versioned .before .before .before .before in
+    let a = counted .before .before .args in
     rw (
-      sym (c .before .before .before .before .before .memory-ok .ensures) ∙ not-false _ (c .before .before .before .before .if1 .left),
-      le-leb 1 (c .before .before .before .before .before .before .args .count) (omega arith),
-      le-leb (c .before .before .before .before .before .before .args .count) 8 (omega arith),
-      sym (c .before .harts-ok .ensures) ∙ c .if4 .left,
+      sym (counted .before .memory-ok .ensures) ∙ not-false _ (counted .if1 .left),
+      le-leb 1 (a .count) (omega arith),
+      le-leb (a .count) 8 (omega arith),
+      sym (versioned .before .version-ok .ensures) ∙ not-false _ (versioned .if4 .left),
+      sym (c .before .harts-ok .ensures) ∙ c .if5 .taken,
+    )
+
+returns-6 : tie.Need-returns-6
+unfolding refusalOf stateOk
+returns-6 c =
+    let versioned = c .before .before in
+    let counted = versioned .before .before .before .before in
+    let a = counted .before .before .args in
+    rw (
+      sym (counted .before .memory-ok .ensures) ∙ not-false _ (counted .if1 .left),
+      le-leb 1 (a .count) (omega arith),
+      le-leb (a .count) 8 (omega arith),
+      sym (versioned .before .version-ok .ensures) ∙ not-false _ (versioned .if4 .left),
+      sym (c .before .harts-ok .ensures) ∙ c .if5 .left,
     )
 
 pub refusal-spec : {M : Type 1} → statement M
 refusal-spec =
     tie.close
-    (tie.spec memory-ok-requires returns returns-2 returns-3 harts-ok-requires returns-4 returns-5)
+    (tie.spec
+    memory-ok-requires
+    returns
+    returns-2
+    returns-3
+    version-ok-requires
+    returns-4
+    harts-ok-requires
+    returns-5
+    returns-6)

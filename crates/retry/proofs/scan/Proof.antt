@@ -12,12 +12,12 @@ use Rattle.retry.proofs.scan.Statement.{statement}
 use Rattle.retry.proofs.scan.Tie as tie
 
 abbrev Inv-loop : tie.InvT-loop
-Inv-loop words rs1 width past₀ place₀ past place =
-    (place ≤ length words) × (past ≡ pastSc words place)
-    × (scanOf rs1 width words (length words - place) place ≡ scanOf rs1 width words (length words) 0)
+Inv-loop settings words rs1 width past₀ place₀ past place =
+    (place ≤ length words) × (past ≡ pastSc settings words place)
+    × (scanOf settings rs1 width words (length words - place) place ≡ scanOf settings rs1 width words (length words) 0)
 
 abbrev μ-loop : tie.MeasureT-loop
-μ-loop words rs1 width past₀ place₀ past place = length words - place
+μ-loop settings words rs1 width past₀ place₀ past place = length words - place
 
 loop-holds : tie.Need-loop-holds Inv-loop μ-loop
 unfolding pastSc scanOf
@@ -41,10 +41,10 @@ returns c =
     let a = c .before .before .before .before .before .before .before .args in
     let i = c .before .before .before .before .before .loop .inv in
     let v = a .words .now in
-    let e : c .before .lowest .result ≡ lowestOf (a .rs1) (a .width) (pastSc v p) p (viewAt v p) =
+    let e : c .before .lowest .result ≡ lowestOf (a .rs1) (a .width) (pastSc (a .settings) v p) p (viewAt (a .settings) v p) =
     c .before .lowest .ensures ∙ rw (i .1, c .before .before .look .ensures) in
     ap (λ (r : ℕ). Rejected p r) e
-    ∙ sym (scan-stop (a .rs1) (a .width) v p (omega arith) (λ z. c .if1 .taken (e ∙ z))) ∙ i .2
+    ∙ sym (scan-stop (a .settings) (a .rs1) (a .width) v p (omega arith) (λ z. c .if1 .taken (e ∙ z))) ∙ i .2
 
 is-sc-requires : tie.Need-is-sc-requires Inv-loop μ-loop
 is-sc-requires c κs = search needs
@@ -63,9 +63,9 @@ loop-again c =
     let i = c .before .before .before .before .before .before .loop .inv in
     let v = a .words .now in
     let seen = c .before .before .before .look .ensures in
-    let e : lowestOf (a .rs1) (a .width) (pastSc v p) p (viewAt v p) ≡ 0 =
+    let e : lowestOf (a .rs1) (a .width) (pastSc (a .settings) v p) p (viewAt (a .settings) v p) ≡ 0 =
     rw (← i .1, ← seen) (sym (c .before .before .lowest .ensures) ∙ c .before .if1 .left) in
-    (omega arith, rw (add-one, i .1, c .is-sc .ensures, seen), rw add-one (scan-on (a .rs1) (a .width) v p (omega arith) e ∙ i .2))
+    (omega arith, rw (add-one, i .1, c .is-sc .ensures, seen), rw add-one (scan-on (a .settings) (a .rs1) (a .width) v p (omega arith) e ∙ i .2))
 
 returns-2 : tie.Need-returns-2 Inv-loop μ-loop
 returns-2 c =
@@ -74,7 +74,7 @@ returns-2 c =
     let i = c .before .before .loop .inv in
     let v = a .words .now in
     let e : p ≡ length v = omega arith in
-    sym (sym (i .2) ∙ scan-end (a .rs1) (a .width) v p e ∙ rw (sym (i .1) ∙ c .if2 .taken))
+    sym (sym (i .2) ∙ scan-end (a .settings) (a .rs1) (a .width) v p e ∙ rw (sym (i .1) ∙ c .if2 .taken))
 
 returns-3 : tie.Need-returns-3 Inv-loop μ-loop
 returns-3 c =
@@ -83,7 +83,7 @@ returns-3 c =
     let i = c .before .before .loop .inv in
     let v = a .words .now in
     let e : p ≡ length v = omega arith in
-    sym (sym (i .2) ∙ scan-end (a .rs1) (a .width) v p e ∙ rw (sym (i .1) ∙ c .if2 .left))
+    sym (sym (i .2) ∙ scan-end (a .settings) (a .rs1) (a .width) v p e ∙ rw (sym (i .1) ∙ c .if2 .left))
 
 pub scan-spec : {M : Type 1} → statement M
 scan-spec =

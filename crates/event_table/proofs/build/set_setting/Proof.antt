@@ -4,7 +4,14 @@ use Rattle.event_table.proofs.build.set_setting.Statement.{statement}
 use Rattle.event_table.proofs.build.set_setting.Tie as tie
 
 returns : tie.Need-returns
-returns c = elim (c .match .came) [ inl t ↦ rw (t .1, t .0 .keys1) | inr t ↦ rw (t .1, ne-eqb _ _ (t .0 .rest .1)) ]
+returns c =
+    elim (c .match .came) [
+      | inl t ↦ rw (t .1, t .0 .keys1)
+      | inr u ↦ elim u [
+        | inl t ↦ rw (t .1, t .0 .keys2)
+        | inr t ↦ rw (t .1, ne-eqb _ _ (t .0 .rest .0 .1), ne-eqb _ _ (t .0 .rest .1))
+      ]
+    ]
 
 pub set-setting-spec : {M : Type 1} → statement M
 set-setting-spec = tie.close (tie.spec returns)

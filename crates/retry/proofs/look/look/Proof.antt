@@ -20,14 +20,16 @@ fields-requires c κs = search needs
 returns : tie.Need-returns
 returns c =
     let tested = c .before .before in
+    let a = tested .before .before .before .args in
     c .fields .ensures ∙ ap fieldsOf (c .before .decode .ensures)
-    ∙ looked (tested .before .before .before .args .word)
-    (sym (ap lookedAt (tested .before .before .class-of .ensures)) ∙ sym (tested .before .looked-at .ensures) ∙ tested .if1 .taken)
+    ∙ looked (a .settings) (a .word)
+    (sym (ap (lookedAt (a .settings)) (tested .before .before .class-of .ensures)) ∙ sym (tested .before .looked-at .ensures) ∙ tested .if1 .taken)
 
 returns-2 : tie.Need-returns-2
 returns-2 c =
-    passed-over (c .before .before .before .args .word)
-    (sym (ap lookedAt (c .before .before .class-of .ensures)) ∙ sym (c .before .looked-at .ensures) ∙ c .if1 .left)
+    let a = c .before .before .before .args in
+    passed-over (a .settings) (a .word)
+    (sym (ap (lookedAt (a .settings)) (c .before .before .class-of .ensures)) ∙ sym (c .before .looked-at .ensures) ∙ c .if1 .left)
 
 pub look-spec : {M : Type 1} → statement M
 look-spec =

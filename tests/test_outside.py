@@ -1,11 +1,13 @@
-"""The outside vectors of request 5 of document 02, all lines of tests/vectors/05-sizes.jsonl, against the library, byte for byte.
+"""The outside vectors of requests 5 and 7 of document 02, all lines of tests/vectors/05-sizes.jsonl and 07-versions.jsonl, against the library,
+byte for byte.
 
 The library is called as include/floecavern.h has it, on target/libfloecavern.so (FLOECAVERN_SO names a shared object at another place):
 
     cc -shared -o target/libfloecavern.so -Wl,--whole-archive target/staticlib/libcapi.a -Wl,--no-whole-archive
 
-Each line is one call. Compared are the answer, what is told, every byte of the state (all eight harts, unused ones too, and the set size) and
-all of memory. The events of a run are performed by single calls as well, since the line has the answer of each of them.
+Each line is one call. Compared are the answer, what is told, every byte of the state (all eight harts, unused ones too, the set size and the
+version) and all of memory; of a loop the answer. The events of a run are performed by single calls as well, since the line has the answer of each
+of them.
 """
 import ctypes
 import importlib.machinery
@@ -18,23 +20,25 @@ import unittest
 TESTS = os.path.dirname(os.path.abspath(__file__))
 ROOT = os.path.dirname(TESTS)
 sys.path.insert(0, TESTS)
-import vectors05  # noqa: E402, it stands beside this file
+import outside  # noqa: E402, it stands beside this file
 
 SO = os.environ.get('FLOECAVERN_SO', os.path.join(ROOT, 'target', 'libfloecavern.so'))
 
-LINES = 739
-IN_EVENT_TABLE = 611
+LINES = {outside.SIZES: 739, outside.VERSIONS: 336}
+IN_EVENT_TABLE = {outside.SIZES: 611, outside.VERSIONS: 221}
 
 BAD_SIZE = 2 ** 64 - 1
 TRAP, REFUSED = 256, 512
-STATE, PC, RESERVATION, SET_SIZE = 2320, 2056, 2120, 2312
+STATE, PC, RESERVATION, SET_SIZE, VERSION = 2328, 2056, 2120, 2312, 2320
 EVENT = 24
+# No version of A, but some have the number of one in a part of their bits.
+OTHER_VERSIONS = (0, 1, 2, 19, 22, 32, 33, 210, 20 << 8, 20 << 32, (1 << 32) + 20, (1 << 63) + 21, 2 ** 64 - 1)
 # What stands where the library reads nothing, or has not written yet.
 RUBBISH = 0xA5A5A5A5A5A5A5A5
 
 
 def library():
-    """The functions that take a state, with the types that include/floecavern.h gives them."""
+    """The functions that take a state, and the loop checker that takes a version, with the types that include/floecavern.h gives them."""
     found = ctypes.CDLL(os.path.abspath(SO))
     number, size, place = ctypes.c_uint64, ctypes.c_size_t, ctypes.POINTER(ctypes.c_uint8)
     machine, told = [place, size, number, place, size], [place, size]
@@ -42,6 +46,7 @@ def library():
     for name, own in arguments.items():
         function = getattr(found, 'floecavern_' + name)
         function.argtypes, function.restype = machine + own + told, number
+    found.floecavern_check_loop_for.argtypes, found.floecavern_check_loop_for.restype = [number, place, size], number
     return found
 
 
@@ -51,7 +56,7 @@ def buffer(data):
 
 
 class Machine:
-    """A state of 2320 bytes and a memory, lent to one call after another."""
+    """A state of 2328 bytes and a memory, lent to one call after another."""
 
     def __init__(self, library, state, base, memory):
         self.library, self.base = library, base
@@ -77,18 +82,18 @@ class Machine:
 
 def state_bytes(line):
     """The state that a line gives. Where a hart has no reservation, address and width mean nothing, and are rubbish."""
-    harts = list(vectors05.harts(line))
+    harts = list(outside.harts(line))
     numbers = [line['count']] + [value for x, _, _ in harts for value in x] + [pc for _, pc, _ in harts]
     for _, _, held in harts:
         numbers += [0, RUBBISH, RUBBISH] if held is None else [1, *held]
-    return struct.pack('<290Q', *numbers, vectors05.set_size(line))
+    return struct.pack('<291Q', *numbers, outside.set_size(line), outside.version(line))
 
 
 def written(line):
     """The state after a call that writes it: registers and pcs of all harts, and the reservations of the used ones, three zeros where there is
     none. The reservations of unused harts stay as given."""
     state = bytearray(state_bytes(line))
-    for h, (x, pc, held) in enumerate(vectors05.harts(vectors05.afterwards(line))):
+    for h, (x, pc, held) in enumerate(outside.harts(outside.afterwards(line))):
         struct.pack_into('<32Q', state, 8 + 256 * h, *x)
         struct.pack_into('<Q', state, PC + 8 * h, pc)
         if h < line['count']:
@@ -97,11 +102,11 @@ def written(line):
 
 
 def meaning(state):
-    """Count, set size and harts of a state's bytes; the harts as vectors05 has them."""
-    numbers = struct.unpack('<290Q', state)
+    """Count, set size, version and harts of a state's bytes; the harts as the module outside has them."""
+    numbers = struct.unpack('<291Q', state)
     x, pcs, held = numbers[1:257], numbers[257:265], numbers[265:289]
     harts = [(list(x[32 * h:32 * h + 32]), pcs[h], tuple(held[3 * h + 1:3 * h + 3]) if held[3 * h] else None) for h in range(8)]
-    return numbers[0], numbers[289], harts
+    return numbers[0], numbers[289], numbers[290], harts
 
 
 def answered(answer, broke):
@@ -139,6 +144,15 @@ def replay_answered(answer):
     return ['form', 'pc', 'word', 'rd', 'value'].index(reason) + 1, (rows, *(values or (0, 0)))
 
 
+def loop_answered(answer):
+    """The same of a block."""
+    kind, *numbers = answer
+    if kind == 'rejected':
+        place, reason = numbers
+        return 256 * (place + 1) + reason
+    return {'accepted': 0, 'refused': sum(numbers)}[kind]
+
+
 def events_of(body):
     """The events of an events body: kind, hart, address, size and data."""
     for at in range(0, len(body) - len(body) % EVENT, EVENT):
@@ -156,19 +170,19 @@ class Vectors(unittest.TestCase):
         cls.library = library()
 
     def machine(self, line):
-        return Machine(self.library, state_bytes(line), vectors05.base(line), vectors05.memory(line, line))
+        return Machine(self.library, state_bytes(line), outside.base(line), outside.memory(line, line))
 
     def left(self, machine, line, writes):
         """The bytes after the call: as the line has them, if the call writes the state, else as given; and they mean what the line says."""
         state, memory = machine.bytes()
-        part = vectors05.afterwards(line)
-        self.assertEqual(memory, vectors05.memory(line, part))
+        part = outside.afterwards(line)
+        self.assertEqual(memory, outside.memory(line, part))
         self.assertEqual(state, written(line) if writes else state_bytes(line))
-        self.assertEqual(meaning(state), (line['count'], vectors05.set_size(line), list(vectors05.harts(part))))
+        self.assertEqual(meaning(state), (line['count'], outside.set_size(line), outside.version(line), list(outside.harts(part))))
 
     def single(self, line):
         machine = self.machine(line)
-        event = (0, *vectors05.device(line)) if line['call'] == 'device' else (line['hart'], 0, 0, 0)
+        event = (0, *outside.device(line)) if line['call'] == 'device' else (line['hart'], 0, 0, 0)
         expected = answered(line['answer'], line['broke'])
         self.assertEqual(machine.event(line['call'], *event), expected)
         self.left(machine, line, expected[0] < TRAP)
@@ -188,7 +202,7 @@ class Vectors(unittest.TestCase):
         for event, (*answer, broke) in zip(events_of(body), line['each']):
             self.assertEqual(machine.event(*event), answered(answer, broke))
         state, memory = machine.bytes()
-        self.assertEqual((meaning(state), memory), (meaning(written(line)), vectors05.memory(line, vectors05.afterwards(line))))
+        self.assertEqual((meaning(state), memory), (meaning(written(line)), outside.memory(line, outside.afterwards(line))))
 
     def replay(self, line):
         machine, log = self.machine(line), line['log'].encode('latin-1')
@@ -196,12 +210,16 @@ class Vectors(unittest.TestCase):
         self.assertEqual(machine.call('replay', buffer(log), 3), expected)
         self.left(machine, line, expected[0] < REFUSED)
 
-    CALLS = {'step': single, 'device': single, 'yield': single, 'run': run_of_events, 'replay': replay}
+    def loop(self, line):
+        block = b''.join(struct.pack('<I', word) for word in outside.words(line))
+        self.assertEqual(self.library.floecavern_check_loop_for(outside.version(line), *buffer(block)), loop_answered(line['answer']))
+
+    CALLS = {'step': single, 'device': single, 'yield': single, 'run': run_of_events, 'replay': replay, 'loop': loop}
 
     def each(self, *calls):
-        for number, line in vectors05.lines():
+        for file, number, line in outside.lines():
             if line['call'] in calls:
-                with self.subTest(line=number):
+                with self.subTest(file=file, line=number):
                     self.CALLS[line['call']](self, line)
 
     def test_steps(self):
@@ -219,17 +237,30 @@ class Vectors(unittest.TestCase):
     def test_replays(self):
         self.each('replay')
 
+    def test_loops(self):
+        self.each('loop')
+
+    def test_other_versions(self):
+        """The first line of each call that isn't refused, with another version: refused by 2, and nothing is written. The vectors have none above 255."""
+        for call in ('step', 'device', 'yield', 'run', 'replay'):
+            line = next(line for _, _, line in outside.lines(outside.VERSIONS) if line['call'] == call and 'after' in line)
+            refused = {**line, 'answer': ['refused', 2] + (['performed', 0] if call in ('run', 'replay') else []), 'broke': 0}
+            del refused['after']
+            for version in OTHER_VERSIONS:
+                with self.subTest(call=call, version=version):
+                    self.CALLS[call](self, {**refused, 'version': version})
+
     def test_length_of_a_state(self):
-        """Every function takes 2320 bytes of a state and no other number of them; then nothing is written."""
-        _, line = next(vectors05.lines())
+        """Every function takes 2328 bytes of a state and no other number of them; then nothing is written."""
+        _, _, line = next(outside.lines())
         for name, arguments, told in (('step', (0,), 1), ('yield', (0,), 1), ('device_write', (0, 1, 0), 1), ('run', (*buffer(b''), 0), 2),
                                       ('replay', buffer(b''), 3)):
-            for length in (0, 8, 2304, SET_SIZE, STATE - 1, STATE + 1, STATE + 8):
+            for length in (0, 8, 2304, SET_SIZE, VERSION, STATE - 1, STATE + 1, STATE + 8):
                 with self.subTest(call=name, length=length):
                     state = (state_bytes(line) + bytes(8))[:length]
-                    machine = Machine(self.library, state, vectors05.base(line), vectors05.memory(line, line))
+                    machine = Machine(self.library, state, outside.base(line), outside.memory(line, line))
                     self.assertEqual(machine.call(name, arguments, told), (BAD_SIZE, (RUBBISH,) * told))
-                    self.assertEqual(machine.bytes(), (state, vectors05.memory(line, line)))
+                    self.assertEqual(machine.bytes(), (state, outside.memory(line, line)))
 
 
 def event_table():
@@ -245,9 +276,9 @@ class EventTable(unittest.TestCase):
 
     def test_single_events(self):
         table = event_table()
-        for number, line in vectors05.lines():
+        for file, number, line in outside.lines():
             if line['call'] in ('step', 'device', 'yield'):
-                with self.subTest(line=number):
+                with self.subTest(file=file, line=number):
                     self.assertEqual(table.by_model(table.event_of(line), table.state_of(line, line)), table.by_vector(line))
 
 
@@ -255,21 +286,25 @@ class Counts(unittest.TestCase):
     """What is run where. This needs no library."""
 
     def test_lines(self):
-        numbers = [number for number, _ in vectors05.lines()]
-        self.assertEqual(numbers, list(range(1, LINES + 1)))
+        self.assertEqual(set(LINES), set(outside.FILES))
+        for file, count in LINES.items():
+            self.assertEqual([number for _, number, _ in outside.lines(file)], list(range(1, count + 1)))
 
     def test_all_are_run_here(self):
         """A test method for each call that a line has."""
-        self.assertEqual({line['call'] for _, line in vectors05.lines()}, set(Vectors.CALLS))
+        self.assertEqual({line['call'] for _, _, line in outside.lines()}, set(Vectors.CALLS))
 
     def test_event_table(self):
-        """611 lines are cases of the event table too, and 128 are not: runs and replays, and more memory than the program has."""
+        """Most lines are cases of the event table too. Not so: runs and replays, loops, and more memory than the program has."""
         cases, others = event_table().sorted_vectors()
-        self.assertEqual({reason: len(numbers) for reason, numbers in others.items()},
-                         {'runs and replays': 78, 'more memory than 8192 bytes': 50})
-        self.assertEqual(len(cases), IN_EVENT_TABLE)
-        numbers = [number for number, _ in cases] + sum(others.values(), [])
-        self.assertEqual(sorted(numbers), list(range(1, LINES + 1)))
+        self.assertEqual({kind: len(numbers) for kind, numbers in others.items()},
+                         {(outside.SIZES, 'runs and replays'): 78, (outside.SIZES, 'more memory than 8192 bytes'): 50,
+                          (outside.VERSIONS, 'runs and replays'): 55, (outside.VERSIONS, 'loops'): 60})
+        for name in outside.FILES:
+            told = [number for file, number, _ in cases if file == name]
+            self.assertEqual(len(told), IN_EVENT_TABLE[name])
+            rest = sum((numbers for (file, _), numbers in others.items() if file == name), [])
+            self.assertEqual(sorted(told + rest), list(range(1, LINES[name] + 1)))
 
 
 if __name__ == '__main__':

@@ -1,0 +1,199 @@
+-- The loops of the two versions of A: without a JALR, 2.0 accepts what 2.1 accepts, and 2.1 accepts no block with one. Assumes nothing.
+use mathlib.Core.Path.{_≡_, refl, sym, _∙_, ap, subst}
+use mathlib.Core.Logic.{_↔_, _≢_, inl, inr, ⊎-elim}
+use mathlib.Core.List.{List}
+use Prim.Native.Nat.{ℕ, _<_}
+use native.Mathlib.Omega.{arith}
+use native.Mathlib.Decide.{decLt}
+use lib.ListN.{length, getD}
+use Rattle.settings.specs.Settings.{ofVersion, VersionRules, JalrPermitted}
+use Rattle.settings.specs.declared.Settings.{Settings}
+use Rattle.settings.proofs.SettingsLaws.{not-both}
+use Rattle.isa.specs.Decode.{JALR, classOf, decodeOf}
+use Rattle.isa.specs.declared.Instr.{Instr}
+use Rattle.isa.specs.declared.Instr.the-variants as I
+use Rattle.retry.specs.declared.LoopAnswer.{LoopAnswer}
+use Rattle.retry.specs.declared.LoopAnswer.the-variants.{Accepted, Rejected, Refused}
+use Rattle.retry.specs.Loop.{checkOf}
+use Rattle.retry.specs.Reasons.{Stands, PermittedClass, isLui, isAuipc, isJal, isBranch, isOp, isOpImm, isOp32, isOpImm32, isJalr, Permitted}
+use Rattle.retry.specs.Reasons.{Reason, one, two, three, four, five, six, Lowest, RefusedBy, byVersion, byLength}
+use Rattle.retry.specs.Versions.{NoJalr}
+use Rattle.retry.proofs.ClassLaws.{InClass, in-class}
+use Rattle.retry.proofs.ReasonLaws.{exactly}
+
+-- ---- JALR and its class
+
+abbrev AJalr : Instr → Type 0
+AJalr i = (rd : ℕ) × (rs1 : ℕ) × (imm : ℕ) × (i ≡ I.Jalr rd rs1 imm)
+
+-- a legal word of that class is a JALR
+jalr-of : (c : ℕ) (i : Instr) → InClass c i → c ≡ JALR → i ≢ I.Illegal → AJalr i
+jalr-of c I.Illegal e q n = absurd (n refl)
+jalr-of c (I.Lui rd imm) e q n = absurd (omega arith)
+jalr-of c (I.Auipc rd imm) e q n = absurd (omega arith)
+jalr-of c (I.Jal rd imm) e q n = absurd (omega arith)
+jalr-of c (I.Jalr rd rs1 imm) e q n = (rd, rs1, imm, refl)
+jalr-of c (I.Branch op rs1 rs2 imm) e q n = absurd (omega arith)
+jalr-of c (I.Load op rd rs1 imm) e q n = absurd (omega arith)
+jalr-of c (I.Store op rs1 rs2 imm) e q n = absurd (omega arith)
+jalr-of c (I.OpImm op rd rs1 imm) e q n = absurd (omega arith)
+jalr-of c (I.OpImm32 op rd rs1 imm) e q n = absurd (omega arith)
+jalr-of c (I.Op op rd rs1 rs2) e q n = absurd (omega arith)
+jalr-of c (I.Op32 op rd rs1 rs2) e q n = absurd (omega arith)
+jalr-of c (I.Fence rd rs1 imm) e q n = absurd (omega arith)
+jalr-of c I.Ecall e q n = absurd (omega arith)
+jalr-of c I.Ebreak e q n = absurd (omega arith)
+jalr-of c (I.Amo a) e q n = absurd (omega arith)
+
+-- and only its words are
+jalr-class : (w rd rs1 imm : ℕ) → decodeOf w ≡ I.Jalr rd rs1 imm → classOf w ≡ JALR
+jalr-class w rd rs1 imm e = subst (InClass (classOf w)) e (in-class w)
+
+-- where JALR isn't permitted, its class is none of the permitted ones
+other-class : (s : Settings) (c : ℕ) → (JalrPermitted s → ⊥) → c ≡ JALR → PermittedClass s c → ⊥
+other-class s c n q (isLui e) = omega arith
+other-class s c n q (isAuipc e) = omega arith
+other-class s c n q (isJal e) = omega arith
+other-class s c n q (isBranch e) = omega arith
+other-class s c n q (isOp e) = omega arith
+other-class s c n q (isOpImm e) = omega arith
+other-class s c n q (isOp32 e) = omega arith
+other-class s c n q (isOpImm32 e) = omega arith
+other-class s c n q (isJalr p e) = n p
+
+-- a class that s permits t permits too, JALR's if it does
+class-by : (s t : Settings) (c : ℕ) → (JalrPermitted s → c ≡ JALR → PermittedClass t c) → PermittedClass s c → PermittedClass t c
+class-by s t c j (isLui e) = isLui e
+class-by s t c j (isAuipc e) = isAuipc e
+class-by s t c j (isJal e) = isJal e
+class-by s t c j (isBranch e) = isBranch e
+class-by s t c j (isOp e) = isOp e
+class-by s t c j (isOpImm e) = isOpImm e
+class-by s t c j (isOp32 e) = isOp32 e
+class-by s t c j (isOpImm32 e) = isOpImm32 e
+class-by s t c j (isJalr p e) = j p e
+
+-- ---- reasons under one version and under another
+
+module _ (ws : List ℕ) where
+  -- the words of the block that s permits t permits too
+  abbrev Permits : Settings → Settings → Type 0
+  Permits s t = (place : ℕ) → place < length ws → Permitted s (getD ws place 0) → Permitted t (getD ws place 0)
+
+  -- only reason 2 asks what is permitted
+  reason-by : (s t : Settings) → Permits s t → (place reason : ℕ) → Reason t ws place reason → Reason s ws place reason
+  reason-by s t f place reason (one q x) = one q x
+  reason-by s t f place reason (two q x) = two q (x .0, x .1, x .2, λ p. x .3 (f place (x .1) p))
+  reason-by s t f place reason (three q x) = three q x
+  reason-by s t f place reason (four q x) = four q x
+  reason-by s t f place reason (five q x) = five q x
+  reason-by s t f place reason (six q x) = six q x
+
+  -- ---- two settings that permit the same
+
+  module _ (s t : Settings) (rules : VersionRules s → VersionRules t) (back : VersionRules t → VersionRules s) (f : Permits s t) (g : Permits t s) where
+    lowest-by : (place reason : ℕ) → Lowest s ws place reason → Lowest t ws place reason
+    lowest-by place reason l =
+        record {
+          applies = reason-by t s g place reason (l .applies);
+          lowestPlace = λ p r h q. l .lowestPlace p r h (reason-by s t f p r q);
+          lowestReason = λ r h q. l .lowestReason r h (reason-by s t f place r q);
+        }
+
+    refused-by : (number : ℕ) → RefusedBy s ws number → RefusedBy t ws number
+    refused-by number (byVersion q n) = byVersion q (λ v. n (back v))
+    refused-by number (byLength q v u) = byLength q (rules v) u
+
+    answered : (answer : LoopAnswer) → checkOf s ws ≡ answer → checkOf t ws ≡ answer
+    answered Accepted q =
+        let x = exactly s ws .accepts .0 q in
+        exactly t ws .accepts .1 (rules (x .0), x .1, λ p r h. x .2 p r (reason-by s t f p r h))
+    answered (Rejected place reason) q =
+        let x = exactly s ws .rejects place reason .0 q in
+        exactly t ws .rejects place reason .1 (rules (x .0), x .1, lowest-by place reason (x .2))
+    answered (Refused number) q = exactly t ws .refuses number .1 (refused-by number (exactly s ws .refuses number .0 q))
+
+  -- of settings only the version is looked at: those of one version give every block the same answer
+  pub checked-same : (s t : Settings) → s .version ≡ t .version → checkOf s ws ≡ checkOf t ws
+  checked-same s t e = sym (answered s t (rules s t e) (rules t s (sym e)) (permits s t e) (permits t s (sym e)) (checkOf s ws) refl)
+    where
+      rules : (s t : Settings) → s .version ≡ t .version → VersionRules s → VersionRules t
+      rules s t e v = ⊎-elim (λ (q : s .version ≡ 20). inl (sym e ∙ q)) (λ (q : s .version ≡ 21). inr (sym e ∙ q)) v
+
+      permits : (s t : Settings) → s .version ≡ t .version → Permits s t
+      permits s t e place l p = (class-by s t _ (λ j q. isJalr (sym e ∙ j) q) (p .0), p .1)
+
+  -- ---- 2.0 and 2.1
+
+  module _ (s t : Settings) (a : s .version ≡ 20) (b : t .version ≡ 21) where
+    not-20 : JalrPermitted t → ⊥
+    not-20 p = not-both t b p
+
+    -- what 2.1 permits 2.0 permits
+    more : Permits t s
+    more place l p = (class-by t s _ (λ j e. absurd (not-20 j)) (p .0), p .1)
+
+    -- and of a block without a JALR the other way round
+    no-more : NoJalr ws → Permits s t
+    no-more none place l p =
+        let w = getD ws place 0 in (
+          class-by s t (classOf w)
+              (λ j e.
+              let i = jalr-of (classOf w) (decodeOf w) (in-class w) e (p .1) in
+              absurd (none place (i .0) (i .1) (i .2) (record { inBlock = l; decodes = i .3 })))
+              (p .0),
+          p .1,
+        )
+
+    -- a JALR is a reason under 2.1, at place 0 and at any later one
+    jalr-reason : (place rd rs1 imm : ℕ) → Stands ws place (I.Jalr rd rs1 imm) → ((p r : ℕ) → Reason t ws p r → ⊥) → ⊥
+    jalr-reason place rd rs1 imm st none = go (decLt 0 place)
+      where
+        go : Dec (0 < place) → ⊥
+        go (yes l) =
+            none place 2
+            (two refl (
+              l,
+              st .inBlock,
+              (λ f. let z : _≡_ {A = ℕ} 0 1 = cc (st .decodes, f .0 .1 .0 .decodes) in omega arith),
+              λ p. other-class t _ not-20 (jalr-class (getD ws place 0) rd rs1 imm (st .decodes)) (p .0),
+            ))
+        go (no l) =
+            none 0 1
+            (one refl (
+              refl,
+              λ at x.
+                  let same : place ≡ 0 = omega arith in
+                  let first : decodeOf (getD ws 0 0) ≡ I.Jalr rd rs1 imm = subst (λ (k : ℕ). decodeOf (getD ws k 0) ≡ I.Jalr rd rs1 imm) same (st .decodes) in
+                  let z : _≡_ {A = ℕ} 0 1 = cc (first, x .0 .decodes) in omega arith,
+            ))
+
+    -- "All else is the same.": a block without a JALR gets the same answer under both, a place and a reason or a refusal among them
+    pub answers-without-jalr : NoJalr ws → checkOf s ws ≡ checkOf t ws
+    answers-without-jalr none = sym (answered s t (λ v. inr b) (λ v. inl a) (no-more none) more (checkOf s ws) refl)
+
+    -- 02 [7]: "for 2.0 only for loops with no JALR; show that these are exactly the loops that 2.1 accepts"
+    pub without-jalr : ((checkOf s ws ≡ Accepted) × NoJalr ws) ↔ (checkOf t ws ≡ Accepted)
+    without-jalr = (
+      λ h.
+          let x = exactly s ws .accepts .0 (h .0) in
+          exactly t ws .accepts .1 (inr b, x .1, λ p r q. x .2 p r (reason-by s t (no-more (h .1)) p r q)),
+      λ h.
+          let x = exactly t ws .accepts .0 h in (
+            exactly s ws .accepts .1 (inl a, x .1, λ p r q. x .2 p r (reason-by t s more p r q)),
+            λ place rd rs1 imm st. jalr-reason place rd rs1 imm st (x .2),
+          ),
+    )
+
+  -- the same of a version that is either: a block is accepted under it, and has no JALR where it permits one, exactly if it is accepted under 2.1
+  pub accepted-either : (s : Settings) → VersionRules s
+      → ((checkOf s ws ≡ Accepted) × (JalrPermitted s → NoJalr ws)) ↔ (checkOf (ofVersion 21) ws ≡ Accepted)
+  accepted-either s v =
+      ⊎-elim
+      (λ (a : s .version ≡ 20).
+      let both = without-jalr s (ofVersion 21) a refl in
+      (λ h. both .0 (h .0, h .1 a), λ h. let x = both .1 h in (x .0, λ p. x .1)))
+      (λ (b : s .version ≡ 21).
+      let same = checked-same s (ofVersion 21) b in
+      (λ h. sym same ∙ h .0, λ h. (same ∙ h, λ p. absurd (not-both s b p))))
+      v

@@ -1,0 +1,10 @@
+-- What tells the loops of A 2.0 from those of A 2.1 (02 [7]).
+-- RULES 6.1, 6.2.
+use mathlib.Core.List.{List}
+use Prim.Native.Nat.{ℕ}
+use Rattle.isa.specs.declared.Instr.the-variants.{Jalr}
+use Rattle.retry.specs.Reasons.{Stands}
+
+-- "loops with no JALR"
+abbrev pub NoJalr : List ℕ → Type 0
+NoJalr ws = (place rd rs1 imm : ℕ) → Stands ws place (Jalr rd rs1 imm) → ⊥

@@ -1,0 +1,2 @@
+-- What the version of A decides of an event.
+pub mod Versions

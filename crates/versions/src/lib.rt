@@ -1,0 +1,1 @@
+// Theorems only: what the version of A decides of an event.

@@ -1,0 +1,63 @@
+"""The outside vectors of requests 5 and 7 of document 02, tests/vectors/05-sizes.jsonl and 07-versions.jsonl: a line is a call of the library, its
+answer and what it leaves.
+
+They were made from the documents alone by an independent model. A line is a dict: call (step, device, yield, run, replay, loop); base (hex), len
+and mem (hex of the first bytes, the rest zero); count, size, version and harts (eight of [x0 to x31, pc, None or [address, width]], hex but for the
+width); the call's arguments; answer, broke, each and after. A loop has words (hex) and version alone. The functions below give the parts of it as
+numbers and bytes.
+"""
+import json
+import os
+
+FOLDER = os.path.join(os.path.dirname(os.path.abspath(__file__)), 'vectors')
+SIZES, VERSIONS = '05-sizes.jsonl', '07-versions.jsonl'
+FILES = (SIZES, VERSIONS)
+
+
+def lines(*files):
+    """Each line of the files, of all if none is named: the file's name, the line's number in it, from 1, and the dict."""
+    for name in files or FILES:
+        with open(os.path.join(FOLDER, name), encoding='utf-8') as file:
+            for number, line in enumerate(file, 1):
+                yield name, number, json.loads(line)
+
+
+def set_size(line):
+    """A setting that is missing has its default."""
+    return line.get('size', 64)
+
+
+def version(line):
+    return line.get('version', 21)
+
+
+def base(line):
+    return int(line['base'], 16)
+
+
+def memory(line, part):
+    """The bytes of memory; part is the line itself or what it has under `after`."""
+    given = bytes.fromhex(part['mem'])
+    return given + bytes(line['len'] - len(given))
+
+
+def harts(part):
+    """The eight harts: x0 to x31, pc, and None or the reservation's address and width."""
+    for x, pc, held in part['harts']:
+        yield [int(value, 16) for value in x], int(pc, 16), held and (int(held[0], 16), held[1])
+
+
+def device(line):
+    """A device write: address, number of bytes, and the lowest 8 of these as a number. More than 8 are refused whatever they are."""
+    data = bytes.fromhex(line['data'])
+    return int(line['address'], 16), len(data), int.from_bytes(data[:8], 'little')
+
+
+def words(line):
+    """The words of a block."""
+    return [int(word, 16) for word in line['words']]
+
+
+def afterwards(line):
+    """What holds the harts and the memory after the call: `after`, or the line itself where all is as given."""
+    return line.get('after', line)
