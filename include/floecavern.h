@@ -115,10 +115,14 @@ uint64_t floecavern_check_loop(const uint8_t *words, size_t words_len);
  * under 2.0 and have no JALR. That an accepted loop finishes if it is left alone is proved of these blocks, on a machine of
  * either version; of a block with a JALR it is not claimed.
  *
- * Answers as floecavern_check_loop does, FLOECAVERN_BAD_SIZE first; and before FLOECAVERN_LOOP_REFUSED
+ * Answers, the first that applies of
+ *   FLOECAVERN_BAD_SIZE                   words_len is not a multiple of 4
  *   FLOECAVERN_LOOP_SETTING_REFUSED (2)   the version is neither of the two: refusal 2
+ *   FLOECAVERN_LOOP_REFUSED (6)           the block has fewer than 2 or more than 16 words: refusal 6
+ *   256 * (place + 1) + reason            it is rejected, as above
+ *   FLOECAVERN_LOOP_ACCEPTED (0)          it is accepted
  *
- * A later version of this interface may ask more settings of this function, such as a kind of core; floecavern_check_loop
+ * A later version of this interface may add arguments to this function, such as a kind of core; floecavern_check_loop
  * stays as it is. */
 uint64_t floecavern_check_loop_for(uint64_t version, const uint8_t *words, size_t words_len);
 
@@ -126,7 +130,7 @@ uint64_t floecavern_check_loop_for(uint64_t version, const uint8_t *words, size_
 #define FLOECAVERN_LOOP_SETTING_REFUSED 2
 #define FLOECAVERN_LOOP_REFUSED 6
 
-/* The place and the reason of an answer r of the two that is 257 or more and not FLOECAVERN_BAD_SIZE. */
+/* The place and the reason of an answer r of either function that is 257 or more and not FLOECAVERN_BAD_SIZE. */
 #define FLOECAVERN_LOOP_PLACE(r) ((r) / 256 - 1)
 #define FLOECAVERN_LOOP_REASON(r) ((r) % 256)
 
@@ -198,7 +202,7 @@ FLOECAVERN_ASSERT(version_stands_at_2320, offsetof(floecavern_state, version) ==
  * not write (the address); 8 ECALL (0). A trap changes nothing: an SC that traps leaves its hart's reservation.
  *
  * Refusals, in the order they are tried: 1 the set size breaks the rules above, or else the length of memory or the base
- * does; 2 so does the rest of the state: its version or its count; or, of a hart below the count, x0 is not 0, pc is not
+ * does; 2 so does the rest of the state: its count or its version; or, of a hart below the count, x0 is not 0, pc is not
  * a multiple of 4, or the reservation's width is not 4 or 8, its address not aligned to that, or its bytes not in memory;
  * 3 the hart is not below the count; 4 a device write of 0 or more than 8 bytes; 5 one not wholly in memory; 11, of a run
  * alone: its events; 12 and 13, of a replay alone: its log.
@@ -727,7 +731,7 @@ FLOECAVERN_INLINE floecavern_refusal floecavern_machine_put_words(floecavern_mac
 
 /* Whether a block of instruction words is a retry loop that is accepted under a version of A, FLOECAVERN_A_2_0 or
  * FLOECAVERN_A_2_1. Refusals 2, of any other version, and 6. words may be NULL if count is 0. A later version of this
- * interface may ask more of this function. */
+ * interface may add arguments to this function. */
 FLOECAVERN_INLINE floecavern_verdict floecavern_check_words_for(uint64_t version, const uint32_t *words, size_t count)
 {
     static const uint32_t none[1] = {0};

@@ -15,7 +15,7 @@ FLOECAVERN_SO names a shared object at another place; a relative name counts fro
     floecavern.harts(machine.device_write(64, 1, 7).broke)      # (0,): hart 0's reservation is broken
 
 The set of a reservation has 64 bytes, SET_SIZE, or as many as Machine(2, 0, 128, set_size=16) says. The machine follows version 2.1 of A, or 2.0
-with Machine(2, 0, 128, version=A_2_0): there a device write breaks no reservation. check_loop(words, version=A_2_0) reads a loop by 2.0.
+with Machine(2, 0, 128, version=A_2_0): there a device write breaks no reservation. check_loop(words, version=A_2_0) checks a loop under 2.0.
 
 The names are those of include/floecavern.h and of rust/, whose `Answer` is the outcome here. What the model refuses is the exception Refused,
 and state and memory are as they were; a trap is an outcome. A value that isn't the model's at all is a TypeError or a ValueError before the

@@ -73,7 +73,7 @@ pub fn check_loop(words: &[u32]) -> Result<Verdict, Refusal> {
 /// The same under a version of A: under [`A_2_0`](crate::A_2_0) a later word may be a JALR too. Refused by 2 if the version
 /// is neither of the two, and then by 6. That an accepted loop finishes if it is left alone is claimed of the blocks that
 /// are accepted under [`A_2_1`]: these are exactly those that are accepted under 2.0 and have no JALR. A later version of
-/// this crate may ask more of this function.
+/// this crate may add arguments to this function.
 ///
 /// ```
 /// use floecavern::{check_loop_for, Reason, Refusal, Verdict, A_2_0, A_2_1};

@@ -29,8 +29,9 @@ Beyond base len (Step h) = ⊥
 Beyond base len (Device a n v) = Inside base len a n → ⊥
 Beyond base len (Yield h) = ⊥
 
--- The row of this number applies. WrongMemory and StateRules are by the rules of 01, "The machine", of 02 [7], "any other version is 2", and of 02 [5]: "a size not allowed is 1, tried before
--- base and length"; "memory length or base breaks the rules above"; "state malformed".
+-- The row of this number applies.
+-- 1: "memory length or base breaks the rules above"; 02 [5]: "a size not allowed is 1, tried before base and length"
+-- 2: "state malformed"; 02 [7]: "any other version is 2"
 pub data RefusalRow (base : ℕ) (mem : List ℕ) (s : State) (e : Event) (number : ℕ) : Type 0 where
   badMemory : number ≡ 1 → WrongMemory (s .settings) base (length mem) → RefusalRow base mem s e number
   badState : number ≡ 2 → (StateRules base (length mem) s → ⊥) → RefusalRow base mem s e number

@@ -67,7 +67,7 @@ pub record Told (a : Answer) (m state : List ℕ) (r : ℕ) (state′ mem′ val
 
 -- What an event e leaves, and its answer r: state, memory and value before and after. Where the state isn't 2328 bytes or the value isn't 8, nothing
 -- is written. (A memory of a wrong length is 01's refusal 1, and so is a set size that isn't allowed, as that of a state of zeros: 02 [5];
--- a version that isn't is 2: 02 [7].)
+-- a version that isn't allowed is refusal 2: 02 [7].)
 pub record PerformedOn (e : Event) (base : ℕ) (state mem value : List ℕ) (r : ℕ) (state′ mem′ value′ : List ℕ) : Type 0 where
   pub wrong : ((length state ≡ stateSize) × (length value ≡ 8) → ⊥) → (r ≡ wrongSize) × (state′ ≡ state) × (mem′ ≡ mem) × (value′ ≡ value)
   pub right : length state ≡ stateSize → length value ≡ 8

@@ -29,7 +29,7 @@ pub data Register : Type 0 where
   x_is_ : ℕ → ℕ → Register
 
 pub data Edge : Type 0 where
-  -- a block of words is answered so by the loop checker
+  -- a block of words is answered so by the loop checker, under the default settings
   checks : List ℕ → LoopAnswer → Edge
   -- a word is this instruction
   decodes : ℕ → Instr → Edge

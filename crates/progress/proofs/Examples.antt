@@ -1,4 +1,5 @@
--- Loops that meet the start of the claim, and runs of them that finish in each of the three ways; and what a store into the set does. Computed.
+-- Loops that meet the start of the claim, and runs of them that finish in each of the three ways; what a store into the set does, by its size, and a
+-- device write, by the version; and a loop with a JALR that 2.0 accepts and that doesn't finish. Computed.
 -- Assumes nothing.
 use mathlib.Core.Path.{_≡_, refl, sym, _∙_, subst}
 use mathlib.Core.Logic.{_≢_, _⊎_, inl, inr}
@@ -23,6 +24,7 @@ use Rattle.isa.specs.Decode.{classOf, branchOf, jalrOf, storeOf, systemOf, size
 use Rattle.isa.specs.declared.Width.the-variants.{Word}
 use Rattle.isa.specs.declared.Atomic.{Atomic}
 use Rattle.isa.specs.declared.AtomicOp.the-variants as A
+use Rattle.isa.specs.declared.Instr.the-variants.{Jalr}
 use Rattle.reserve.proofs.RangeLaws.{inside-of}
 use Rattle.machine.specs.State.{lentOk, memoryOk, reservationOk, hartOk, stateOk, refusalOf}
 use Rattle.machine.proofs.StateLaws.{refusal-0}
@@ -41,7 +43,7 @@ use Rattle.model.specs.declared.Outcome.the-variants as O
 use Rattle.model.proofs.Valid.{valid-run}
 use Rattle.notices.specs.Happened.{WritesBytes, byHart}
 use Rattle.notices.proofs.Exact.{notice-exact, writes-exact}
-use Rattle.retry.specs.Reasons.{LrAt}
+use Rattle.retry.specs.Reasons.{Stands, LrAt}
 use Rattle.retry.specs.declared.LoopAnswer.the-variants.{Accepted, Rejected}
 use Rattle.retry.specs.Loop.{viewOf, pastSc, wrongOffset, clobbers, lowestOf, scanOf, startOf, checkOf}
 use Rattle.progress.specs.Claim.{hartPc, StartUnder, Start, LeftAlone, Harmless, Finish, bySc, left, back, Safe, Finishes, Calm, Unfinished}
@@ -299,7 +301,8 @@ disturbed =
       fails = refl;
     }
 
--- A yield of hart 0 makes its SC fail, and so does, under A 2.1, a device write to a byte that the LR read; a device write into the loop, of ECALL, makes it trap.
+-- A yield of hart 0 makes its SC fail, and so does, under A 2.1, a device write to a byte that the LR read; a device write into the loop, of ECALL, makes
+-- it trap.
 pub record Broken : Type 0 where
   pub yields : next (Step 0 ∷ Yield 0 ∷ Step 0 ∷ []) ≡ O.ScFailed
   pub device : next (Step 0 ∷ Device 1099 1 0 ∷ Step 0 ∷ []) ≡ O.ScFailed
@@ -373,7 +376,9 @@ pub by-size : BySize
 unfolding running storeOf execStore
 by-size =
     record {
-      alone = alone-exact 1024 0 1024 1096 leaving lr reserved-16 (valid-run 1024 (begin-with (of-size 16) leaving 0) (start-16 .valid) (Step 0 ∷ [])) used-16 (Step 1) .1 harmless-16;
+      alone =
+          alone-exact 1024 0 1024 1096 leaving lr reserved-16
+          (valid-run 1024 (begin-with (of-size 16) leaving 0) (start-16 .valid) (Step 0 ∷ [])) used-16 (Step 1) .1 harmless-16;
       stores-8 = refl;
       stores-16 = refl;
       fails-64 = refl;
@@ -387,7 +392,7 @@ pub starts-20 : Start 1024 0 1024 1096 leaving lr (begin-with (ofVersion 20) lea
 unfolding refusalOf sizeOk versionOk lentOk memoryOk stateOk hartOk reservationOk insideOf allBelow
 starts-20 = starts-with (ofVersion 20) refl
 
--- the harts whose reservation hart 0's LR and then a device write of a byte that it read broke
+-- after hart 0's LR, the harts whose reservation a device write of a byte that it read breaks
 abbrev lost : Settings → ℕ
 lost settings = brokeAt 1024 (runOf 1024 (begin-with settings leaving 0) (Step 0 ∷ [])) (Device 1099 1 0)
 
@@ -411,6 +416,11 @@ staying = 0x1002A32F ∷ 0x40400067 ∷ 0x1882A3AF ∷ []
 
 abbrev on-20 : Machine
 on-20 = begin-with (ofVersion 20) staying 0
+
+-- its second word is a JALR
+pub jalr-in-it : Stands staying 1 (Jalr 0 0 1028)
+unfolding reading jalrOf
+jalr-in-it = record { inBlock = omega arith; decodes = refl }
 
 -- 2.0 accepts it, and 2.1 does not
 pub accepted-20 : checkOf (ofVersion 20) staying ≡ Accepted
@@ -481,11 +491,9 @@ stays =
       there = refl;
     }
 
--- So on a machine of 2.0 the claim doesn't hold of every block that 2.0 accepts: `retry-by-version` needs its premise on JALR.
-pub not-under-20 : ((base h p addr : ℕ) (words : List ℕ) (first : Atomic) (m : Machine) → version m ≡ 20
-    → StartUnder base h p addr words first (m .state .settings) m → Finishes base h p addr words first (LeftAlone base h p addr words first) m)
-    → ⊥
-not-under-20 claim = unsafe (claim 1024 0 1024 1096 staying lr on-20 refl starts-staying three)
+-- so this loop, left alone, doesn't finish
+pub never-finishes : Finishes 1024 0 1024 1096 staying lr (LeftAlone 1024 0 1024 1096 staying lr) on-20 → ⊥
+never-finishes claim = unsafe (claim three)
   where
     unsafe : Safe 1024 0 1024 1096 staying lr (LeftAlone 1024 0 1024 1096 staying lr) 3 on-20 three → ⊥
     unsafe s = one (s .1)
@@ -506,3 +514,9 @@ not-under-20 claim = unsafe (claim 1024 0 1024 1096 staying lr on-20 refl starts
             × Safe 1024 0 1024 1096 staying lr (LeftAlone 1024 0 1024 1096 staying lr) 2 (nextOf 1024 on-20 (Step 0)) (Step 0 ∷ Step 0 ∷ [])) → ⊥
         one (inl f) = stays .unfinished .0 refl f
         one (inr f) = two (f .1 .1)
+
+-- So on a machine of 2.0 the claim doesn't hold of every block that 2.0 accepts: `retry-by-version` needs its premise on JALR.
+pub not-under-20 : ((base h p addr : ℕ) (words : List ℕ) (first : Atomic) (m : Machine) → version m ≡ 20
+    → StartUnder base h p addr words first (m .state .settings) m → Finishes base h p addr words first (LeftAlone base h p addr words first) m)
+    → ⊥
+not-under-20 claim = never-finishes (claim 1024 0 1024 1096 staying lr on-20 refl starts-staying)

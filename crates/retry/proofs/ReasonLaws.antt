@@ -101,7 +101,8 @@ module _ (settings : Settings) (ws : List ℕ) (lr : Atomic) (first : LrAt ws 0 
             → At settings ws p (cond t 4 (cond (reason5 rs1 width past v) 5 0))
         by-four true e a b =
             found (λ z. omega arith) (four refl (four-true settings ws p l lr first v refl e))
-            (below settings ws p 4 (λ h. is-lr p) (λ h. two-false settings ws p l v refl a) (λ h. three-false settings ws p l b) (never refl) (never refl) (λ h. inside))
+            (below settings ws p 4 (λ h. is-lr p) (λ h. two-false settings ws p l v refl a) (λ h. three-false settings ws p l b) (never refl) (never refl)
+            (λ h. inside))
         by-four false e a b = by-five (reason5 rs1 width past v) refl a b e
 
         by-three : (t : Bool) → reason3 past p v ≡ t → reason2 past p v ≡ false
@@ -141,7 +142,8 @@ module _ (settings : Settings) (ws : List ℕ) (lr : Atomic) (first : LrAt ws 0 
         lowestReason = λ r m q. omega (arith, at-end p (omega arith) r q .0);
       }
 
-  one-more : (p : ℕ) → ((k r : ℕ) → k < p → Reason settings ws k r → ⊥) → ((r : ℕ) → Reason settings ws p r → ⊥) → (k r : ℕ) → k < suc p → Reason settings ws k r → ⊥
+  one-more : (p : ℕ) → ((k r : ℕ) → k < p → Reason settings ws k r → ⊥) → ((r : ℕ) → Reason settings ws p r → ⊥)
+      → (k r : ℕ) → k < suc p → Reason settings ws k r → ⊥
   one-more p h f k r m q =
       bool-cases (ltb k p) (λ t. h k r (ltb-true k p t) q)
       (λ t. let e : k ≡ p = omega (arith, ltb-false k p t) in f r (subst (λ (n : ℕ). Reason settings ws n r) e q))
@@ -162,7 +164,8 @@ module _ (settings : Settings) (ws : List ℕ) (lr : Atomic) (first : LrAt ws 0 
 
 -- ---- the whole block
 
-lr-at : (settings : Settings) (ws : List ℕ) (rd s u : ℕ) → 0 < length ws → viewAt settings ws 0 ≡ Lr rd s u → (a : Atomic) × LrAt ws 0 a × (a .rs1 ≡ s) × (bytesOf (a .width) ≡ u)
+lr-at : (settings : Settings) (ws : List ℕ) (rd s u : ℕ) → 0 < length ws → viewAt settings ws 0 ≡ Lr rd s u
+    → (a : Atomic) × LrAt ws 0 a × (a .rs1 ≡ s) × (bytesOf (a .width) ≡ u)
 lr-at settings ws rd s u l q =
     let i = decodeOf (getD ws 0 0) in
     let e : SeenLr i rd s u = subst (Seen i) q (seen settings i) in
@@ -177,7 +180,9 @@ lowest-one settings ws n =
     }
 
 no-lr : (settings : Settings) (ws : List ℕ) (v : View) → viewAt settings ws 0 ≡ v → ((rd s u : ℕ) → v ≡ Lr rd s u → ⊥) → Lowest settings ws 0 1
-no-lr settings ws v q n = lowest-one settings ws (λ a s. n (a .rd) (a .rs1) (bytesOf (a .width)) (sym q ∙ ap (viewOf settings) (s .0 .decodes) ∙ lr-view settings a (s .1)))
+no-lr settings ws v q n =
+    lowest-one settings ws
+    (λ a s. n (a .rd) (a .rs1) (bytesOf (a .width)) (sym q ∙ ap (viewOf settings) (s .0 .decodes) ∙ lr-view settings a (s .1)))
 
 started : (settings : Settings) (ws : List ℕ) (v : View) → viewAt settings ws 0 ≡ v → 0 < length ws → Decides settings ws (startOf settings v ws)
 unfolding startOf

@@ -17,7 +17,8 @@ stop place (suc r) rest h = refl
 module _ (settings : Settings) (rs1 width : ℕ) (ws : List ℕ) (place : ℕ) where
   turn : place < length ws
       → scanOf settings rs1 width ws (length ws - place) place
-      ≡ orElse place (lowestOf rs1 width (pastSc settings ws place) place (viewAt settings ws place)) (scanOf settings rs1 width ws (length ws - suc place) (suc place))
+      ≡ orElse place (lowestOf rs1 width (pastSc settings ws place) place (viewAt settings ws place))
+      (scanOf settings rs1 width ws (length ws - suc place) (suc place))
   unfolding scanOf
   turn h = let e : length ws - place ≡ suc (length ws - suc place) = omega arith in rw e
 

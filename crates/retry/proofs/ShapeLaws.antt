@@ -173,7 +173,8 @@ module _ (settings : Settings) (rs1 width : ℕ) (ws : List ℕ) where
       → ((k : ℕ) → p ≤ k → k < length ws → lowestOf rs1 width (pastSc settings ws k) k (viewAt settings ws k) ≡ 0) × (pastSc settings ws (length ws) ≡ true)
   unfolding scanOf
   cleared zero p e a =
-      ((λ k m l. absurd (omega arith)), subst (λ (n : ℕ). pastSc settings ws n ≡ true) (let f : p ≡ length ws = omega arith in f) (ended (pastSc settings ws p) a))
+      let f : p ≡ length ws = omega arith in
+      ((λ k m l. absurd (omega arith)), subst (λ (n : ℕ). pastSc settings ws n ≡ true) f (ended (pastSc settings ws p) a))
     where
       ended : (t : Bool) → cond t Accepted (Rejected p 6) ≡ Accepted → t ≡ true
       ended true q = refl
@@ -203,9 +204,12 @@ module _ (settings : Settings) (rs1 width : ℕ) (ws : List ℕ) where
         later = late;
         inBlock = s .2;
         sc-is-first =
-            sc-at rs1 width (pastSc settings ws j) j late (viewAt settings ws j) (clear-at j (s .2)) (first-past settings ws j (omega (arith, s .2)) (s .1)) (sc-is settings ws j (s .1 .0));
+            sc-at rs1 width (pastSc settings ws j) j late (viewAt settings ws j) (clear-at j (s .2))
+            (first-past settings ws j (omega (arith, s .2)) (s .1)) (sc-is settings ws j (s .1 .0));
         before = λ k o h. before-at rs1 width (pastSc settings ws k) k o (viewAt settings ws k) (clear-at k (omega (arith, s .2))) (past-early k h) (no-sc k h);
-        after = λ k h l. after-at rs1 width (pastSc settings ws k) k (omega arith) (viewAt settings ws k) (clear-at k l) (after-past settings ws k (j, s .1, h));
+        after =
+            λ k h l.
+            after-at rs1 width (pastSc settings ws k) k (omega arith) (viewAt settings ws k) (clear-at k l) (after-past settings ws k (j, s .1, h));
       }
     where
       r : ((k : ℕ) → 0 ≤ k → k < length ws → lowestOf rs1 width (pastSc settings ws k) k (viewAt settings ws k) ≡ 0) × (pastSc settings ws (length ws) ≡ true)
@@ -231,7 +235,9 @@ module _ (settings : Settings) (rs1 width : ℕ) (ws : List ℕ) where
           contrary (sc-is settings ws j (s .1 .0)) (ap (λ (n : ℕ). isSc (viewAt settings ws n)) e ∙ ap isSc q))
 
       own : Clear rs1 width (pastSc settings ws 0) 0 (viewAt settings ws 0) → Keeps rs1 rd
-      own c = keeps-rs1 rs1 rd (and-second (not (pastSc settings ws 0)) (clobbers rs1 rd) (sym (ap (reason4 rs1 (pastSc settings ws 0)) q) ∙ c .no4) (not-of (pastSc settings ws 0) start))
+      own c =
+          let past = pastSc settings ws 0 in
+          keeps-rs1 rs1 rd (and-second (not past) (clobbers rs1 rd) (sym (ap (reason4 rs1 past) q) ∙ c .no4) (not-of past start))
         where
           start : pastSc settings ws 0 ≡ false
           start = bool-cases (pastSc settings ws 0) (λ t. let f = past-first settings ws 0 (omega arith) t in absurd (omega (arith, f .2))) (λ t. t)

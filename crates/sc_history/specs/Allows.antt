@@ -14,7 +14,7 @@ use Rattle.notices.specs.Happened.{RetiredLr, RetiredSc, HartWrites, DeviceWrit
 -- a memory at base; hart h. The set's size and the version of A are those of the machine that the event is put to; no event changes them
 -- (model/proofs/Frame: settings-run)
 module _ (base h : ℕ) where
-  -- The event, put to the machine m, is none of those that break, under either version of A, what hart h's LR at a reserved.
+  -- The event, put to the machine m, is none of those that break under both versions of A what hart h's LR at a reserved.
   pub record HartsLeave (m : Machine) (e : Event) (a : ℕ) : Type 0 where
     -- 01: "Its own hart's next retired LR (replaced) or SC, or a yield"
     pub noLr : (b n : ℕ) → RetiredLr base m e h b n → ⊥

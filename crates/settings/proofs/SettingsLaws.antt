@@ -13,7 +13,8 @@ use lib.Pow.{pow-lt, pow-mono, mod-mod-pow, ones-lt}
 use borrow.Author.Tests.{eqb-true, leb-true, eq-eqb, le-leb}
 use Rattle.word.proofs.TestLaws.{and-both, or-either}
 use Rattle.word.proofs.WordLaws.{split-lt}
-use Rattle.settings.specs.Settings.{PowerOfTwo, defaults, SizeRules, sizeOk, granuleOf, VersionRules, versionOk, DevicesBreak, devicesBreak, JalrPermitted, jalrPermitted}
+use Rattle.settings.specs.Settings.{PowerOfTwo, defaults, SizeRules, sizeOk, granuleOf, VersionRules, versionOk}
+use Rattle.settings.specs.Settings.{DevicesBreak, devicesBreak, JalrPermitted, jalrPermitted}
 use Rattle.settings.specs.declared.Settings.{Settings}
 
 -- a power of two and the number before it have no bit in common
@@ -99,7 +100,7 @@ version-exact s = (
 
 -- and so do the tests of what a version permits
 pub devices-exact : (s : Settings) → (devicesBreak s ≡ true) ↔ DevicesBreak s
-devices-exact s = (λ e. eqb-true (s .version) 21 e, λ q. eq-eqb (s .version) 21 q)
+devices-exact s = (λ e. omega (arith, eqb-true (s .version) 21 e), λ q. eq-eqb (s .version) 21 (omega (arith, q)))
 
 pub jalr-exact : (s : Settings) → (jalrPermitted s ≡ true) ↔ JalrPermitted s
 jalr-exact s = (λ e. eqb-true (s .version) 20 e, λ q. eq-eqb (s .version) 20 q)

@@ -30,7 +30,7 @@ use Rattle.events.specs.declared.Event.the-variants.{Step, Device, Yield}
 use Rattle.model.specs.Act.{Act, refuse, fault, change, put, release, outcomeOf, registersAfter, pcsAfter, slotsAfter, brokenAfter, apply, leaves}
 use Rattle.model.specs.Perform.{Machine, setSize, version, reservationOf, stepOf, ofExec, actOn, actOf, outcomeAt, brokeAt, answerOf, memoryOf, nextOf, runOf}
 use Rattle.model.proofs.Frame.{acts}
-use Rattle.versions.specs.Versions.{under, IsDevice, BreaksByHart, AllByHart, LeavesState, SameAnswer, SameReservations}
+use Rattle.versions.specs.Versions.{under, IsDevice, DeviceSpares, DevicesSpare, LeavesState, SameAnswer, SameReservations}
 
 -- ---- device writes under 2.0
 
@@ -156,7 +156,7 @@ module _ (base : ℕ) (m : Machine) where
   abbrev new : Machine
   new = under 21 m
 
-  refusal-same : refusalOf base (length (m .mem)) (old .state) ≡ refusalOf base (length (m .mem)) (new .state)
+  pub refusal-same : refusalOf base (length (m .mem)) (old .state) ≡ refusalOf base (length (m .mem)) (new .state)
   unfolding refusalOf memoryOk sizeOk lentOk stateOk versionOk
   refusal-same = refl
 
@@ -233,13 +233,13 @@ module _ (base : ℕ) (m : Machine) where
       record { reservations = ap (λ (s : State). s .res) (l .state) ∙ sym (untouched e d q); broke = l .broke ∙ sym q }
 
   -- of an event that is no device write, or a device write that breaks no reservation under 2.1
-  pub same-reservations : (e : Event) → BreaksByHart base new e → SameReservations base m e
+  pub same-reservations : (e : Event) → DeviceSpares base new e → SameReservations base m e
   same-reservations (Step h) b = same-by-hart (Step h) (λ d. d)
   same-reservations (Device a n v) b = same-by-device (Device a n v) tt (b tt)
   same-reservations (Yield h) b = same-by-hart (Yield h) (λ d. d)
 
   -- so the whole machine is the same but for its version
-  next-same : (e : Event) → BreaksByHart base new e → nextOf base old e ≡ under 20 (nextOf base new e)
+  pub next-same : (e : Event) → DeviceSpares base new e → nextOf base old e ≡ under 20 (nextOf base new e)
   unfolding nextOf answerOf apply
   next-same e none =
       let a = same-answer e in
@@ -258,16 +258,16 @@ module _ (base : ℕ) (m : Machine) where
       (r .reservations) (a .memory)
 
 -- no event changes the version
-new-stays : (base : ℕ) (m : Machine) (e : Event) → under 21 (nextOf base (under 21 m) e) ≡ nextOf base (under 21 m) e
+pub new-stays : (base : ℕ) (m : Machine) (e : Event) → under 21 (nextOf base (under 21 m) e) ≡ nextOf base (under 21 m) e
 unfolding nextOf answerOf apply
 new-stays base m e = refl
 
 -- Events one after another, of which no device write breaks a reservation under 2.1: the machine afterwards is the same but for its version.
-pub same-run : (base : ℕ) (es : List Event) (m : Machine) → AllByHart base (under 21 m) es → runOf base (under 20 m) es ≡ under 20 (runOf base (under 21 m) es)
+pub same-run : (base : ℕ) (es : List Event) (m : Machine) → DevicesSpare base (under 21 m) es → runOf base (under 20 m) es ≡ under 20 (runOf base (under 21 m) es)
 unfolding runOf
 same-run base [] m none = refl
 same-run base (e ∷ es) m none =
     let next = nextOf base (under 21 m) e in
     ap (λ (n : Machine). runOf base n es) (next-same base m e (none .0))
-    ∙ same-run base es next (subst (λ (n : Machine). AllByHart base n es) (sym (new-stays base m e)) (none .1))
+    ∙ same-run base es next (subst (λ (n : Machine). DevicesSpare base n es) (sym (new-stays base m e)) (none .1))
     ∙ ap (λ (n : Machine). under 20 (runOf base n es)) (new-stays base m e)

@@ -1,2 +1,2 @@
--- What the version of A decides of an event.
+-- What the version of A decides of an event, a run and a replay.
 pub mod Versions
