@@ -13,7 +13,7 @@ use builder::Builder;
 use makers::{contention, gathered, guided, program};
 
 use crate::case::read_case;
-use crate::machine::{version_allowed, State, A_2_0, A_2_1};
+use crate::machine::{State, A_2_0, A_2_1};
 
 pub use blocks::loop_block;
 pub use logs::log;
@@ -36,7 +36,8 @@ pub fn case(seed: u64) -> Vec<u8> {
     maker(rng, b).file()
 }
 
-/// A number that is no version of the A extension: below the two, above them, or one of them in its lowest bits alone.
+/// A number that is no version of the A extension: below the two, above them, or one of them in its lowest bits alone. It doesn't go by what the
+/// machine allows, so that a machine that allows too much is found.
 pub fn no_version(rng: &mut Rng) -> u64 {
     loop {
         let version = match rng.below(10) {
@@ -49,7 +50,7 @@ pub fn no_version(rng: &mut Rng) -> u64 {
             8 => rng.value(),
             _ => rng.next(),
         };
-        if !version_allowed(version) {
+        if version != A_2_0 && version != A_2_1 {
             return version;
         }
     }
