@@ -1,8 +1,11 @@
 //! The size of a reservation's set: which are allowed, and what they change.
 
+mod common;
+
+use common::{answer, held};
 use floecavern::{
-    device_write, replay, run, step, yield_hart, Answer, Event, Harts, Machine, Outcome, Refusal, RefusedAt,
-    Reservation, State, MAX_MEMORY, SET_SIZE, STATE_SIZE,
+    device_write, replay, run, step, yield_hart, Event, Machine, Outcome, Refusal, RefusedAt, Reservation, State,
+    MAX_MEMORY, SET_SIZE, STATE_SIZE,
 };
 
 const LR: u32 = 0x1002_a32f; // lr.w x6,(x5)
@@ -22,14 +25,6 @@ fn reserved(set_size: u64, lr: u64, word: u32, x5: u64) -> Machine {
         machine.state.set_reservation(hart, Some(Reservation { addr: lr, width: 4 }));
     }
     machine
-}
-
-fn held(machine: &Machine) -> u8 {
-    (0..8).fold(0, |bits, h| bits | u8::from(machine.state.reservation(h).is_some()) << h)
-}
-
-fn answer(outcome: Outcome, broke: u8) -> Result<Answer, Refusal> {
-    Ok(Answer { outcome, broke: Harts::from_bits(broke) })
 }
 
 #[test]

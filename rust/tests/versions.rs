@@ -1,8 +1,11 @@
-//! The version of A that a machine follows, and that a loop is read by: which are taken, and what they change.
+//! The version of A that a machine follows, and that a loop is checked under: which are taken, and what they change.
 
+mod common;
+
+use common::{answer, held};
 use floecavern::{
-    check_loop, check_loop_for, device_write, raw, replay, run, step, yield_hart, Answer, Event, Harts, Machine,
-    Outcome, Reason, Refusal, RefusedAt, Replayed, Reservation, State, Stop, Verdict, A_2_0, A_2_1, STATE_SIZE,
+    check_loop, check_loop_for, device_write, raw, replay, run, step, yield_hart, Event, Machine, Outcome, Reason,
+    Refusal, RefusedAt, Replayed, Reservation, State, Stop, Verdict, A_2_0, A_2_1, STATE_SIZE,
 };
 
 const LR: u32 = 0x1002_a32f; // lr.w x6,(x5)
@@ -24,14 +27,6 @@ fn contended(version: u64, word: u32) -> Machine {
         machine.state.set_reservation(hart, Some(Reservation { addr, width }));
     }
     machine
-}
-
-fn held(machine: &Machine) -> u8 {
-    (0..8).fold(0, |bits, h| bits | u8::from(machine.state.reservation(h).is_some()) << h)
-}
-
-fn answer(outcome: Outcome, broke: u8) -> Result<Answer, Refusal> {
-    Ok(Answer { outcome, broke: Harts::from_bits(broke) })
 }
 
 #[test]
