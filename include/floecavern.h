@@ -110,8 +110,8 @@ uint64_t floecavern_check_loop(const uint8_t *words, size_t words_len);
 
 /* The same under a version of A: FLOECAVERN_A_2_0 or FLOECAVERN_A_2_1.
  *
- * Under 2.0 reason 2 permits JALR too, as any later word. Reason 4 applies to its rd, as to that of any word before the
- * first SC; a JALR is no jump of reason 3. So the blocks that are accepted under 2.1 are exactly those that are accepted
+ * Under 2.0 reason 2 does not apply to a JALR. Before the first SC reason 4 applies to its rd, as to that of any word
+ * there; a JALR is no jump of reason 3. So the blocks that are accepted under 2.1 are exactly those that are accepted
  * under 2.0 and have no JALR. That an accepted loop finishes if it is left alone is proved of these blocks, on a machine of
  * either version; of a block with a JALR it is not claimed.
  *

@@ -1,5 +1,5 @@
 """The blocks of the outside vectors of request 7 of document 02 against the library and the program loopcheck: those of
-tests/vectors/07-versions.jsonl, whose other lines test_outside.py has, and those of tests/vectors/07-loops.txt, which are read by A 2.0.
+tests/vectors/07-versions.jsonl, whose other lines test_outside.py has, and those of tests/vectors/07-loops.txt, which are checked under A 2.0.
 
 A line of 07-loops.txt is the words of a block in hex, ` | ` and the line that loopcheck writes.
 """

@@ -199,7 +199,7 @@ fn loops() {
     }
 }
 
-/// The library's two functions as they are: the first goes by 2.1, and what isn't whole words is told before the version.
+/// The library's two functions as they are: the first checks under 2.1, and what isn't whole words is told before the version.
 #[test]
 fn raw_loops() {
     let bytes: Vec<u8> = [LR, RET, SC].iter().flat_map(|w| w.to_le_bytes()).collect();

@@ -1,7 +1,7 @@
 -- Loops that meet the start of the claim, and runs of them that finish in each of the three ways; what a store into the set does, by its size, and a
--- device write, by the version; and a loop with a JALR that 2.0 accepts and that doesn't finish. Computed.
+-- device write, by the version; and a loop with a JALR that 2.0 accepts and that goes round for ever. Computed.
 -- Assumes nothing.
-use mathlib.Core.Path.{_≡_, refl, sym, _∙_, subst}
+use mathlib.Core.Path.{_≡_, refl, sym, ap, _∙_, subst}
 use mathlib.Core.Logic.{_≢_, _⊎_, inl, inr}
 use mathlib.Core.Bool.{true, false}
 use mathlib.Core.List.{List, [], _∷_, _++_}
@@ -455,20 +455,19 @@ starts-staying =
     placed (suc (suc zero)) l = refl
     placed (suc (suc (suc k))) l = absurd (omega arith)
 
--- hart 0 steps as often as the block has words, and nobody else does anything
-abbrev three : List Event
-three = Step 0 ∷ Step 0 ∷ Step 0 ∷ []
+-- hart 0 steps so often, and nobody else does anything
+abbrev only : ℕ → List Event
+only zero = []
+only (suc n) = Step 0 ∷ only n
 
-abbrev on-way : List Event → Outcome
-on-way es = outcomeAt 1024 (runOf 1024 on-20 es) (Step 0)
+abbrev on-way : ℕ → Outcome
+on-way n = outcomeAt 1024 (runOf 1024 on-20 (only n)) (Step 0)
 
--- the three steps retire, and none is a finish: the hart stays at the second word
+-- Every step retires, however many there are, and none is a finish: the hart stays at the second word.
 pub record Stays : Type 0 where
-  pub first : on-way [] ≡ O.Retired
-  pub second : on-way (Step 0 ∷ []) ≡ O.Retired
-  pub third : on-way (Step 0 ∷ Step 0 ∷ []) ≡ O.Retired
-  pub unfinished : Unfinished 1024 0 1024 1096 staying lr on-20 three
-  pub there : hartPc (runOf 1024 on-20 three) 0 ≡ 1028
+  pub retires : (n : ℕ) → on-way n ≡ O.Retired
+  pub unfinished : (n : ℕ) → Unfinished 1024 0 1024 1096 staying lr on-20 (only n)
+  pub there : (n : ℕ) → hartPc (runOf 1024 on-20 (only (suc n))) 0 ≡ 1028
 
 -- a step that retires and leads to the second word is no finish
 no-finish : (m : Machine) → outcomeAt 1024 m (Step 0) ≡ O.Retired → hartPc (nextOf 1024 m (Step 0)) 0 ≡ 1028
@@ -477,46 +476,68 @@ no-finish m o q (bySc f) = let a = f .success .stored in let z : _≡_ {A = ℕ}
 no-finish m o q (left d) = d 1 (omega arith) q
 no-finish m o q (back b) = let z : _≡_ {A = ℕ} 1028 1024 = sym q ∙ b in omega arith
 
+-- after the LR
+abbrev second : Machine
+second = nextOf 1024 on-20 (Step 0)
+
+-- the JALR retires, and leaves the machine as it was
+record Round : Type 0 where
+  retires : outcomeAt 1024 second (Step 0) ≡ O.Retired
+  leads : hartPc (nextOf 1024 second (Step 0)) 0 ≡ 1028
+  same : nextOf 1024 second (Step 0) ≡ second
+
+round : Round
+unfolding running jalrOf execJump
+round = record { retires = refl; leads = refl; same = refl }
+
+-- so any number of them does
+run-round : (n : ℕ) → runOf 1024 second (only n) ≡ second
+unfolding runOf
+run-round zero = refl
+run-round (suc n) = ap (λ (m : Machine). runOf 1024 m (only n)) (round .same) ∙ run-round n
+
+unfinished-round : (n : ℕ) → Unfinished 1024 0 1024 1096 staying lr second (only n)
+unfinished-round zero = tt
+unfinished-round (suc n) = (
+  λ q. no-finish second (round .retires) (round .leads),
+  subst (λ (m : Machine). Unfinished 1024 0 1024 1096 staying lr m (only n)) (sym (round .same)) (unfinished-round n),
+)
+
 pub stays : Stays
 unfolding running jalrOf execJump
-stays =
-    record {
-      first = refl;
-      second = refl;
-      third = refl;
-      unfinished = (
-        λ q. no-finish on-20 refl refl,
-        (λ q. no-finish (runOf 1024 on-20 (Step 0 ∷ [])) refl refl, (λ q. no-finish (runOf 1024 on-20 (Step 0 ∷ Step 0 ∷ [])) refl refl, tt)),
-      );
-      there = refl;
-    }
-
--- so this loop, left alone, doesn't finish
-pub never-finishes : Finishes 1024 0 1024 1096 staying lr (LeftAlone 1024 0 1024 1096 staying lr) on-20 → ⊥
-never-finishes claim = unsafe (claim three)
+stays = record { retires = retires; unfinished = unfinished; there = λ n. ap (λ (m : Machine). hartPc m 0) (run-round n) }
   where
-    unsafe : Safe 1024 0 1024 1096 staying lr (LeftAlone 1024 0 1024 1096 staying lr) 3 on-20 three → ⊥
+    retires : (n : ℕ) → on-way n ≡ O.Retired
+    retires zero = refl
+    retires (suc n) = ap (λ (m : Machine). outcomeAt 1024 m (Step 0)) (run-round n)
+
+    unfinished : (n : ℕ) → Unfinished 1024 0 1024 1096 staying lr on-20 (only n)
+    unfinished zero = tt
+    unfinished (suc n) = (λ q. no-finish on-20 refl refl, unfinished-round n)
+
+-- so the claim doesn't hold of this loop
+pub not-of-staying : Finishes 1024 0 1024 1096 staying lr (LeftAlone 1024 0 1024 1096 staying lr) on-20 → ⊥
+not-of-staying claim = unsafe (claim (only 3))
+  where
+    unsafe : Safe 1024 0 1024 1096 staying lr (LeftAlone 1024 0 1024 1096 staying lr) 3 on-20 (only 3) → ⊥
     unsafe s = one (s .1)
       where
-        end : Finish 1024 0 1024 1096 staying lr (nextOf 1024 (nextOf 1024 on-20 (Step 0)) (Step 0)) (Step 0) ⊎ ((1 < 1) × Unit {0}) → ⊥
-        end (inl f) = stays .unfinished .1 .1 .0 refl f
+        end : Finish 1024 0 1024 1096 staying lr (nextOf 1024 second (Step 0)) (Step 0) ⊎ ((1 < 1) × Unit {0}) → ⊥
+        end (inl f) = stays .unfinished 3 .1 .1 .0 refl f
         end (inr f) = omega (arith, f .0)
 
-        two : Finish 1024 0 1024 1096 staying lr (nextOf 1024 on-20 (Step 0)) (Step 0)
-            ⊎ ((1 < 2)
-            × Safe 1024 0 1024 1096 staying lr (LeftAlone 1024 0 1024 1096 staying lr) 1 (nextOf 1024 (nextOf 1024 on-20 (Step 0)) (Step 0)) (Step 0 ∷ []))
-            → ⊥
-        two (inl f) = stays .unfinished .1 .0 refl f
+        two : Finish 1024 0 1024 1096 staying lr second (Step 0)
+            ⊎ ((1 < 2) × Safe 1024 0 1024 1096 staying lr (LeftAlone 1024 0 1024 1096 staying lr) 1 (nextOf 1024 second (Step 0)) (only 1)) → ⊥
+        two (inl f) = stays .unfinished 3 .1 .0 refl f
         two (inr f) = end (f .1 .1)
 
         one : Finish 1024 0 1024 1096 staying lr on-20 (Step 0)
-            ⊎ ((1 < 3)
-            × Safe 1024 0 1024 1096 staying lr (LeftAlone 1024 0 1024 1096 staying lr) 2 (nextOf 1024 on-20 (Step 0)) (Step 0 ∷ Step 0 ∷ [])) → ⊥
-        one (inl f) = stays .unfinished .0 refl f
+            ⊎ ((1 < 3) × Safe 1024 0 1024 1096 staying lr (LeftAlone 1024 0 1024 1096 staying lr) 2 second (only 2)) → ⊥
+        one (inl f) = stays .unfinished 3 .0 refl f
         one (inr f) = two (f .1 .1)
 
 -- So on a machine of 2.0 the claim doesn't hold of every block that 2.0 accepts: `retry-by-version` needs its premise on JALR.
 pub not-under-20 : ((base h p addr : ℕ) (words : List ℕ) (first : Atomic) (m : Machine) → version m ≡ 20
     → StartUnder base h p addr words first (m .state .settings) m → Finishes base h p addr words first (LeftAlone base h p addr words first) m)
     → ⊥
-not-under-20 claim = never-finishes (claim 1024 0 1024 1096 staying lr on-20 refl starts-staying)
+not-under-20 claim = not-of-staying (claim 1024 0 1024 1096 staying lr on-20 refl starts-staying)

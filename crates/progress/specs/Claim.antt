@@ -73,7 +73,7 @@ module _ (base h p addr : ℕ) (words : List ℕ) (lr : Atomic) where
 
   -- The claim is of blocks that A 2.1 accepts, whichever version the state has. 02 [7]: "Demand 3 stands for 2.1 as before, and for 2.0 only for loops with
   -- no JALR"; these "are exactly the loops that 2.1 accepts" (retry/proofs/VersionLaws: without-jalr).
-  -- The checker looks at the version alone, so that ofVersion has a set size says nothing (checked-same).
+  -- The checker looks at the version alone, so the set size in ofVersion plays no part (checked-same).
   abbrev pub Start : Machine → Type 0
   Start m = StartUnder (ofVersion 21) m
 

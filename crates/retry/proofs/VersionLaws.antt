@@ -1,6 +1,6 @@
 -- The loops of the two versions of A: without a JALR, 2.0 accepts what 2.1 accepts, and 2.1 accepts no block with one. Assumes nothing.
 use mathlib.Core.Path.{_≡_, refl, sym, _∙_, ap, subst}
-use mathlib.Core.Logic.{_↔_, _≢_, inl, inr, ⊎-elim}
+use mathlib.Core.Logic.{_↔_, _≢_, _⊎_, inl, inr, ⊎-elim}
 use mathlib.Core.List.{List}
 use Prim.Native.Nat.{ℕ, _<_}
 use native.Mathlib.Omega.{arith}
@@ -15,9 +15,10 @@ use Rattle.isa.specs.declared.Instr.the-variants as I
 use Rattle.retry.specs.declared.LoopAnswer.{LoopAnswer}
 use Rattle.retry.specs.declared.LoopAnswer.the-variants.{Accepted, Rejected, Refused}
 use Rattle.retry.specs.Loop.{checkOf}
-use Rattle.retry.specs.Reasons.{Stands, PermittedClass, isLui, isAuipc, isJal, isBranch, isOp, isOpImm, isOp32, isOpImm32, isJalr, Permitted}
+use Rattle.retry.specs.Reasons.{Stands, PermittedClass, isLui, isAuipc, isJal, isBranch, isOp, isOpImm, isOp32, isOpImm32, isJalr}
+use Rattle.retry.specs.Reasons.{Permitted, NotPermitted}
 use Rattle.retry.specs.Reasons.{Reason, one, two, three, four, five, six, Lowest, RefusedBy, byVersion, byLength}
-use Rattle.retry.specs.Versions.{NoJalr}
+use Rattle.retry.specs.Versions.{NoJalr, LaterJalr}
 use Rattle.retry.proofs.ClassLaws.{InClass, in-class}
 use Rattle.retry.proofs.ReasonLaws.{exactly}
 
@@ -25,6 +26,24 @@ use Rattle.retry.proofs.ReasonLaws.{exactly}
 
 abbrev AJalr : Instr → Type 0
 AJalr i = (rd : ℕ) × (rs1 : ℕ) × (imm : ℕ) × (i ≡ I.Jalr rd rs1 imm)
+
+jalr-or-not : (i : Instr) → AJalr i ⊎ (AJalr i → ⊥)
+jalr-or-not I.Illegal = inr (λ j. let z : _≡_ {A = ℕ} 0 1 = cc (j .3) in omega arith)
+jalr-or-not (I.Lui rd imm) = inr (λ j. let z : _≡_ {A = ℕ} 0 1 = cc (j .3) in omega arith)
+jalr-or-not (I.Auipc rd imm) = inr (λ j. let z : _≡_ {A = ℕ} 0 1 = cc (j .3) in omega arith)
+jalr-or-not (I.Jal rd imm) = inr (λ j. let z : _≡_ {A = ℕ} 0 1 = cc (j .3) in omega arith)
+jalr-or-not (I.Jalr rd rs1 imm) = inl (rd, rs1, imm, refl)
+jalr-or-not (I.Branch op rs1 rs2 imm) = inr (λ j. let z : _≡_ {A = ℕ} 0 1 = cc (j .3) in omega arith)
+jalr-or-not (I.Load op rd rs1 imm) = inr (λ j. let z : _≡_ {A = ℕ} 0 1 = cc (j .3) in omega arith)
+jalr-or-not (I.Store op rs1 rs2 imm) = inr (λ j. let z : _≡_ {A = ℕ} 0 1 = cc (j .3) in omega arith)
+jalr-or-not (I.OpImm op rd rs1 imm) = inr (λ j. let z : _≡_ {A = ℕ} 0 1 = cc (j .3) in omega arith)
+jalr-or-not (I.OpImm32 op rd rs1 imm) = inr (λ j. let z : _≡_ {A = ℕ} 0 1 = cc (j .3) in omega arith)
+jalr-or-not (I.Op op rd rs1 rs2) = inr (λ j. let z : _≡_ {A = ℕ} 0 1 = cc (j .3) in omega arith)
+jalr-or-not (I.Op32 op rd rs1 rs2) = inr (λ j. let z : _≡_ {A = ℕ} 0 1 = cc (j .3) in omega arith)
+jalr-or-not (I.Fence rd rs1 imm) = inr (λ j. let z : _≡_ {A = ℕ} 0 1 = cc (j .3) in omega arith)
+jalr-or-not I.Ecall = inr (λ j. let z : _≡_ {A = ℕ} 0 1 = cc (j .3) in omega arith)
+jalr-or-not I.Ebreak = inr (λ j. let z : _≡_ {A = ℕ} 0 1 = cc (j .3) in omega arith)
+jalr-or-not (I.Amo a) = inr (λ j. let z : _≡_ {A = ℕ} 0 1 = cc (j .3) in omega arith)
 
 -- a legal word of that class is a JALR
 jalr-of : (c : ℕ) (i : Instr) → InClass c i → c ≡ JALR → i ≢ I.Illegal → AJalr i
@@ -81,13 +100,17 @@ module _ (ws : List ℕ) where
   Permits s t = (place : ℕ) → place < length ws → Permitted s (getD ws place 0) → Permitted t (getD ws place 0)
 
   -- only reason 2 asks what is permitted
+  reason-at : (s t : Settings) (place reason : ℕ) → (place < length ws → Permitted s (getD ws place 0) → Permitted t (getD ws place 0))
+      → Reason t ws place reason → Reason s ws place reason
+  reason-at s t place reason f (one q x) = one q x
+  reason-at s t place reason f (two q x) = two q (x .0, x .1, x .2, λ p. x .3 (f (x .1) p))
+  reason-at s t place reason f (three q x) = three q x
+  reason-at s t place reason f (four q x) = four q x
+  reason-at s t place reason f (five q x) = five q x
+  reason-at s t place reason f (six q x) = six q x
+
   reason-by : (s t : Settings) → Permits s t → (place reason : ℕ) → Reason t ws place reason → Reason s ws place reason
-  reason-by s t f place reason (one q x) = one q x
-  reason-by s t f place reason (two q x) = two q (x .0, x .1, x .2, λ p. x .3 (f place (x .1) p))
-  reason-by s t f place reason (three q x) = three q x
-  reason-by s t f place reason (four q x) = four q x
-  reason-by s t f place reason (five q x) = five q x
-  reason-by s t f place reason (six q x) = six q x
+  reason-by s t f place reason = reason-at s t place reason (f place)
 
   -- ---- two settings that permit the same
 
@@ -133,31 +156,51 @@ module _ (ws : List ℕ) where
     more : Permits t s
     more place l p = (class-by t s _ (λ j e. absurd (not-20 j)) (p .0), p .1)
 
-    -- and of a block without a JALR the other way round
+    -- and of a word that is no JALR the other way round
+    other-word : (w : ℕ) → (AJalr (decodeOf w) → ⊥) → Permitted s w → Permitted t w
+    other-word w none p =
+        (class-by s t (classOf w) (λ j e. absurd (none (jalr-of (classOf w) (decodeOf w) (in-class w) e (p .1)))) (p .0), p .1)
+
     no-more : NoJalr ws → Permits s t
     no-more none place l p =
-        let w = getD ws place 0 in (
-          class-by s t (classOf w)
-              (λ j e.
-              let i = jalr-of (classOf w) (decodeOf w) (in-class w) e (p .1) in
-              absurd (none place (i .0) (i .1) (i .2) (record { inBlock = l; decodes = i .3 })))
-              (p .0),
-          p .1,
-        )
+        other-word (getD ws place 0) (λ i. none place (i .0) (i .1) (i .2) (record { inBlock = l; decodes = i .3 })) p
+
+    -- under 2.1 a later JALR isn't permitted
+    jalr-two : (place rd rs1 imm : ℕ) → Stands ws place (I.Jalr rd rs1 imm) → 0 < place → NotPermitted t ws place
+    jalr-two place rd rs1 imm st l = (
+      l,
+      st .inBlock,
+      (λ f. let z : _≡_ {A = ℕ} 0 1 = cc (st .decodes, f .0 .1 .0 .decodes) in omega arith),
+      λ p. other-class t _ not-20 (jalr-class (getD ws place 0) rd rs1 imm (st .decodes)) (p .0),
+    )
+
+    -- "All else is the same.", of every block: under 2.1 exactly the reasons of 2.0 apply, and reason 2 at each later JALR
+    pub reasons-21 : (place reason : ℕ) → Reason t ws place reason ↔ (Reason s ws place reason ⊎ LaterJalr ws place reason)
+    reasons-21 place reason = (forth, back)
+      where
+        forth-two : reason ≡ 2 → NotPermitted t ws place → AJalr (decodeOf (getD ws place 0)) ⊎ (AJalr (decodeOf (getD ws place 0)) → ⊥)
+            → Reason s ws place reason ⊎ LaterJalr ws place reason
+        forth-two q x (inl i) = inr (q, x .0, i .0, i .1, i .2, record { inBlock = x .1; decodes = i .3 })
+        forth-two q x (inr n) = inl (two q (x .0, x .1, x .2, λ p. x .3 (other-word (getD ws place 0) n p)))
+
+        forth : Reason t ws place reason → Reason s ws place reason ⊎ LaterJalr ws place reason
+        forth (one q x) = inl (one q x)
+        forth (two q x) = forth-two q x (jalr-or-not (decodeOf (getD ws place 0)))
+        forth (three q x) = inl (three q x)
+        forth (four q x) = inl (four q x)
+        forth (five q x) = inl (five q x)
+        forth (six q x) = inl (six q x)
+
+        back : Reason s ws place reason ⊎ LaterJalr ws place reason → Reason t ws place reason
+        back (inl r) = reason-at t s place reason (more place) r
+        back (inr j) = two (j .0) (jalr-two place (j .2) (j .3) (j .4) (j .5) (j .1))
 
     -- a JALR is a reason under 2.1, at place 0 and at any later one
     jalr-reason : (place rd rs1 imm : ℕ) → Stands ws place (I.Jalr rd rs1 imm) → ((p r : ℕ) → Reason t ws p r → ⊥) → ⊥
     jalr-reason place rd rs1 imm st none = go (decLt 0 place)
       where
         go : Dec (0 < place) → ⊥
-        go (yes l) =
-            none place 2
-            (two refl (
-              l,
-              st .inBlock,
-              (λ f. let z : _≡_ {A = ℕ} 0 1 = cc (st .decodes, f .0 .1 .0 .decodes) in omega arith),
-              λ p. other-class t _ not-20 (jalr-class (getD ws place 0) rd rs1 imm (st .decodes)) (p .0),
-            ))
+        go (yes l) = none place 2 (two refl (jalr-two place rd rs1 imm st l))
         go (no l) =
             none 0 1
             (one refl (

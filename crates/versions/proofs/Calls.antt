@@ -12,6 +12,7 @@ use Rattle.events.specs.declared.Checked.{Checked}
 use Rattle.events.specs.declared.Checked.the-variants.{Good, Bad}
 use Rattle.events.specs.declared.Event.the-variants.{Step}
 use Rattle.model.specs.Perform.{Machine, nextOf}
+use Rattle.model.specs.declared.Verdict.the-variants.{Performed}
 use Rattle.model.specs.Run.{Result, performedCount, refusedRun, performedRun, runChecked, resultOf}
 use Rattle.steplog.specs.declared.Reading.{Reading}
 use Rattle.steplog.specs.declared.Reading.the-variants.{Form, Read}
@@ -24,9 +25,9 @@ use Rattle.versions.specs.Versions.{stateUnder, under, DevicesSpare, Sam
 use Rattle.versions.proofs.Versions.{refusal-same, same-answer, next-same, new-stays, same-run}
 
 -- two choices by one test
-both : {A : Type 0} (R : A → A → Type 0) (t : Bool) (a b c d : A) → R a c → R b d → R (cond t a b) (cond t c d)
-both R true a b c d p q = p
-both R false a b c d p q = q
+both : {A : Type 0} (R : A → A → Type 0) (t : Bool) (a b c d : A) → (t ≡ true → R a c) → (t ≡ false → R b d) → R (cond t a b) (cond t c d)
+both R true a b c d p q = p refl
+both R false a b c d p q = q refl
 
 -- ---- runs
 
@@ -44,15 +45,16 @@ module _ (base : ℕ) (m : Machine) (body : List ℕ) (budget : ℕ) where
   abbrev body-checked : Checked
   body-checked = checkedOf (m .state .count) base (length mem) body
 
+  abbrev number : ℕ
+  number = refusalOf base (length mem) new
+
   -- refusals 1 and 2 don't ask which of the two it is
   run-by : (R : Result → Result → Type 0)
-      → R (runChecked body-checked base mem old body budget) (runChecked body-checked base mem new body budget)
-      → ((number : ℕ) → R (refusedRun number 0 old mem) (refusedRun number 0 new mem))
+      → (eqb number 0 ≡ true → R (runChecked body-checked base mem old body budget) (runChecked body-checked base mem new body budget))
+      → R (refusedRun number 0 old mem) (refusedRun number 0 new mem)
       → R (resultOf base mem old body budget) (resultOf base mem new body budget)
   unfolding resultOf
-  run-by R f g =
-      let number = refusalOf base (length mem) new in
-      rw (refusal-same base m) (both R (eqb number 0) _ _ _ _ f (g number))
+  run-by R f g = rw (refusal-same base m) (both R (eqb number 0) _ _ _ _ f (λ t. g))
 
   abbrev SameRan : Result → Result → Type 0
   SameRan a b = (a .ran .verdict ≡ b .ran .verdict) × (a .ran .performed ≡ b .ran .performed)
@@ -63,17 +65,26 @@ module _ (base : ℕ) (m : Machine) (body : List ℕ) (budget : ℕ) where
 
   pub same-verdict : SameVerdict base m body budget
   same-verdict =
-      let r = run-by SameRan (checked-verdict body-checked) (λ number. (refl, refl)) in
+      let r = run-by SameRan (λ t. checked-verdict body-checked) (refl, refl) in
       record { verdict = r .0; performed = r .1 }
 
-  -- where no device write among the events that are performed breaks a reservation under 2.1, all of the answer is the same but for the version
-  pub same-result : DevicesSpare base (under 21 m) (take (performedCount body budget) (eventsOf body))
+  performed-new : eqb number 0 ≡ true → body-checked ≡ Good → resultOf base mem new body budget .ran .verdict ≡ Performed
+  unfolding resultOf
+  performed-new t g = rw (t, g)
+
+  -- Where no device write among the events that the run performs breaks a reservation under 2.1, all of the answer is the same but for the version; so of
+  -- every run that is refused.
+  pub same-result : (resultOf base mem new body budget .ran .verdict ≡ Performed
+      → DevicesSpare base (under 21 m) (take (performedCount body budget) (eventsOf body)))
       → resultOf base mem old body budget ≡ ranUnder 20 (resultOf base mem new body budget)
-  same-result none = run-by (λ a b. a ≡ ranUnder 20 b) (checked body-checked) (λ number. refl)
+  same-result spare = run-by (λ a b. a ≡ ranUnder 20 b) (λ t. checked t body-checked refl) refl
     where
-      checked : (c : Checked) → runChecked c base mem old body budget ≡ ranUnder 20 (runChecked c base mem new body budget)
-      checked Good = ap (performedRun (performedCount body budget)) (same-run base (take (performedCount body budget) (eventsOf body)) m none)
-      checked (Bad place) = refl
+      checked : eqb number 0 ≡ true → (c : Checked) → body-checked ≡ c
+          → runChecked c base mem old body budget ≡ ranUnder 20 (runChecked c base mem new body budget)
+      checked t Good g =
+          ap (performedRun (performedCount body budget))
+          (same-run base (take (performedCount body budget) (eventsOf body)) m (spare (performed-new t g)))
+      checked t (Bad place) g = refl
 
 -- ---- replays
 
@@ -123,7 +134,7 @@ same-replay base m log =
     let Same : Replay.Result → Replay.Result → Type 0 = λ a b. a ≡ replayedUnder 20 b in
     rw (refusal-same base m)
     (both Same (eqb number 0) _ _ _ _
-    (both Same (eqb (length log % 48) 0) _ _ _ _
-    (both Same (eqb (length log) 0) _ _ _ _ refl (ap ended (same-end base (readings (m .state .count) (length log / 48) log) m)))
-    refl)
-    refl)
+    (λ t. both Same (eqb (length log % 48) 0) _ _ _ _
+    (λ u. both Same (eqb (length log) 0) _ _ _ _ (λ v. refl) (λ v. ap ended (same-end base (readings (m .state .count) (length log / 48) log) m)))
+    (λ u. refl))
+    (λ t. refl))

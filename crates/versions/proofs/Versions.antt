@@ -263,7 +263,8 @@ unfolding nextOf answerOf apply
 new-stays base m e = refl
 
 -- Events one after another, of which no device write breaks a reservation under 2.1: the machine afterwards is the same but for its version.
-pub same-run : (base : ℕ) (es : List Event) (m : Machine) → DevicesSpare base (under 21 m) es → runOf base (under 20 m) es ≡ under 20 (runOf base (under 21 m) es)
+pub same-run : (base : ℕ) (es : List Event) (m : Machine) → DevicesSpare base (under 21 m) es
+    → runOf base (under 20 m) es ≡ under 20 (runOf base (under 21 m) es)
 unfolding runOf
 same-run base [] m none = refl
 same-run base (e ∷ es) m none =
