@@ -4,21 +4,22 @@
 use crate::broken::{each_event, Event, Write, Writer};
 use crate::calls::{perform, Call, Machine, BAD_SIZE, REFUSED};
 use crate::layout;
-use crate::machine::{version_allowed, Outcome, State, A_2_0, A_2_1, MAX_HARTS};
+use crate::machine::{Outcome, State, A_2_0, A_2_1, MAX_HARTS};
 use crate::reached::cell;
 use crate::word::{decode, AtomicOp, Instr};
 
 /// Whether a number is of a kind that the kinds before it don't have.
 type Kind = fn(u64) -> bool;
 
-/// The two versions, and kinds of numbers that are none.
+/// The two versions, and kinds of numbers that are none. They don't go by what the machine allows, so that one that allows too much is compared
+/// too, and found, before anything of it is counted.
 const KINDS: [(&str, Kind); 7] = [
     ("2.0", |number| number == A_2_0),
     ("2.1", |number| number == A_2_1),
     ("0", |number| number == 0),
     ("1 to 19", |number| number < A_2_0),
     ("22 to 255", |number| number < 256),
-    ("a version in its low byte", |number| version_allowed(number % 256)),
+    ("a version in its low byte", |number| [A_2_0, A_2_1].contains(&(number % 256))),
     ("any other above", |_| true),
 ];
 const ALLOWED: usize = 2;
@@ -62,15 +63,17 @@ impl Versions {
             return;
         }
         let version = layout::get(&machine.state, layout::VERSION);
-        let answer = if version_allowed(version) { answer } else { under_2_1(machine, call) };
+        let answer = if kind(version) < ALLOWED { answer } else { under_2_1(machine, call) };
         let refusal = REFUSALS.iter().position(|number| REFUSED + number == answer).map_or(0, |place| 1 + place);
         self.calls[kind(version)][refusal] += 1;
     }
 
-    /// Counts events, one after another: none where the version is refused.
+    /// Counts events, one after another: none under a number that is no version.
     pub fn count_events(&mut self, state: &State, base: u64, memory: &[u8], events: &[u8]) {
         let mut behind = [false; MAX_HARTS];
-        each_event(state, base, memory, events, |event| self.events[kind(state.version)].count(event, state.count, &mut behind));
+        if let Some(counts) = self.events.get_mut(kind(state.version)) {
+            each_event(state, base, memory, events, |event| counts.count(event, state.count, &mut behind));
+        }
     }
 
     pub fn print(&self) {

@@ -1,4 +1,5 @@
--- The loops of the two versions of A: without a JALR, 2.0 accepts what 2.1 accepts, and 2.1 accepts no block with one. Assumes nothing.
+-- The loops of the two versions of A: under 2.1 exactly the reasons of 2.0 apply, and reason 2 at each later JALR. So without a JALR 2.0 accepts what 2.1
+-- accepts, and 2.1 accepts no block with one. Assumes nothing.
 use mathlib.Core.Path.{_≡_, refl, sym, _∙_, ap, subst}
 use mathlib.Core.Logic.{_↔_, _≢_, _⊎_, inl, inr, ⊎-elim}
 use mathlib.Core.List.{List}
@@ -27,6 +28,7 @@ use Rattle.retry.proofs.ReasonLaws.{exactly}
 abbrev AJalr : Instr → Type 0
 AJalr i = (rd : ℕ) × (rs1 : ℕ) × (imm : ℕ) × (i ≡ I.Jalr rd rs1 imm)
 
+-- every instruction is one or isn't
 jalr-or-not : (i : Instr) → AJalr i ⊎ (AJalr i → ⊥)
 jalr-or-not I.Illegal = inr (λ j. let z : _≡_ {A = ℕ} 0 1 = cc (j .3) in omega arith)
 jalr-or-not (I.Lui rd imm) = inr (λ j. let z : _≡_ {A = ℕ} 0 1 = cc (j .3) in omega arith)
