@@ -4,9 +4,7 @@
 use crate::broken::{each_write, Held, Write, Writer};
 use crate::calls::{Machine, BAD_SIZE, REFUSED};
 use crate::layout;
-use crate::machine::{
-    base_allowed, length_allowed, memory_unit, set_size_allowed, Outcome, Reservation, State, DEFAULT_SET, LARGEST_SET, SMALLEST_SET,
-};
+use crate::machine::{base_allowed, length_allowed, memory_unit, Outcome, Reservation, State, DEFAULT_SET, LARGEST_SET, SMALLEST_SET};
 use crate::reached::cell;
 
 const ALLOWED: usize = 10;
@@ -74,9 +72,9 @@ fn size_of(n: usize) -> u64 {
     SMALLEST_SET << n
 }
 
-/// The counts of an allowed size.
+/// The counts of an allowed size. It doesn't go by what the machine allows, so that one that allows too much is compared too, and found.
 fn index(size: u64) -> Option<usize> {
-    set_size_allowed(size).then(|| (size / SMALLEST_SET).trailing_zeros() as usize)
+    (0..ALLOWED).find(|&n| size_of(n) == size)
 }
 
 impl Sizes {
