@@ -1,3 +1,6 @@
 -- The laws of decoded words.
 pub mod OffsetLaws
 pub mod DecodeLaws
+pub mod RowLaws
+pub mod EntryLaws
+pub mod TablesLaws

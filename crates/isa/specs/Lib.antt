@@ -2,4 +2,5 @@
 pub mod Width
 pub mod Fields
 pub mod Decode
+pub mod Tables
 pub mod Wf

@@ -1,12 +1,16 @@
 // The class AMO: the words of A and Zacas.
-use crate::AmoOp;
 use crate::Atomic;
 use crate::AtomicOp;
 use crate::Instr;
 use crate::Width;
 use crate::fields;
+use crate::ops;
+use crate::tables;
 ghost use mathlib.Core.Path.{_≡_};
-ghost use Rattle.isa.specs.Decode.{atomicAs, sizedOf, lrOf, casPairOf, casOf, atomicOf};
+ghost use mathlib.Core.Bool.{_&&_};
+ghost use Rattle.isa.specs.Fields.{rdOf, rs2Of};
+ghost use Rattle.isa.specs.Decode.{atomicAs, isEven};
+ghost use Rattle.isa.specs.Tables.{refuses, atomicBy, atomicIn};
 
 fn atomic_as(op: AtomicOp, width: Width, word: u32) -> Instr
     ensures { λ r. ⌜ r ≡ atomicAs word op width ⌝ }
@@ -22,64 +26,33 @@ fn atomic_as(op: AtomicOp, width: Width, word: u32) -> Instr
     })
 }
 
-// An operation that has both widths.
-fn sized(op: AtomicOp, word: u32) -> Instr
-    ensures { λ r. ⌜ r ≡ sizedOf op word ⌝ }
-{
-    match fields::funct3(word) {
-        2 => atomic_as(op, Width::Word, word),
-        3 => atomic_as(op, Width::Double, word),
-        _ => Instr::Illegal,
-    }
-}
-
-fn lr(word: u32) -> Instr
-    ensures { λ r. ⌜ r ≡ lrOf word ⌝ }
-{
-    if fields::rs2(word) == 0 {
-        sized(AtomicOp::Lr, word)
-    } else {
-        Instr::Illegal
-    }
-}
-
 // AMOCAS.Q: each register names an even-odd pair.
-fn cas_pair(word: u32) -> Instr
-    ensures { λ r. ⌜ r ≡ casPairOf word ⌝ }
+fn even_pair(word: u32) -> bool
+    ensures { λ r. ⌜ r ≡ isEven (rdOf word) && isEven (rs2Of word) ⌝ }
 {
-    if (fields::rd(word) % 2 == 0) & (fields::rs2(word) % 2 == 0) {
-        atomic_as(AtomicOp::CasPair, Width::Double, word)
-    } else {
-        Instr::Illegal
-    }
+    (fields::rd(word) % 2 == 0) & (fields::rs2(word) % 2 == 0)
 }
 
-fn cas(word: u32) -> Instr
-    ensures { λ r. ⌜ r ≡ casOf word ⌝ }
+// No operation, an LR with an rs2, or an AMOCAS.Q with an odd register.
+fn refuses(n: u8, word: u32) -> bool
+    ensures { λ r. ⌜ r ≡ refuses n word ⌝ }
 {
-    if fields::funct3(word) == 4 {
-        cas_pair(word)
+    (n == 0) | ((n == ops::LR) & (fields::rs2(word) != 0)) | ((n == ops::PAIR) & !even_pair(word))
+}
+
+fn atomic_by(e: u8, word: u32) -> Instr
+    ensures { λ r. ⌜ r ≡ atomicBy e word ⌝ }
+{
+    let n = e % 16;
+    if refuses(n, word) {
+        Instr::Illegal
     } else {
-        sized(AtomicOp::Cas, word)
+        atomic_as(ops::atomic_op(n), ops::width_of(e / 16), word)
     }
 }
 
 pub fn atomic(word: u32) -> Instr
-    ensures { λ r. ⌜ r ≡ atomicOf word ⌝ }
+    ensures { λ r. ⌜ r ≡ atomicIn word ⌝ }
 {
-    match fields::funct5(word) {
-        0 => sized(AtomicOp::Rmw(AmoOp::Add), word),
-        1 => sized(AtomicOp::Rmw(AmoOp::Swap), word),
-        2 => lr(word),
-        3 => sized(AtomicOp::Sc, word),
-        4 => sized(AtomicOp::Rmw(AmoOp::Xor), word),
-        5 => cas(word),
-        8 => sized(AtomicOp::Rmw(AmoOp::Or), word),
-        12 => sized(AtomicOp::Rmw(AmoOp::And), word),
-        16 => sized(AtomicOp::Rmw(AmoOp::Min), word),
-        20 => sized(AtomicOp::Rmw(AmoOp::Max), word),
-        24 => sized(AtomicOp::Rmw(AmoOp::Minu), word),
-        28 => sized(AtomicOp::Rmw(AmoOp::Maxu), word),
-        _ => Instr::Illegal,
-    }
+    atomic_by(tables::atomic(word), word)
 }

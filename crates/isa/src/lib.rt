@@ -3,11 +3,14 @@ ghost use mathlib.Core.Path.{_≡_};
 ghost use Prim.Native.Nat.{_≤_, _<_};
 ghost use Rattle.isa.specs.Width.{bitsOf, bytesOf};
 ghost use Rattle.isa.specs.Decode.{decodeOf};
+ghost use Rattle.isa.specs.Tables.{decideOf};
 
 mod amo;
 mod base;
 pub mod class;
 pub mod fields;
+mod ops;
+mod tables;
 
 pub enum LoadOp {
     Lb,
@@ -180,25 +183,40 @@ pub fn bytes_of(w: Width) -> usize
     }
 }
 
-// What a word is; Illegal is every word that document 01 gives cause 2.
-pub fn decode(word: u32) -> Instr
-    ensures { λ r. ⌜ r ≡ decodeOf word ⌝ }
+// A word by its entry of the first table. AMO is asked for first: its instruction has another form in memory than the others, and joining the two costs
+// every word.
+fn decide(e: u8, word: u32) -> Instr
+    ensures { λ r. ⌜ r ≡ decideOf e word ⌝ }
 {
-    match class::class_of(word) {
-        class::LOAD => base::load(word),
-        class::MISC_MEM => base::misc_mem(word),
-        class::OP_IMM => base::op_imm(word),
+    let n = e % 16;
+    if e / 16 == class::AMO {
+        return amo::atomic(word);
+    }
+    match e / 16 {
+        class::LOAD => base::load_as(ops::load_op(n), word),
+        class::MISC_MEM => base::fence(word),
+        class::OP_IMM => base::op_imm(e, word),
         class::AUIPC => base::auipc(word),
-        class::OP_IMM_32 => base::op_imm_32(word),
-        class::STORE => base::store(word),
-        class::AMO => amo::atomic(word),
-        class::OP => base::op(word),
+        class::OP_IMM_32 => base::op_imm_32(e, word),
+        class::STORE => base::store_as(ops::store_op(n), word),
+        class::OP => base::op(e, word),
         class::LUI => base::lui(word),
-        class::OP_32 => base::op_32(word),
-        class::BRANCH => base::branch(word),
+        class::OP_32 => base::op_32(e, word),
+        class::BRANCH => base::branch_as(ops::branch_op(n), word),
         class::JALR => base::jalr(word),
         class::JAL => base::jal(word),
         class::SYSTEM => base::system(word),
         _ => Instr::Illegal,
+    }
+}
+
+// What a word is; Illegal is every word that document 01 gives cause 2.
+pub fn decode(word: u32) -> Instr
+    ensures { λ r. ⌜ r ≡ decodeOf word ⌝ }
+{
+    if word % 4 == 3 {
+        decide(tables::opcode(word), word)
+    } else {
+        Instr::Illegal
     }
 }

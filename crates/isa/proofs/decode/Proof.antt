@@ -1,149 +1,32 @@
+use mathlib.Core.Path.{_≡_}
+use Prim.Native.Nat.{_/_}
+use native.Mathlib.Omega.{arith}
+use borrow.Author.Tests.{eq-eqb, ne-eqb}
+use Rattle.isa.specs.Tables.{byTables}
+use Rattle.isa.proofs.TablesLaws.{by-tables}
 use borrow.Author.Needs.{needs}
-use mathlib.Core.Path.{sym}
-use Rattle.word.proofs.ChooseLaws.{select-none}
-use Rattle.isa.specs.declared.Instr.the-variants.{Illegal}
-use Rattle.isa.specs.Decode.{decodeOf, decoders, of}
 use Rattle.isa.proofs.decode.Statement.{statement}
 use Rattle.isa.proofs.decode.Tie as tie
 
-class-of-requires : tie.Need-class-of-requires
-class-of-requires c κs = search needs
+opcode-requires : tie.Need-opcode-requires
+opcode-requires c κs = search needs
 
-load-requires : tie.Need-load-requires
-load-requires c κs = search needs
-
-misc-mem-requires : tie.Need-misc-mem-requires
-misc-mem-requires c κs = search needs
-
-op-imm-requires : tie.Need-op-imm-requires
-op-imm-requires c κs = search needs
-
-auipc-requires : tie.Need-auipc-requires
-auipc-requires c κs = search needs
-
-op-imm-32-requires : tie.Need-op-imm-32-requires
-op-imm-32-requires c κs = search needs
-
-store-requires : tie.Need-store-requires
-store-requires c κs = search needs
-
-atomic-requires : tie.Need-atomic-requires
-atomic-requires c κs = search needs
-
-op-requires : tie.Need-op-requires
-op-requires c κs = search needs
-
-lui-requires : tie.Need-lui-requires
-lui-requires c κs = search needs
-
-op-32-requires : tie.Need-op-32-requires
-op-32-requires c κs = search needs
-
-branch-requires : tie.Need-branch-requires
-branch-requires c κs = search needs
-
-jalr-requires : tie.Need-jalr-requires
-jalr-requires c κs = search needs
-
-jal-requires : tie.Need-jal-requires
-jal-requires c κs = search needs
-
-system-requires : tie.Need-system-requires
-system-requires c κs = search needs
+decide-requires : tie.Need-decide-requires
+decide-requires c κs = search needs
 
 returns : tie.Need-returns
-unfolding decodeOf
-returns c = rw (← c .before .before .class-of .ensures, c .before .match .keys1) (c .load .ensures)
+unfolding byTables
+returns c =
+    let w = c .before .before .before .args .word in
+    let low : w / 1 ≡ w = omega arith in
+    rw (by-tables w, low, eq-eqb _ _ (c .before .before .if1 .taken), ← c .before .opcode .ensures) (c .decide .ensures)
 
 returns-2 : tie.Need-returns-2
-unfolding decodeOf
-returns-2 c = rw (← c .before .before .class-of .ensures, c .before .match .keys2) (c .misc-mem .ensures)
-
-returns-3 : tie.Need-returns-3
-unfolding decodeOf
-returns-3 c = rw (← c .before .before .class-of .ensures, c .before .match .keys3) (c .op-imm .ensures)
-
-returns-4 : tie.Need-returns-4
-unfolding decodeOf
-returns-4 c = rw (← c .before .before .class-of .ensures, c .before .match .keys4) (c .auipc .ensures)
-
-returns-5 : tie.Need-returns-5
-unfolding decodeOf
-returns-5 c = rw (← c .before .before .class-of .ensures, c .before .match .keys5) (c .op-imm-32 .ensures)
-
-returns-6 : tie.Need-returns-6
-unfolding decodeOf
-returns-6 c = rw (← c .before .before .class-of .ensures, c .before .match .keys6) (c .store .ensures)
-
-returns-7 : tie.Need-returns-7
-unfolding decodeOf
-returns-7 c = rw (← c .before .before .class-of .ensures, c .before .match .keys7) (c .atomic .ensures)
-
-returns-8 : tie.Need-returns-8
-unfolding decodeOf
-returns-8 c = rw (← c .before .before .class-of .ensures, c .before .match .keys8) (c .op .ensures)
-
-returns-9 : tie.Need-returns-9
-unfolding decodeOf
-returns-9 c = rw (← c .before .before .class-of .ensures, c .before .match .keys9) (c .lui .ensures)
-
-returns-10 : tie.Need-returns-10
-unfolding decodeOf
-returns-10 c = rw (← c .before .before .class-of .ensures, c .before .match .keys10) (c .op-32 .ensures)
-
-returns-11 : tie.Need-returns-11
-unfolding decodeOf
-returns-11 c = rw (← c .before .before .class-of .ensures, c .before .match .keys11) (c .branch .ensures)
-
-returns-12 : tie.Need-returns-12
-unfolding decodeOf
-returns-12 c = rw (← c .before .before .class-of .ensures, c .before .match .keys12) (c .jalr .ensures)
-
-returns-13 : tie.Need-returns-13
-unfolding decodeOf
-returns-13 c = rw (← c .before .before .class-of .ensures, c .before .match .keys13) (c .jal .ensures)
-
-returns-14 : tie.Need-returns-14
-unfolding decodeOf
-returns-14 c = rw (← c .before .before .class-of .ensures, c .before .match .keys14) (c .system .ensures)
-
-returns-15 : tie.Need-returns-15
-unfolding decodeOf
-returns-15 c =
-    rw (← c .before .class-of .ensures)
-    (sym (select-none (c .before .class-of .result) decoders (of (c .before .before .args .word)) Illegal (c .match .rest)))
+unfolding byTables
+returns-2 c =
+    let w = c .before .args .word in
+    let low : w / 1 ≡ w = omega arith in
+    rw (by-tables w, low, ne-eqb _ _ (c .if1 .left))
 
 pub decode-spec : {M : Type 1} → statement M
-decode-spec =
-    tie.close
-    (tie.spec
-    class-of-requires
-    load-requires
-    misc-mem-requires
-    op-imm-requires
-    auipc-requires
-    op-imm-32-requires
-    store-requires
-    atomic-requires
-    op-requires
-    lui-requires
-    op-32-requires
-    branch-requires
-    jalr-requires
-    jal-requires
-    system-requires
-    returns
-    returns-2
-    returns-3
-    returns-4
-    returns-5
-    returns-6
-    returns-7
-    returns-8
-    returns-9
-    returns-10
-    returns-11
-    returns-12
-    returns-13
-    returns-14
-    returns-15)
+decode-spec = tie.close (tie.spec opcode-requires decide-requires returns returns-2)
