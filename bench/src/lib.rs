@@ -2,14 +2,16 @@
 //! proved one with and to measure it against.
 //!
 //! The implementation is `word`, `machine`, `case`, `log` and `loops`; `layout` and `calls` put it behind the calls of include/floecavern.h.
-//! `floecavern` is the proved library itself. `generate` and `work` make inputs for both; `reached` counts what generated logs reach,
-//! `broken` what the writes of generated events break, `sizes` what calls reach with each set size, `versions` what calls, events and blocks
-//! reach under each version of the A extension. `shared` opens two versions of the library side by side.
+//! `floecavern` is the proved library itself. `generate` and `work` make inputs for both; `described` says all that an instruction holds;
+//! `reached` counts what generated logs reach, `broken` what the writes of generated events break, `sizes` what calls reach with each set
+//! size, `versions` what calls, events and blocks reach under each version of the A extension. `shared` opens two versions of the library or
+//! of a crate side by side, and times them.
 
 pub mod broken;
 pub mod calls;
 pub mod case;
 pub mod clock;
+pub mod described;
 pub mod floecavern;
 pub mod generate;
 pub mod layout;

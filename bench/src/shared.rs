@@ -1,5 +1,6 @@
-//! Versions of a library side by side in one process: shared objects, opened by path.
+//! Versions of a library side by side in one process: shared objects, opened by path, and their times.
 
+use crate::clock::now;
 use std::ffi::{c_char, c_int, c_void, CString};
 
 extern "C" {
@@ -13,7 +14,7 @@ pub struct Shared<'a> {
     path: &'a str,
 }
 
-fn open(path: &str) -> Shared<'_> {
+pub fn open(path: &str) -> Shared<'_> {
     const LAZY: c_int = 1;
     let file = CString::new(path).expect("a path without a zero byte");
     // SAFETY: the name is a C string; the library has no code that runs when it is loaded.
@@ -45,4 +46,20 @@ pub fn arguments<T>(load: impl Fn(Shared) -> T) -> (usize, Vec<[T; 2]>) {
     };
     let (old, new) = paths.split_at(paths.len() / 2);
     (batches, old.iter().zip(new).map(|(old, new)| [load(open(old)), load(open(new))]).collect())
+}
+
+/// The least times of both versions, in nanoseconds, of a call with each input that is made, one a batch.
+pub fn least_times<T: Copy, I>(batches: usize, places: &[[T; 2]], mut make: impl FnMut() -> I, call: impl Fn(T, &I)) -> [f64; 2] {
+    let mut least = [f64::INFINITY; 2];
+    for batch in 0..batches {
+        // Another in every batch, and each batch at one place, since a processor learns which way the tests of the same input go.
+        let (input, versions) = (make(), places[batch / 2 % places.len()]);
+        // Each version is the first to meet the input in every other batch.
+        for n in [batch % 2, 1 - batch % 2] {
+            let from = now();
+            call(versions[n], &input);
+            least[n] = least[n].min((now() - from) as f64);
+        }
+    }
+    least
 }

@@ -2,9 +2,8 @@
 //! Each version is given as as many shared objects as the other, which differ in where its code lies; the batches take them in turn, and the least
 //! counts. A ratio is the new version's time by the old one's.
 
-use bench::clock::now;
 use bench::generate::Rng;
-use bench::shared::{arguments, Shared};
+use bench::shared::{arguments, least_times, Shared};
 use std::ffi::c_void;
 
 const PAIRS: usize = 16_384;
@@ -46,22 +45,18 @@ fn share_a_byte(pair: &Pair) -> bool {
 
 /// The least times of both versions, for all pairs, and how many of the pairs touched in all batches.
 fn times(batches: usize, places: &[[Touching; 2]], make: Maker) -> ([f64; 2], usize) {
-    let (mut least, mut found, rng) = ([f64::INFINITY; 2], 0, &mut Rng::new(1));
-    for batch in 0..batches {
-        // Others in every batch, and each batch at one place, since a processor learns which way the tests of the same pairs go.
+    let (mut found, rng) = (0, &mut Rng::new(1));
+    let input = || {
         let pairs: Vec<Pair> = (0..PAIRS as u64).map(|n| make(n, rng)).collect();
-        let (numbers, touch) = (pairs.concat(), pairs.iter().filter(|pair| share_a_byte(pair)).count());
-        let versions = places[batch / 2 % places.len()];
-        // Each version is the first to meet the pairs in every other batch.
-        for n in [batch % 2, 1 - batch % 2] {
-            let from = now();
-            // SAFETY: the pointer comes from a slice of the length beside it.
-            let answer = unsafe { versions[n](numbers.as_ptr(), numbers.len()) };
-            least[n] = least[n].min((now() - from) as f64);
-            assert_eq!(answer, touch as u64);
-        }
+        let touch = pairs.iter().filter(|pair| share_a_byte(pair)).count();
         found += touch;
-    }
+        (pairs.concat(), touch)
+    };
+    let least = least_times(batches, places, input, |touching, (numbers, touch)| {
+        // SAFETY: the pointer comes from a slice of the length beside it.
+        let answer = unsafe { touching(numbers.as_ptr(), numbers.len()) };
+        assert_eq!(answer, *touch as u64);
+    });
     (least, found)
 }
 

@@ -2,6 +2,7 @@
 
 mod blocks;
 pub mod builder;
+pub mod classes;
 mod damage;
 mod logs;
 mod machines;
