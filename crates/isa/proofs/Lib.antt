@@ -1,6 +1,5 @@
 -- The laws of decoded words.
 pub mod OffsetLaws
 pub mod DecodeLaws
-pub mod RowLaws
 pub mod EntryLaws
 pub mod TablesLaws

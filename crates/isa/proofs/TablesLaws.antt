@@ -1,18 +1,20 @@
 -- The decoder by both tables decodes as `decodeOf` does, class by class. Assumes nothing.
 use mathlib.Core.Path.{_≡_, refl, sym, subst, ap, _∙_}
 use mathlib.Core.Bool.{Bool, true, false, cond, _&&_, not}
-use mathlib.Core.List.{List, [], _∷_}
+use mathlib.Core.List.{List}
 use Prim.Native.Nat.{ℕ, _+_, _*_, _/_, _%_, _^_, _<_}
 use native.Mathlib.Omega.{arith}
-use lib.Dec.{T, eqb, leb, eqb→eq, lit<}
+use lib.Dec.{eqb, leb, lit<}
 use borrow.Author.Tests.{eqb-true, eqb-false, ne-eqb}
-use Rattle.word.specs.Choose.{Row, _⇒_, select}
-use Rattle.word.proofs.ChooseLaws.{select-all, select-rows, _also_}
+use Rattle.word.specs.Choose.{Row, select}
+use Rattle.word.specs.Each.{allBelow}
+use Rattle.word.proofs.ChooseLaws.{select-all, select-rows, select-keyed, select-numbered, select-unlisted, unlisted, _also_}
+use Rattle.word.proofs.EachLaws.{all-at}
 use Rattle.isa.specs.Fields.{bits, rdOf, rs1Of, rs2Of, funct3Of, funct5Of, funct6Of, funct7Of, immI}
 use Rattle.isa.specs.Decode as D
 use Rattle.isa.specs.Decode.{key}
 use Rattle.isa.specs.Tables.{loadNumber, storeNumber, branchNumber, ADD, aluNumber, none, numbers, entry, numberAt, opcodeAt}
-use Rattle.isa.specs.Tables.{PAIR, atomicNumber, widthNumber}
+use Rattle.isa.specs.Tables.{CAS-PAIR, atomicNumber, widthNumber}
 use Rattle.isa.specs.Tables.{sizedEntry, casEntry, atomicEntries, atomicAt, withFunct7, aluAs, shiftBy, opImmBy, shift32By, opImm32By, opBy, op32By}
 use Rattle.isa.specs.Tables.{atomicBy, atomicIn, deciders, ofBoth, decideOf, byTables}
 use Rattle.isa.specs.declared.LoadOp.{LoadOp}
@@ -31,7 +33,6 @@ use Rattle.isa.specs.declared.Width.{Width}
 use Rattle.isa.specs.declared.Width.the-variants.{Word, Double}
 use Rattle.isa.specs.declared.Instr.{Instr}
 use Rattle.isa.specs.declared.Instr.the-variants.{Illegal, Jalr, OpImm32, Fence}
-use Rattle.isa.proofs.RowLaws.{Others, select-others, select-keyed, has-row, through, below, below-at}
 
 -- ---- funct7 without a branch on it, as the code has it: equal, by one computation over all n and funct7
 
@@ -42,15 +43,16 @@ branchless : ℕ → Bool
 branchless k = eqb (cond (kept (k / 128) (k % 128)) (k / 128 + k % 128 / 32 % 2) none) (withFunct7 (k / 128) (k % 128))
 
 pub with-bit : (n f7 : ℕ) → n < 16 → f7 < 128 → cond (kept n f7) (n + f7 / 32 % 2) none ≡ withFunct7 n f7
-unfolding branchless withFunct7
+unfolding branchless withFunct7 allBelow
 with-bit n f7 few most =
     let high : (n * 128 + f7) / 128 ≡ n = omega arith in
     let low : (n * 128 + f7) % 128 ≡ f7 = omega arith in
     subst (λ (m : ℕ). cond (kept n m) (n + m / 32 % 2) none ≡ withFunct7 n m) low
     (subst (λ (m : ℕ). cond (kept m ((n * 128 + f7) % 128)) (m + (n * 128 + f7) % 128 / 32 % 2) none ≡ withFunct7 m ((n * 128 + f7) % 128)) high
-    (eqb→eq _ _ (below-at branchless 2048 tt (n * 128 + f7) (omega arith))))
+    (eqb-true _ _ (all-at branchless (n * 128 + f7) 2048 refl (omega arith))))
 
--- ---- funct7 and funct6: the operation of a key is that of its entry with funct7, by one computation for each of the four tables
+-- ---- funct7 and funct6: the operation of a key is that of its entry with funct7, by one computation over all keys of each of `ops`, `ops32`, `shifts` and
+-- `shifts32`
 
 alike : List (Row AluOp) → (ℕ → ℕ) → ℕ → Bool
 alike rows funct7 k = eqb (select k rows aluNumber none) (withFunct7 (select (k % 8) rows aluNumber none) (funct7 (k / 8)))
@@ -67,7 +69,7 @@ alu-each f Sra = refl
 alu-each f Or = refl
 alu-each f And = refl
 
-alu-law : (rows : List (Row AluOp)) (funct7 : ℕ → ℕ) (count : ℕ) → T (below (alike rows funct7) count)
+alu-law : (rows : List (Row AluOp)) (funct7 : ℕ → ℕ) (count : ℕ) → allBelow (alike rows funct7) count ≡ true
     → (a f : ℕ) → f < 8 → key a f < count → (make : AluOp → Instr)
     → select (key a f) rows make Illegal ≡ aluAs (withFunct7 (select f rows aluNumber none) (funct7 a)) make
 unfolding alike
@@ -75,27 +77,27 @@ alu-law rows funct7 count t a f few most make =
     let low : (a * 8 + f) % 8 ≡ f = omega arith in
     let high : (a * 8 + f) / 8 ≡ a = omega arith in
     let number : select (key a f) rows aluNumber none ≡ withFunct7 (select f rows aluNumber none) (funct7 a) =
-    eqb→eq (select (key a f) rows aluNumber none) (withFunct7 (select (key a f % 8) rows aluNumber none) (funct7 (key a f / 8)))
-    (below-at (alike rows funct7) count t (key a f) most)
+    eqb-true (select (key a f) rows aluNumber none) (withFunct7 (select (key a f % 8) rows aluNumber none) (funct7 (key a f / 8)))
+    (all-at (alike rows funct7) (key a f) count t most)
     ∙ ap (λ (m : ℕ). withFunct7 (select m rows aluNumber none) (funct7 (key a f / 8))) low
     ∙ ap (λ (m : ℕ). withFunct7 (select f rows aluNumber none) (funct7 m)) high in
-    sym (through (key a f) rows aluNumber none (λ n. aluAs n make) make Illegal (alu-each make) refl) ∙ ap (λ (n : ℕ). aluAs n make) number
+    sym (select-numbered (key a f) rows aluNumber none (λ n. aluAs n make) make Illegal (alu-each make) refl) ∙ ap (λ (n : ℕ). aluAs n make) number
 
 op-law : (w : ℕ) → D.opOf w ≡ opBy (select (funct3Of w) D.ops aluNumber none) w
-unfolding D.opOf opBy alike withFunct7
-op-law w = alu-law D.ops (λ a. a) 1024 tt (funct7Of w) (funct3Of w) (omega arith) (omega arith) (D.opAs w)
+unfolding D.opOf opBy alike withFunct7 allBelow
+op-law w = alu-law D.ops (λ a. a) 1024 refl (funct7Of w) (funct3Of w) (omega arith) (omega arith) (D.opAs w)
 
 op-32-law : (w : ℕ) → D.op32Of w ≡ op32By (select (funct3Of w) D.ops32 aluNumber none) w
-unfolding D.op32Of op32By alike withFunct7
-op-32-law w = alu-law D.ops32 (λ a. a) 1024 tt (funct7Of w) (funct3Of w) (omega arith) (omega arith) (D.op32As w)
+unfolding D.op32Of op32By alike withFunct7 allBelow
+op-32-law w = alu-law D.ops32 (λ a. a) 1024 refl (funct7Of w) (funct3Of w) (omega arith) (omega arith) (D.op32As w)
 
 shift-32-law : (w : ℕ) → D.shift32Of w ≡ shift32By (select (funct3Of w) D.shifts32 aluNumber none) w
-unfolding D.shift32Of shift32By alike withFunct7
-shift-32-law w = alu-law D.shifts32 (λ a. a) 1024 tt (funct7Of w) (funct3Of w) (omega arith) (omega arith) (D.shift32As w)
+unfolding D.shift32Of shift32By alike withFunct7 allBelow
+shift-32-law w = alu-law D.shifts32 (λ a. a) 1024 refl (funct7Of w) (funct3Of w) (omega arith) (omega arith) (D.shift32As w)
 
 shift-law : (w : ℕ) → D.shiftOf w ≡ shiftBy (select (funct3Of w) D.shifts aluNumber none) w
-unfolding D.shiftOf shiftBy alike withFunct7
-shift-law w = alu-law D.shifts (λ a. a * 2) 512 tt (funct6Of w) (funct3Of w) (omega arith) (omega arith) (D.shiftAs w)
+unfolding D.shiftOf shiftBy alike withFunct7 allBelow
+shift-law w = alu-law D.shifts (λ a. a * 2) 512 refl (funct6Of w) (funct3Of w) (omega arith) (omega arith) (D.shiftAs w)
 
 -- ---- the second table
 
@@ -103,7 +105,7 @@ sized-each : (op : AtomicOp) (w : ℕ) → ((width : Width) → atomicBy (widthN
     → atomicBy (sizedEntry op (funct3Of w)) w ≡ D.sizedOf op w
 unfolding D.sizedOf atomicBy
 sized-each op w each =
-    through (funct3Of w) D.widths (λ width. widthNumber width * 16 + atomicNumber op) 0 (λ e. atomicBy e w) (D.atomicAs w op) Illegal each refl
+    select-numbered (funct3Of w) D.widths (λ width. widthNumber width * 16 + atomicNumber op) 0 (λ e. atomicBy e w) (D.atomicAs w op) Illegal each refl
 
 sc-law : (w : ℕ) → atomicBy (sizedEntry Sc (funct3Of w)) w ≡ D.sizedOf Sc w
 unfolding atomicBy
@@ -153,7 +155,7 @@ lr-law w = go (eqb (rs2Of w) 0) refl
         each Word = rw e
         each Double = rw e
 
-pair-law : (w : ℕ) → atomicBy (16 + PAIR) w ≡ D.casPairOf w
+pair-law : (w : ℕ) → atomicBy (16 + CAS-PAIR) w ≡ D.casPairOf w
 unfolding D.casPairOf atomicBy
 pair-law w = go (D.isEven (rdOf w) && D.isEven (rs2Of w))
   where
@@ -170,7 +172,7 @@ cas-law w = go (eqb (funct3Of w) 4) (sized-each Cas w each)
     each Double = refl
 
     go : (t : Bool) → atomicBy (sizedEntry Cas (funct3Of w)) w ≡ D.sizedOf Cas w
-        → atomicBy (cond t (16 + PAIR) (sizedEntry Cas (funct3Of w))) w ≡ cond t (D.casPairOf w) (D.sizedOf Cas w)
+        → atomicBy (cond t (16 + CAS-PAIR) (sizedEntry Cas (funct3Of w))) w ≡ cond t (D.casPairOf w) (D.sizedOf Cas w)
     go true sized = pair-law w
     go false sized = sized
 
@@ -200,8 +202,8 @@ atomic-law w =
     at : ℕ → Instr
     at k = atomicBy (select k atomicEntries (λ g. g (funct3Of w)) 0) w
 
-    others : Others (funct5Of w) D.atomics → Illegal ≡ at (funct5Of w)
-    others o = sym (ap (λ (e : ℕ). atomicBy e w) (select-others (funct5Of w) atomicEntries (λ g. g (funct3Of w)) 0 o))
+    others : unlisted D.atomics (funct5Of w) ≡ 1 → Illegal ≡ at (funct5Of w)
+    others o = sym (ap (λ (e : ℕ). atomicBy e w) (select-unlisted (funct5Of w) atomicEntries (λ g. g (funct3Of w)) 0 o))
 
 -- ---- the first table, class by class: what an entry of the class says
 
@@ -259,7 +261,7 @@ module _ (w : ℕ) where
 
   load-by : D.loadOf w ≡ by D.LOAD
   unfolding D.loadOf decideOf
-  load-by = sym (through (funct3Of w) D.loads loadNumber none (λ n. decideOf (entry D.LOAD n) w) (D.loadAs w) Illegal each refl)
+  load-by = sym (select-numbered (funct3Of w) D.loads loadNumber none (λ n. decideOf (entry D.LOAD n) w) (D.loadAs w) Illegal each refl)
     where
       each : (op : LoadOp) → decideOf (entry D.LOAD (loadNumber op)) w ≡ D.loadAs w op
       each Lb = refl
@@ -272,7 +274,7 @@ module _ (w : ℕ) where
 
   store-by : D.storeOf w ≡ by D.STORE
   unfolding D.storeOf decideOf
-  store-by = sym (through (funct3Of w) D.stores storeNumber none (λ n. decideOf (entry D.STORE n) w) (D.storeAs w) Illegal each refl)
+  store-by = sym (select-numbered (funct3Of w) D.stores storeNumber none (λ n. decideOf (entry D.STORE n) w) (D.storeAs w) Illegal each refl)
     where
       each : (op : StoreOp) → decideOf (entry D.STORE (storeNumber op)) w ≡ D.storeAs w op
       each Sb = refl
@@ -282,7 +284,7 @@ module _ (w : ℕ) where
 
   branch-by : D.branchOf w ≡ by D.BRANCH
   unfolding D.branchOf decideOf
-  branch-by = sym (through (funct3Of w) D.branches branchNumber none (λ n. decideOf (entry D.BRANCH n) w) (D.branchAs w) Illegal each refl)
+  branch-by = sym (select-numbered (funct3Of w) D.branches branchNumber none (λ n. decideOf (entry D.BRANCH n) w) (D.branchAs w) Illegal each refl)
     where
       each : (op : BranchOp) → decideOf (entry D.BRANCH (branchNumber op)) w ≡ D.branchAs w op
       each Eq = refl
@@ -336,7 +338,7 @@ module _ (w : ℕ) where
       go false = shift
 
   op-imm-by : D.opImmOf w ≡ by D.OP-IMM
-  unfolding D.opImmOf decideOf opImmBy
+  unfolding D.opImmOf decideOf opImmBy allBelow
   op-imm-by =
       select-keyed (λ i. i ≡ by D.OP-IMM) (funct3Of w) D.opImms (D.of w) Illegal
       ((λ e. ap at (sym e))
@@ -348,10 +350,13 @@ module _ (w : ℕ) where
       also (λ e. ap at (sym e))
       also (λ e. ap at (sym e))
       also tt)
-      (λ o. absurd (has-row D.opImms 8 tt (funct3Of w) (omega arith) (select-others (funct3Of w) D.opImms (λ g. 0) 1 o)))
+      (λ o. absurd (eqb-false 0 1 refl (sym (eqb-true (unlisted D.opImms (funct3Of w)) 0 (all-at listed (funct3Of w) 8 refl (omega arith))) ∙ o)))
     where
       at : ℕ → Instr
       at f = decideOf (entry D.OP-IMM (select f D.ops aluNumber none)) w
+
+      listed : ℕ → Bool
+      listed f = eqb (unlisted D.opImms f) 0
 
       shifted : ℕ → Instr
       shifted f = shiftBy (select f D.shifts aluNumber none) w
@@ -376,7 +381,7 @@ module _ (w : ℕ) where
       also (λ e. ap by (sym e))
       also (λ e. ap by (sym e))
       also tt)
-      (λ o. sym (ap (λ (n : ℕ). decideOf (entry class n) w) (select-others class numbers (λ g. g (funct3Of w)) none o)))
+      (λ o. sym (ap (λ (n : ℕ). decideOf (entry class n) w) (select-unlisted class numbers (λ g. g (funct3Of w)) none o)))
 
   -- the decoder by both tables is the decoder of the definition, of every word
   pub by-tables : D.decodeOf w ≡ byTables w

@@ -1,4 +1,5 @@
--- The decoder's two tables of 256 entries, and what is decided behind them. Nothing here need be believed: `decode` promises `decodeOf`.
+-- The decoder's two tables of 256 entries, and what is decided behind them. Nothing here need be believed: `decode` promises `decodeOf`. A place in a
+-- table is a `key`: bits 6 to 2, or funct5, times 8 plus funct3.
 -- 02 [9]: "Replace the decision over bits 6 to 2, funct3 and funct5 by two tables of 256 entries each: one over bits 6 to 2 with funct3, one
 -- over funct5 with funct3."
 use Prim.Native.Nat.{ℕ, _+_, _*_, _/_, _%_}
@@ -26,7 +27,8 @@ use Rattle.isa.specs.declared.Width.the-variants.{Word, Double}
 use Rattle.isa.specs.declared.Instr.{Instr}
 use Rattle.isa.specs.declared.Instr.the-variants.{Illegal, Jalr, OpImm32, Fence}
 
--- ---- the numbers of the operations: their places in their types, from 0
+-- ---- the numbers of the operations: their places in their types, from 0. A number that no entry holds has the last one's operation, since a
+-- function has to give one
 
 abbrev pub loadNumber : LoadOp → ℕ
 loadNumber Lb = 0
@@ -108,7 +110,8 @@ none = 15
 
 -- ---- the first table: over bits 6 to 2 with funct3
 
--- the operation of a class and funct3, or none; of those that funct7 or funct6 decide too, the one where it is 0: its key is then funct3
+-- the operation of a class and funct3, or none. Of those that funct7 or funct6 decide too, the one where it is 0, whose key is funct3; OP-IMM has
+-- OP's numbers. 0 at every funct3 where the class has one instruction, and where more than funct3 is needed: of AMO and of SYSTEM
 abbrev pub numbers : List (Row (ℕ → ℕ))
 numbers =
     LOAD ⇒ (λ f. select f loads loadNumber none) ∷
@@ -134,13 +137,13 @@ entry class n = cond (eqb n none) 0 (class * 16 + n)
 abbrev pub numberAt : ℕ → ℕ → ℕ
 numberAt class f = select class numbers (λ g. g f) none
 
--- the rule of the first table: the entry at bits 6 to 2 times 8 and funct3
+-- the rule of the first table: the entry at k, which is bits 6 to 2 times 8 plus funct3
 unfoldable pub opcodeAt : ℕ → ℕ
 opcodeAt k = entry (classAt (k / 8)) (numberAt (classAt (k / 8)) (k % 8))
 
 -- the table
-unfoldable pub opcodes : List ℕ
-opcodes =
+unfoldable pub opcodeTable : List ℕ
+opcodeTable =
     0x10 ∷ 0x11 ∷ 0x12 ∷ 0x13 ∷ 0x14 ∷ 0x15 ∷ 0x16 ∷ 0x00 ∷
     0x00 ∷ 0x00 ∷ 0x00 ∷ 0x00 ∷ 0x00 ∷ 0x00 ∷ 0x00 ∷ 0x00 ∷
     0x00 ∷ 0x00 ∷ 0x00 ∷ 0x00 ∷ 0x00 ∷ 0x00 ∷ 0x00 ∷ 0x00 ∷
@@ -177,18 +180,18 @@ opcodes =
 
 -- ---- the second table: over funct5 with funct3
 
--- from 1, so that 0 is no operation
+-- the operations are numbered from 1, so that 0 is none
 abbrev pub LR : ℕ
 LR = 1
 
-abbrev pub PAIR : ℕ
-PAIR = 4
+abbrev pub CAS-PAIR : ℕ
+CAS-PAIR = 4
 
 abbrev pub atomicNumber : AtomicOp → ℕ
 atomicNumber Lr = LR
 atomicNumber Sc = 2
 atomicNumber Cas = 3
-atomicNumber CasPair = PAIR
+atomicNumber CasPair = CAS-PAIR
 atomicNumber (Rmw A.Swap) = 5
 atomicNumber (Rmw A.Add) = 6
 atomicNumber (Rmw A.Xor) = 7
@@ -230,7 +233,7 @@ abbrev pub sizedEntry : AtomicOp → ℕ → ℕ
 sizedEntry op f = select f widths (λ width. widthNumber width * 16 + atomicNumber op) 0
 
 abbrev pub casEntry : ℕ → ℕ
-casEntry f = cond (eqb f 4) (16 + PAIR) (sizedEntry Cas f)
+casEntry f = cond (eqb f 4) (16 + CAS-PAIR) (sizedEntry Cas f)
 
 abbrev pub atomicEntries : List (Row (ℕ → ℕ))
 atomicEntries =
@@ -248,7 +251,7 @@ atomicEntries =
     28 ⇒ sizedEntry (Rmw A.Maxu) ∷
     []
 
--- the rule of the second table: the entry at funct5 times 8 and funct3
+-- the rule of the second table: the entry at k, which is funct5 times 8 plus funct3
 unfoldable pub atomicAt : ℕ → ℕ
 atomicAt k = select (k / 8) atomicEntries (λ g. g (k % 8)) 0
 
@@ -299,7 +302,7 @@ withFunct7 n f7 = cond (eqb f7 0) n (cond (eqb n ADD && eqb f7 0x20) SUB (cond (
 abbrev pub aluAs : ℕ → (AluOp → Instr) → Instr
 aluAs n f = cond (eqb n none) Illegal (f (aluOp n))
 
--- funct6 is the upper 6 bits of funct7
+-- funct6 with a bit 0 behind it is funct7 where the shift amount has 6 bits
 unfoldable pub shiftBy : ℕ → ℕ → Instr
 shiftBy n w = aluAs (withFunct7 n (funct6Of w * 2)) (shiftAs w)
 
@@ -323,7 +326,7 @@ op32By n w = aluAs (withFunct7 n (funct7Of w)) (op32As w)
 
 -- no operation, an LR with rs2 not 0, or an AMOCAS.Q with an odd rd or rs2
 abbrev pub refuses : ℕ → ℕ → Bool
-refuses n w = (eqb n 0 || (eqb n LR && not (eqb (rs2Of w) 0))) || (eqb n PAIR && not (isEven (rdOf w) && isEven (rs2Of w)))
+refuses n w = (eqb n 0 || (eqb n LR && not (eqb (rs2Of w) 0))) || (eqb n CAS-PAIR && not (isEven (rdOf w) && isEven (rs2Of w)))
 
 unfoldable pub atomicBy : ℕ → ℕ → Instr
 atomicBy e w = cond (refuses (e % 16) w) Illegal (atomicAs w (atomicOp (e % 16)) (widthOf (e / 16)))

@@ -26,18 +26,20 @@ fn atomic_as(op: AtomicOp, width: Width, word: u32) -> Instr
     })
 }
 
-// AMOCAS.Q: each register names an even-odd pair.
+// The rd and the rs2 of an AMOCAS.Q each name a pair, and are even.
 fn even_pair(word: u32) -> bool
     ensures { λ r. ⌜ r ≡ isEven (rdOf word) && isEven (rs2Of word) ⌝ }
 {
     (fields::rd(word) % 2 == 0) & (fields::rs2(word) % 2 == 0)
 }
 
-// No operation, an LR with an rs2, or an AMOCAS.Q with an odd register.
+// No operation, an LR with rs2 not 0, or an AMOCAS.Q with an odd rd or rs2.
 fn refuses(n: u8, word: u32) -> bool
     ensures { λ r. ⌜ r ≡ refuses n word ⌝ }
 {
-    (n == 0) | ((n == ops::LR) & (fields::rs2(word) != 0)) | ((n == ops::PAIR) & !even_pair(word))
+    (n == 0)
+        | ((n == ops::LR) & (fields::rs2(word) != 0))
+        | ((n == ops::CAS_PAIR) & !even_pair(word))
 }
 
 fn atomic_by(e: u8, word: u32) -> Instr
@@ -54,5 +56,5 @@ fn atomic_by(e: u8, word: u32) -> Instr
 pub fn atomic(word: u32) -> Instr
     ensures { λ r. ⌜ r ≡ atomicIn word ⌝ }
 {
-    atomic_by(tables::atomic(word), word)
+    atomic_by(tables::atomic_entry(word), word)
 }

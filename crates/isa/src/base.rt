@@ -10,7 +10,7 @@ ghost use mathlib.Core.Path.{_≡_};
 ghost use Prim.Native.Nat.{_%_};
 ghost use Rattle.isa.specs.Fields.{bits, rdOf, rs1Of, immI};
 ghost use Rattle.isa.specs.Decode.{luiOf, auipcOf, jalOf, branchAs, loadAs, storeAs, systemOf, shiftAs, opImmAs, shift32As, opAs, op32As};
-ghost use Rattle.isa.specs.Tables.{shiftBy, opImmBy, shift32By, opImm32By, opBy, op32By};
+ghost use Rattle.isa.specs.Tables.{loadOp, storeOp, branchOp, shiftBy, opImmBy, shift32By, opImm32By, opBy, op32By};
 ghost use Rattle.isa.specs.declared.Instr.the-variants.{Jalr, Fence};
 
 pub fn lui(word: u32) -> Instr
@@ -50,7 +50,7 @@ pub fn jalr(word: u32) -> Instr
     }
 }
 
-pub fn branch_as(op: BranchOp, word: u32) -> Instr
+fn branch_as(op: BranchOp, word: u32) -> Instr
     ensures { λ r. ⌜ r ≡ branchAs word op ⌝ }
 {
     Instr::Branch {
@@ -61,7 +61,13 @@ pub fn branch_as(op: BranchOp, word: u32) -> Instr
     }
 }
 
-pub fn load_as(op: LoadOp, word: u32) -> Instr
+pub fn branch(e: u8, word: u32) -> Instr
+    ensures { λ r. ⌜ r ≡ branchAs word (branchOp (e % 16)) ⌝ }
+{
+    branch_as(ops::branch_op(e % 16), word)
+}
+
+fn load_as(op: LoadOp, word: u32) -> Instr
     ensures { λ r. ⌜ r ≡ loadAs word op ⌝ }
 {
     Instr::Load {
@@ -72,7 +78,13 @@ pub fn load_as(op: LoadOp, word: u32) -> Instr
     }
 }
 
-pub fn store_as(op: StoreOp, word: u32) -> Instr
+pub fn load(e: u8, word: u32) -> Instr
+    ensures { λ r. ⌜ r ≡ loadAs word (loadOp (e % 16)) ⌝ }
+{
+    load_as(ops::load_op(e % 16), word)
+}
+
+fn store_as(op: StoreOp, word: u32) -> Instr
     ensures { λ r. ⌜ r ≡ storeAs word op ⌝ }
 {
     Instr::Store {
@@ -81,6 +93,12 @@ pub fn store_as(op: StoreOp, word: u32) -> Instr
         rs2: fields::rs2(word),
         imm: fields::imm_s(word),
     }
+}
+
+pub fn store(e: u8, word: u32) -> Instr
+    ensures { λ r. ⌜ r ≡ storeAs word (storeOp (e % 16)) ⌝ }
+{
+    store_as(ops::store_op(e % 16), word)
 }
 
 fn shift_as(op: AluOp, word: u32) -> Instr
@@ -94,7 +112,7 @@ fn shift_as(op: AluOp, word: u32) -> Instr
     }
 }
 
-// The shifts of OP-IMM: funct6 is the upper 6 bits of funct7.
+// The shifts of OP-IMM, whose amount has 6 bits: funct6 with a bit 0 behind it stands for funct7.
 fn shift(e: u8, word: u32) -> Instr
     ensures { λ r. ⌜ r ≡ shiftBy (e % 16) word ⌝ }
 {

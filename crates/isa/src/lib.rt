@@ -183,26 +183,25 @@ pub fn bytes_of(w: Width) -> usize
     }
 }
 
-// A word by its entry of the first table. AMO is asked for first: its instruction has another form in memory than the others, and joining the two costs
-// every word.
+// A word by its entry in the first table. That AMO is asked for apart, before the others, saves time: its instruction alone holds bytes where all others hold
+// numbers.
 fn decide(e: u8, word: u32) -> Instr
     ensures { λ r. ⌜ r ≡ decideOf e word ⌝ }
 {
-    let n = e % 16;
     if e / 16 == class::AMO {
         return amo::atomic(word);
     }
     match e / 16 {
-        class::LOAD => base::load_as(ops::load_op(n), word),
+        class::LOAD => base::load(e, word),
         class::MISC_MEM => base::fence(word),
         class::OP_IMM => base::op_imm(e, word),
         class::AUIPC => base::auipc(word),
         class::OP_IMM_32 => base::op_imm_32(e, word),
-        class::STORE => base::store_as(ops::store_op(n), word),
+        class::STORE => base::store(e, word),
         class::OP => base::op(e, word),
         class::LUI => base::lui(word),
         class::OP_32 => base::op_32(e, word),
-        class::BRANCH => base::branch_as(ops::branch_op(n), word),
+        class::BRANCH => base::branch(e, word),
         class::JALR => base::jalr(word),
         class::JAL => base::jal(word),
         class::SYSTEM => base::system(word),
@@ -215,7 +214,7 @@ pub fn decode(word: u32) -> Instr
     ensures { λ r. ⌜ r ≡ decodeOf word ⌝ }
 {
     if word % 4 == 3 {
-        decide(tables::opcode(word), word)
+        decide(tables::opcode_entry(word), word)
     } else {
         Instr::Illegal
     }

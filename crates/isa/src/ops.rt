@@ -1,5 +1,5 @@
-// The operations by the numbers that the tables hold: their places in their types. A match on a number, and not on funct3, leaves the compiler nothing to
-// branch on.
+// The operations by the numbers that the tables hold: their places in their types, those of atomics from 1 on. Where an operation is found by its number alone,
+// the compiler has no need of a branch.
 use crate::AluOp;
 use crate::AmoOp;
 use crate::AtomicOp;
@@ -17,11 +17,13 @@ pub const SLL: u8 = 2;
 
 pub const SRL: u8 = 6;
 
+// No operation of the first table's.
 pub const NONE: u8 = 15;
 
+// Of atomics.
 pub const LR: u8 = 1;
 
-pub const PAIR: u8 = 4;
+pub const CAS_PAIR: u8 = 4;
 
 pub fn load_op(n: u8) -> LoadOp
     ensures { λ r. ⌜ r ≡ loadOp n ⌝ }
@@ -78,15 +80,15 @@ pub fn alu_op(n: u8) -> AluOp
     }
 }
 
-// The operation of an entry with funct7, or NONE. SUB and SRA stand behind ADD and SRL, whose bits 0x41 has; a branch on whether funct7 is 0 would be one that
-// no predictor can foresee.
+// The operation of an entry with funct7, or NONE. 0x41 has the bits of ADD and of SRL: these alone have a second operation, SUB and SRA, at funct7 0x20, and
+// its number is one more. There is no branch on funct7, which is hard to foresee where ADD and SUB mix.
 pub fn with_funct7(n: u8, funct7: u32) -> u8
     requires { ⌜ (n < 16) × (funct7 < 128) ⌝ }
     ensures { λ r. ⌜ r ≡ withFunct7 n funct7 ⌝ }
 {
-    let other = funct7 / 32 % 2;
-    if (funct7 == other * 32) & (other <= (0x41 >> n as u32) % 2) {
-        n + other as u8
+    let second = funct7 / 32 % 2;
+    if (funct7 == second * 32) & (second <= (0x41 >> n as u32) % 2) {
+        n + second as u8
     } else {
         NONE
     }

@@ -1,4 +1,4 @@
-// The two tables of 256 entries that the decoder reads, and their reading.
+// The two tables of 256 entries that the decoder reads, and how it reads them.
 use crate::fields;
 use word::bytes::load_at;
 ghost use mathlib.Core.Path.{_≡_};
@@ -7,15 +7,15 @@ ghost use Rattle.word.specs.Bytes.{le};
 ghost use Rattle.word.specs.Memory.{part};
 ghost use Rattle.isa.specs.Fields.{bits, funct3Of, funct5Of};
 ghost use Rattle.isa.specs.Decode.{key};
-ghost use Rattle.isa.specs.Tables.{opcodes, opcodeAt, atomicTable, atomicAt};
+ghost use Rattle.isa.specs.Tables.{opcodeTable, opcodeAt, atomicTable, atomicAt};
 
-// Row c of the first table as one number, the entry of funct3 0 the lowest byte. Its places are written out: an array that is read at a place that is
-// computed is built anew at each reading, 256 stores, but read at written places it is a constant of the program.
-fn opcode_row(c: u32) -> u64
-    ensures { λ r. ⌜ r ≡ le (part opcodes (c * 8) 8) ⌝ }
+// The eight entries of a row of the first table as one number, that of funct3 0 the lowest byte. The indices are literals: an array that is read at a computed
+// index is built in memory, all of it, at each reading, and one that is read at literals stays a constant of the program.
+fn opcode_row(row: u32) -> u64
+    ensures { λ r. ⌜ r ≡ le (part opcodeTable (row * 8) 8) ⌝ }
 {
-    let t = OPCODES;
-    match c {
+    let t = OPCODE_TABLE;
+    match row {
         0 => load_at(&t, 0, 8),
         1 => load_at(&t, 8, 8),
         2 => load_at(&t, 16, 8),
@@ -53,11 +53,11 @@ fn opcode_row(c: u32) -> u64
 }
 
 // The same of the second table.
-fn atomic_row(c: u32) -> u64
-    ensures { λ r. ⌜ r ≡ le (part atomicTable (c * 8) 8) ⌝ }
+fn atomic_row(row: u32) -> u64
+    ensures { λ r. ⌜ r ≡ le (part atomicTable (row * 8) 8) ⌝ }
 {
-    let t = ATOMICS;
-    match c {
+    let t = ATOMIC_TABLE;
+    match row {
         0 => load_at(&t, 0, 8),
         1 => load_at(&t, 8, 8),
         2 => load_at(&t, 16, 8),
@@ -94,32 +94,32 @@ fn atomic_row(c: u32) -> u64
     }
 }
 
-// The entry of a row.
-fn entry(row: u64, funct3: u32) -> u8
+// The entry of a funct3 in its row.
+fn in_row(entries: u64, funct3: u32) -> u8
     requires { ⌜ funct3 < 8 ⌝ }
-    ensures { λ r. ⌜ r ≡ row / 2 ^ (funct3 * 8) % 256 ⌝ }
+    ensures { λ r. ⌜ r ≡ entries / 2 ^ (funct3 * 8) % 256 ⌝ }
 {
-    ((row >> (funct3 * 8)) % 256) as u8
+    ((entries >> (funct3 * 8)) % 256) as u8
 }
 
-// The entry of a word in the first table: at bits 6 to 2 times 8 and funct3.
-pub fn opcode(word: u32) -> u8
+// The entry of a word in the first table, at bits 6 to 2 times 8 plus funct3.
+pub fn opcode_entry(word: u32) -> u8
     ensures { λ r. ⌜ r ≡ opcodeAt (key (bits 6 2 word) (funct3Of word)) ⌝ }
 {
-    entry(opcode_row((word >> 2) % 32), fields::funct3(word))
+    in_row(opcode_row((word >> 2) % 32), fields::funct3(word))
 }
 
-// The entry of a word in the second table: at funct5 times 8 and funct3.
-pub fn atomic(word: u32) -> u8
+// The entry of a word in the second table, at funct5 times 8 plus funct3.
+pub fn atomic_entry(word: u32) -> u8
     ensures { λ r. ⌜ r ≡ atomicAt (key (funct5Of word) (funct3Of word)) ⌝ }
 {
-    entry(atomic_row(fields::funct5(word)), fields::funct3(word))
+    in_row(atomic_row(fields::funct5(word)), fields::funct3(word))
 }
 
-// By bits 6 to 2 and, in a row, funct3. The upper digit is the class, as `class` numbers it; the lower one is the operation, as `ops` numbers it, and
-// of those that funct7 or funct6 decide the one where it is 0. 0 is no instruction.
-const OPCODES: [u8; 256] = [
-    // 0: LB LH LW LD LBU LHU LWU, -
+// A row for each value of bits 6 to 2, and in it an entry for each funct3. The upper digit is the class, as `class` numbers it; the lower one the operation,
+// as `ops` numbers it: of those that funct7 or funct6 decide too, the first of the two. 0 is none: no word there has an instruction.
+const OPCODE_TABLE: [u8; 256] = [
+    // 0, LOAD: LB LH LW LD LBU LHU LWU none
     0x10,
     0x11,
     0x12,
@@ -146,7 +146,7 @@ const OPCODES: [u8; 256] = [
     0x00,
     0x00,
     0x00,
-    // 3: FENCE, -
+    // 3, MISC-MEM: FENCE, then none
     0x20,
     0x00,
     0x00,
@@ -155,7 +155,7 @@ const OPCODES: [u8; 256] = [
     0x00,
     0x00,
     0x00,
-    // 4: ADDI SLLI SLTI SLTIU XORI, SRLI or SRAI, ORI ANDI
+    // 4, OP-IMM: ADDI SLLI SLTI SLTIU XORI SRLI/SRAI ORI ANDI
     0x30,
     0x32,
     0x33,
@@ -164,7 +164,7 @@ const OPCODES: [u8; 256] = [
     0x36,
     0x38,
     0x39,
-    // 5: AUIPC
+    // 5, AUIPC
     0x40,
     0x40,
     0x40,
@@ -173,7 +173,7 @@ const OPCODES: [u8; 256] = [
     0x40,
     0x40,
     0x40,
-    // 6: ADDIW SLLIW, -, SRLIW or SRAIW, -
+    // 6, OP-IMM-32: ADDIW SLLIW none none none SRLIW/SRAIW none none
     0x50,
     0x52,
     0x00,
@@ -191,7 +191,7 @@ const OPCODES: [u8; 256] = [
     0x00,
     0x00,
     0x00,
-    // 8: SB SH SW SD, -
+    // 8, STORE: SB SH SW SD, then none
     0x60,
     0x61,
     0x62,
@@ -218,7 +218,7 @@ const OPCODES: [u8; 256] = [
     0x00,
     0x00,
     0x00,
-    // 11: the second table
+    // 11, AMO: the second table decides
     0x70,
     0x70,
     0x70,
@@ -227,7 +227,7 @@ const OPCODES: [u8; 256] = [
     0x70,
     0x70,
     0x70,
-    // 12: ADD or SUB, SLL SLT SLTU XOR, SRL or SRA, OR AND
+    // 12, OP: ADD/SUB SLL SLT SLTU XOR SRL/SRA OR AND
     0x80,
     0x82,
     0x83,
@@ -236,7 +236,7 @@ const OPCODES: [u8; 256] = [
     0x86,
     0x88,
     0x89,
-    // 13: LUI
+    // 13, LUI
     0x90,
     0x90,
     0x90,
@@ -245,7 +245,7 @@ const OPCODES: [u8; 256] = [
     0x90,
     0x90,
     0x90,
-    // 14: ADDW or SUBW, SLLW, -, SRLW or SRAW, -
+    // 14, OP-32: ADDW/SUBW SLLW none none none SRLW/SRAW none none
     0xA0,
     0xA2,
     0x00,
@@ -335,7 +335,7 @@ const OPCODES: [u8; 256] = [
     0x00,
     0x00,
     0x00,
-    // 24: BEQ BNE, -, BLT BGE BLTU BGEU
+    // 24, BRANCH: BEQ BNE none none BLT BGE BLTU BGEU
     0xB0,
     0xB1,
     0x00,
@@ -344,7 +344,7 @@ const OPCODES: [u8; 256] = [
     0xB3,
     0xB4,
     0xB5,
-    // 25: JALR, -
+    // 25, JALR: JALR, then none
     0xC0,
     0x00,
     0x00,
@@ -362,7 +362,7 @@ const OPCODES: [u8; 256] = [
     0x00,
     0x00,
     0x00,
-    // 27: JAL
+    // 27, JAL
     0xD0,
     0xD0,
     0xD0,
@@ -371,7 +371,7 @@ const OPCODES: [u8; 256] = [
     0xD0,
     0xD0,
     0xD0,
-    // 28: ECALL, EBREAK
+    // 28, SYSTEM: the whole word decides
     0xE0,
     0xE0,
     0xE0,
@@ -409,9 +409,9 @@ const OPCODES: [u8; 256] = [
     0x00,
 ];
 
-// By funct5 and, in a row, funct3. The upper digit is the width, 0 of W and 1 of D and Q; the lower one is the operation. 0 is no instruction.
-const ATOMICS: [u8; 256] = [
-    // 0: AMOADD
+// A row for each funct5, and in it an entry for each funct3. The upper digit is the width, 0 for W, 1 for D and Q; the lower one the operation. 0 is none.
+const ATOMIC_TABLE: [u8; 256] = [
+    // 0, AMOADD: none none W D then none
     0x00,
     0x00,
     0x06,
@@ -420,7 +420,7 @@ const ATOMICS: [u8; 256] = [
     0x00,
     0x00,
     0x00,
-    // 1: AMOSWAP
+    // 1, AMOSWAP: none none W D then none
     0x00,
     0x00,
     0x05,
@@ -429,7 +429,7 @@ const ATOMICS: [u8; 256] = [
     0x00,
     0x00,
     0x00,
-    // 2: LR
+    // 2, LR: none none W D then none
     0x00,
     0x00,
     0x01,
@@ -438,7 +438,7 @@ const ATOMICS: [u8; 256] = [
     0x00,
     0x00,
     0x00,
-    // 3: SC
+    // 3, SC: none none W D then none
     0x00,
     0x00,
     0x02,
@@ -447,7 +447,7 @@ const ATOMICS: [u8; 256] = [
     0x00,
     0x00,
     0x00,
-    // 4: AMOXOR
+    // 4, AMOXOR: none none W D then none
     0x00,
     0x00,
     0x07,
@@ -456,7 +456,7 @@ const ATOMICS: [u8; 256] = [
     0x00,
     0x00,
     0x00,
-    // 5: AMOCAS
+    // 5, AMOCAS: none none W D Q, then none
     0x00,
     0x00,
     0x03,
@@ -483,7 +483,7 @@ const ATOMICS: [u8; 256] = [
     0x00,
     0x00,
     0x00,
-    // 8: AMOOR
+    // 8, AMOOR: none none W D then none
     0x00,
     0x00,
     0x09,
@@ -519,7 +519,7 @@ const ATOMICS: [u8; 256] = [
     0x00,
     0x00,
     0x00,
-    // 12: AMOAND
+    // 12, AMOAND: none none W D then none
     0x00,
     0x00,
     0x08,
@@ -555,7 +555,7 @@ const ATOMICS: [u8; 256] = [
     0x00,
     0x00,
     0x00,
-    // 16: AMOMIN
+    // 16, AMOMIN: none none W D then none
     0x00,
     0x00,
     0x0A,
@@ -591,7 +591,7 @@ const ATOMICS: [u8; 256] = [
     0x00,
     0x00,
     0x00,
-    // 20: AMOMAX
+    // 20, AMOMAX: none none W D then none
     0x00,
     0x00,
     0x0B,
@@ -627,7 +627,7 @@ const ATOMICS: [u8; 256] = [
     0x00,
     0x00,
     0x00,
-    // 24: AMOMINU
+    // 24, AMOMINU: none none W D then none
     0x00,
     0x00,
     0x0C,
@@ -663,7 +663,7 @@ const ATOMICS: [u8; 256] = [
     0x00,
     0x00,
     0x00,
-    // 28: AMOMAXU
+    // 28, AMOMAXU: none none W D then none
     0x00,
     0x00,
     0x0D,

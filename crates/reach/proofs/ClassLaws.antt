@@ -1,12 +1,10 @@
 -- What the code takes from a word's class is what its instruction has, unless the word always traps. Assumes nothing.
 use mathlib.Core.Path.{_≡_, ap}
 use mathlib.Core.Bool.{_&&_}
-use mathlib.Core.List.{List, [], _∷_}
 use Prim.Native.Nat.{ℕ}
 use lib.Dec.{eqb}
-use borrow.Author.Tests.{eqb-true}
-use Rattle.word.specs.Choose.{Row, _⇒_, select}
-use Rattle.word.proofs.ChooseLaws.{cond-all, cond-cases, select-rows, select-all, _also_}
+use Rattle.word.specs.Choose.{select}
+use Rattle.word.proofs.ChooseLaws.{cond-all, select-rows, select-all, select-keyed, _also_}
 use Rattle.isa.specs.Fields.{bits, rdOf, rs1Of, rs2Of, funct3Of, funct5Of, funct6Of, funct7Of, immI}
 use Rattle.isa.specs.Decode as D
 use Rattle.isa.specs.declared.AluOp.the-variants.{Add}
@@ -37,16 +35,6 @@ Shows c x (Op op rd rs1 rs2) = c ≡ record { rd = shownRd (Op op rd rs1 rs2); a
 Shows c x (Op32 op rd rs1 rs2) = c ≡ record { rd = shownRd (Op32 op rd rs1 rs2); at = writesAt (Op32 op rd rs1 rs2) x }
 Shows c x (Fence rd rs1 imm) = c ≡ record { rd = shownRd (Fence rd rs1 imm); at = writesAt (Fence rd rs1 imm) x }
 Shows c x (Amo m) = c ≡ record { rd = shownRd (Amo m); at = writesAt (Amo m) x }
-
--- what holds of each row whose number the key is, and of the default, holds of what a table gives
-abbrev Keyed : {A B : Type 0} → (B → Type 0) → ℕ → (A → B) → List (Row A) → Type 0
-Keyed P k f [] = Unit {0}
-Keyed P k f ((n ⇒ a) ∷ rows) = (k ≡ n → P (f a)) × Keyed P k f rows
-
-select-keyed : {A B : Type 0} (P : B → Type 0) (k : ℕ) (rows : List (Row A)) (f : A → B) (d : B) → Keyed P k f rows → P d → P (select k rows f d)
-select-keyed P k [] f d r e = e
-select-keyed P k ((n ⇒ a) ∷ rows) f d r e =
-    cond-cases P (eqb k n) (f a) (select k rows f d) (λ t. r .0 (eqb-true k n t)) (λ z. select-keyed P k rows f d (r .1) e)
 
 module _ (w : ℕ) (x : ℕ → ℕ) where
   abbrev c : Reach
@@ -148,4 +136,4 @@ module _ (w : ℕ) (x : ℕ → ℕ) where
       ((λ e. loads (at-class 1 e)) also fences also (λ e. op-imms (at-class 3 e)) also (λ e. at-class 4 e) also (λ e. op-imms-32 (at-class 5 e))
       also stores also (λ e. atomics (at-class 7 e)) also (λ e. ops (at-class 8 e)) also (λ e. at-class 9 e) also (λ e. ops-32 (at-class 10 e))
       also branches also (λ e. jalrs (at-class 12 e)) also (λ e. at-class 13 e) also (λ e. systems) also tt)
-      tt
+      (λ o. tt)

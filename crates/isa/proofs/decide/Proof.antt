@@ -15,11 +15,8 @@ returns : tie.Need-returns
 unfolding decideOf
 returns c = rw (eq-eqb _ _ (c .before .if1 .taken)) (c .atomic .ensures)
 
-load-op-requires : tie.Need-load-op-requires
-load-op-requires c κs = search needs
-
-load-as-requires : tie.Need-load-as-requires
-load-as-requires c κs = search needs
+load-requires : tie.Need-load-requires
+load-requires c κs = search needs
 
 fence-requires : tie.Need-fence-requires
 fence-requires c κs = search needs
@@ -33,11 +30,8 @@ auipc-requires c κs = search needs
 op-imm-32-requires : tie.Need-op-imm-32-requires
 op-imm-32-requires c κs = search needs
 
-store-op-requires : tie.Need-store-op-requires
-store-op-requires c κs = search needs
-
-store-as-requires : tie.Need-store-as-requires
-store-as-requires c κs = search needs
+store-requires : tie.Need-store-requires
+store-requires c κs = search needs
 
 op-requires : tie.Need-op-requires
 op-requires c κs = search needs
@@ -48,11 +42,8 @@ lui-requires c κs = search needs
 op-32-requires : tie.Need-op-32-requires
 op-32-requires c κs = search needs
 
-branch-op-requires : tie.Need-branch-op-requires
-branch-op-requires c κs = search needs
-
-branch-as-requires : tie.Need-branch-as-requires
-branch-as-requires c κs = search needs
+branch-requires : tie.Need-branch-requires
+branch-requires c κs = search needs
 
 jalr-requires : tie.Need-jalr-requires
 jalr-requires c κs = search needs
@@ -65,7 +56,7 @@ system-requires c κs = search needs
 
 returns-2 : tie.Need-returns-2
 unfolding decideOf
-returns-2 c = rw (c .before .before .match .keys1, ← c .before .load-op .ensures) (c .load-as .ensures)
+returns-2 c = rw (c .before .match .keys1) (c .load .ensures)
 
 returns-3 : tie.Need-returns-3
 unfolding decideOf
@@ -85,7 +76,7 @@ returns-6 c = rw (c .before .match .keys5) (c .op-imm-32 .ensures)
 
 returns-7 : tie.Need-returns-7
 unfolding decideOf
-returns-7 c = rw (c .before .before .match .keys6, ← c .before .store-op .ensures) (c .store-as .ensures)
+returns-7 c = rw (c .before .match .keys6) (c .store .ensures)
 
 returns-8 : tie.Need-returns-8
 unfolding decideOf
@@ -101,7 +92,7 @@ returns-10 c = rw (c .before .match .keys9) (c .op-32 .ensures)
 
 returns-11 : tie.Need-returns-11
 unfolding decideOf
-returns-11 c = rw (c .before .before .match .keys10, ← c .before .branch-op .ensures) (c .branch-as .ensures)
+returns-11 c = rw (c .before .match .keys10) (c .branch .ensures)
 
 returns-12 : tie.Need-returns-12
 unfolding decideOf
@@ -127,19 +118,16 @@ decide-spec =
     (tie.spec
     atomic-requires
     returns
-    load-op-requires
-    load-as-requires
+    load-requires
     fence-requires
     op-imm-requires
     auipc-requires
     op-imm-32-requires
-    store-op-requires
-    store-as-requires
+    store-requires
     op-requires
     lui-requires
     op-32-requires
-    branch-op-requires
-    branch-as-requires
+    branch-requires
     jalr-requires
     jal-requires
     system-requires

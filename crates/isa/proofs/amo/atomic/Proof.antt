@@ -2,14 +2,14 @@ use borrow.Author.Needs.{needs}
 use Rattle.isa.proofs.amo.atomic.Statement.{statement}
 use Rattle.isa.proofs.amo.atomic.Tie as tie
 
-atomic-requires : tie.Need-atomic-requires
-atomic-requires c κs = search needs
+atomic-entry-requires : tie.Need-atomic-entry-requires
+atomic-entry-requires c κs = search needs
 
 atomic-by-requires : tie.Need-atomic-by-requires
 atomic-by-requires c κs = search needs
 
 returns : tie.Need-returns
-returns c = rw (← c .before .atomic .ensures) (c .atomic-by .ensures)
+returns c = rw (← c .before .atomic-entry .ensures) (c .atomic-by .ensures)
 
 pub atomic-spec : {M : Type 1} → statement M
-atomic-spec = tie.close (tie.spec atomic-requires atomic-by-requires returns)
+atomic-spec = tie.close (tie.spec atomic-entry-requires atomic-by-requires returns)

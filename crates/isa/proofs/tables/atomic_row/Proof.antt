@@ -1,4 +1,4 @@
-use Rattle.isa.proofs.EntryLaws.{past-rows, atomics-256}
+use Rattle.isa.proofs.EntryLaws.{past-rows, atomic-table-256}
 use Rattle.isa.specs.Tables.{atomicTable}
 use borrow.Author.Needs.{needs}
 use Rattle.isa.proofs.tables.atomic_row.Statement.{statement}
@@ -325,7 +325,7 @@ unfolding atomicTable
 returns-32 c = rw (c .before .before .match .keys32) (c .load-at32 .ensures)
 
 returns-33 : tie.Need-returns-33
-returns-33 c = past-rows atomicTable atomics-256 (c .before .args .c) (c .match .rest)
+returns-33 c = past-rows atomicTable atomic-table-256 (c .before .args .row) (c .match .rest)
 
 pub atomic-row-spec : {M : Type 1} → statement M
 atomic-row-spec =

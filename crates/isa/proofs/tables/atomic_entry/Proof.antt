@@ -1,0 +1,29 @@
+use Prim.Native.Nat.{_/_, _%_}
+use native.Mathlib.Omega.{arith}
+use Rattle.isa.proofs.EntryLaws.{atomic-in-row}
+use borrow.Author.Needs.{needs}
+use Rattle.isa.proofs.tables.atomic_entry.Statement.{statement}
+use Rattle.isa.proofs.tables.atomic_entry.Tie as tie
+
+funct5-requires : tie.Need-funct5-requires
+funct5-requires c κs = search needs
+
+atomic-row-requires : tie.Need-atomic-row-requires
+atomic-row-requires c κs = search needs
+
+funct3-requires : tie.Need-funct3-requires
+funct3-requires c κs = search needs
+
+in-row-requires : tie.Need-in-row-requires
+in-row-requires c κs = search needs
+
+returns : tie.Need-returns
+returns c =
+    let w = c .before .before .before .before .args .word in
+    let f = c .before .funct3 in
+    rw (c .in-row .ensures, c .before .before .atomic-row .ensures, c .before .before .before .funct5 .ensures, ← f .ensures .0)
+    (atomic-in-row (w / 134217728 % 32) (f .result) (omega arith) (f .ensures .1))
+
+pub atomic-entry-spec : {M : Type 1} → statement M
+atomic-entry-spec =
+    tie.close (tie.spec funct5-requires atomic-row-requires funct3-requires in-row-requires returns)
