@@ -1,5 +1,11 @@
-use Prim.Native.Nat.{_/_, _%_}
+use mathlib.Core.Path.{ap, _∙_}
+use Prim.Native.Nat.{ℕ, _*_, _/_, _%_, _^_}
 use native.Mathlib.Omega.{arith}
+use Rattle.word.specs.Bytes.{le}
+use Rattle.word.specs.Memory.{part}
+use Rattle.isa.specs.Fields.{funct5Of}
+use Rattle.isa.specs.Decode.{key}
+use Rattle.isa.specs.Tables.{atomicTable, atomicAt}
 use Rattle.isa.proofs.EntryLaws.{atomic-in-row}
 use borrow.Author.Needs.{needs}
 use Rattle.isa.proofs.tables.atomic_entry.Statement.{statement}
@@ -21,8 +27,10 @@ returns : tie.Need-returns
 returns c =
     let w = c .before .before .before .before .args .word in
     let f = c .before .funct3 in
-    rw (c .in-row .ensures, c .before .before .atomic-row .ensures, c .before .before .before .funct5 .ensures, ← f .ensures .0)
-    (atomic-in-row (w / 134217728 % 32) (f .result) (omega arith) (f .ensures .1))
+    c .in-row .ensures
+    ∙ ap (λ (row : ℕ). row / 2 ^ (f .result * 8) % 256) (c .before .before .atomic-row .ensures ∙ ap (λ (k : ℕ). le (part atomicTable (k * 8) 8)) (c .before .before .before .funct5 .ensures))
+    ∙ atomic-in-row (w / 134217728 % 32) (f .result) (omega arith) (f .ensures .1)
+    ∙ ap (λ (funct3 : ℕ). atomicAt (key (funct5Of w) funct3)) (f .ensures .0)
 
 pub atomic-entry-spec : {M : Type 1} → statement M
 atomic-entry-spec =

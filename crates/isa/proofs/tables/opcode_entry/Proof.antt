@@ -1,5 +1,9 @@
-use Prim.Native.Nat.{_/_, _%_}
+use mathlib.Core.Path.{ap, _∙_}
+use Prim.Native.Nat.{ℕ, _*_, _/_, _%_, _^_}
 use native.Mathlib.Omega.{arith}
+use Rattle.isa.specs.Fields.{bits}
+use Rattle.isa.specs.Decode.{key}
+use Rattle.isa.specs.Tables.{opcodeAt}
 use Rattle.isa.proofs.EntryLaws.{opcode-in-row}
 use borrow.Author.Needs.{needs}
 use Rattle.isa.proofs.tables.opcode_entry.Statement.{statement}
@@ -18,7 +22,10 @@ returns : tie.Need-returns
 returns c =
     let w = c .before .before .before .args .word in
     let f = c .before .funct3 in
-    rw (c .in-row .ensures, c .before .before .opcode-row .ensures, ← f .ensures .0) (opcode-in-row (w / 4 % 32) (f .result) (omega arith) (f .ensures .1))
+    c .in-row .ensures
+    ∙ ap (λ (row : ℕ). row / 2 ^ (f .result * 8) % 256) (c .before .before .opcode-row .ensures)
+    ∙ opcode-in-row (w / 4 % 32) (f .result) (omega arith) (f .ensures .1)
+    ∙ ap (λ (funct3 : ℕ). opcodeAt (key (bits 6 2 w) funct3)) (f .ensures .0)
 
 pub opcode-entry-spec : {M : Type 1} → statement M
 opcode-entry-spec = tie.close (tie.spec opcode-row-requires funct3-requires in-row-requires returns)
