@@ -3,7 +3,6 @@ ghost use mathlib.Core.Path.{_≡_};
 ghost use Prim.Native.Nat.{_≤_, _<_};
 ghost use Rattle.isa.specs.Width.{bitsOf, bytesOf};
 ghost use Rattle.isa.specs.Decode.{decodeOf};
-ghost use Rattle.isa.specs.Tables.{decideOf};
 
 mod amo;
 mod base;
@@ -183,11 +182,15 @@ pub fn bytes_of(w: Width) -> usize
     }
 }
 
-// A word by its entry in the first table. That AMO is asked for apart, before the others, saves time: its instruction alone holds bytes where all others hold
-// numbers.
-fn decide(e: u8, word: u32) -> Instr
-    ensures { λ r. ⌜ r ≡ decideOf e word ⌝ }
+// What a word is; Illegal is every word that document 01 gives cause 2. That AMO is asked for apart, before the others, saves time: its instruction alone holds
+// bytes where all others hold numbers.
+pub fn decode(word: u32) -> Instr
+    ensures { λ r. ⌜ r ≡ decodeOf word ⌝ }
 {
+    if word % 4 != 3 {
+        return Instr::Illegal;
+    }
+    let e = tables::opcode_entry(word);
     if e / 16 == class::AMO {
         return amo::atomic(word);
     }
@@ -206,16 +209,5 @@ fn decide(e: u8, word: u32) -> Instr
         class::JAL => base::jal(word),
         class::SYSTEM => base::system(word),
         _ => Instr::Illegal,
-    }
-}
-
-// What a word is; Illegal is every word that document 01 gives cause 2.
-pub fn decode(word: u32) -> Instr
-    ensures { λ r. ⌜ r ≡ decodeOf word ⌝ }
-{
-    if word % 4 == 3 {
-        decide(tables::opcode_entry(word), word)
-    } else {
-        Instr::Illegal
     }
 }
