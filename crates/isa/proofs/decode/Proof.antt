@@ -39,7 +39,9 @@ returns-2 : tie.Need-returns-2
 unfolding decideOf
 returns-2 c =
     let o = c .before .before .opcode-entry in
-    rw (entered (c .before .before .before .before .args .word) (o .result) (c .before .before .before .if1 .left) (o .ensures), eq-eqb _ _ (c .before .if2 .taken)) (c .atomic .ensures)
+    let w = c .before .before .before .before .args .word in
+    let both = c .before .before .before .if1 .left in
+    rw (entered w (o .result) both (o .ensures), eq-eqb _ _ (c .before .if2 .taken)) (c .atomic .ensures)
 
 load-requires : tie.Need-load-requires
 load-requires c κs = search needs
@@ -84,79 +86,105 @@ returns-3 : tie.Need-returns-3
 unfolding decideOf
 returns-3 c =
     let o = c .before .before .before .opcode-entry in
-    rw (entered (c .before .before .before .before .before .args .word) (o .result) (c .before .before .before .before .if1 .left) (o .ensures), c .before .match .keys1) (c .load .ensures)
+    let w = c .before .before .before .before .before .args .word in
+    let both = c .before .before .before .before .if1 .left in
+    rw (entered w (o .result) both (o .ensures), c .before .match .keys1) (c .load .ensures)
 
 returns-4 : tie.Need-returns-4
 unfolding decideOf
 returns-4 c =
     let o = c .before .before .before .opcode-entry in
-    rw (entered (c .before .before .before .before .before .args .word) (o .result) (c .before .before .before .before .if1 .left) (o .ensures), c .before .match .keys2) (c .fence .ensures)
+    let w = c .before .before .before .before .before .args .word in
+    let both = c .before .before .before .before .if1 .left in
+    rw (entered w (o .result) both (o .ensures), c .before .match .keys2) (c .fence .ensures)
 
 returns-5 : tie.Need-returns-5
 unfolding decideOf
 returns-5 c =
     let o = c .before .before .before .opcode-entry in
-    rw (entered (c .before .before .before .before .before .args .word) (o .result) (c .before .before .before .before .if1 .left) (o .ensures), c .before .match .keys3) (c .op-imm .ensures)
+    let w = c .before .before .before .before .before .args .word in
+    let both = c .before .before .before .before .if1 .left in
+    rw (entered w (o .result) both (o .ensures), c .before .match .keys3) (c .op-imm .ensures)
 
 returns-6 : tie.Need-returns-6
 unfolding decideOf
 returns-6 c =
     let o = c .before .before .before .opcode-entry in
-    rw (entered (c .before .before .before .before .before .args .word) (o .result) (c .before .before .before .before .if1 .left) (o .ensures), c .before .match .keys4) (c .auipc .ensures)
+    let w = c .before .before .before .before .before .args .word in
+    let both = c .before .before .before .before .if1 .left in
+    rw (entered w (o .result) both (o .ensures), c .before .match .keys4) (c .auipc .ensures)
 
 returns-7 : tie.Need-returns-7
 unfolding decideOf
 returns-7 c =
     let o = c .before .before .before .opcode-entry in
-    rw (entered (c .before .before .before .before .before .args .word) (o .result) (c .before .before .before .before .if1 .left) (o .ensures), c .before .match .keys5) (c .op-imm-32 .ensures)
+    let w = c .before .before .before .before .before .args .word in
+    let both = c .before .before .before .before .if1 .left in
+    rw (entered w (o .result) both (o .ensures), c .before .match .keys5) (c .op-imm-32 .ensures)
 
 returns-8 : tie.Need-returns-8
 unfolding decideOf
 returns-8 c =
     let o = c .before .before .before .opcode-entry in
-    rw (entered (c .before .before .before .before .before .args .word) (o .result) (c .before .before .before .before .if1 .left) (o .ensures), c .before .match .keys6) (c .store .ensures)
+    let w = c .before .before .before .before .before .args .word in
+    let both = c .before .before .before .before .if1 .left in
+    rw (entered w (o .result) both (o .ensures), c .before .match .keys6) (c .store .ensures)
 
 returns-9 : tie.Need-returns-9
 unfolding decideOf
 returns-9 c =
     let o = c .before .before .before .opcode-entry in
-    rw (entered (c .before .before .before .before .before .args .word) (o .result) (c .before .before .before .before .if1 .left) (o .ensures), c .before .match .keys7) (c .op .ensures)
+    let w = c .before .before .before .before .before .args .word in
+    let both = c .before .before .before .before .if1 .left in
+    rw (entered w (o .result) both (o .ensures), c .before .match .keys7) (c .op .ensures)
 
 returns-10 : tie.Need-returns-10
 unfolding decideOf
 returns-10 c =
     let o = c .before .before .before .opcode-entry in
-    rw (entered (c .before .before .before .before .before .args .word) (o .result) (c .before .before .before .before .if1 .left) (o .ensures), c .before .match .keys8) (c .lui .ensures)
+    let w = c .before .before .before .before .before .args .word in
+    let both = c .before .before .before .before .if1 .left in
+    rw (entered w (o .result) both (o .ensures), c .before .match .keys8) (c .lui .ensures)
 
 returns-11 : tie.Need-returns-11
 unfolding decideOf
 returns-11 c =
     let o = c .before .before .before .opcode-entry in
-    rw (entered (c .before .before .before .before .before .args .word) (o .result) (c .before .before .before .before .if1 .left) (o .ensures), c .before .match .keys9) (c .op-32 .ensures)
+    let w = c .before .before .before .before .before .args .word in
+    let both = c .before .before .before .before .if1 .left in
+    rw (entered w (o .result) both (o .ensures), c .before .match .keys9) (c .op-32 .ensures)
 
 returns-12 : tie.Need-returns-12
 unfolding decideOf
 returns-12 c =
     let o = c .before .before .before .opcode-entry in
-    rw (entered (c .before .before .before .before .before .args .word) (o .result) (c .before .before .before .before .if1 .left) (o .ensures), c .before .match .keys10) (c .branch .ensures)
+    let w = c .before .before .before .before .before .args .word in
+    let both = c .before .before .before .before .if1 .left in
+    rw (entered w (o .result) both (o .ensures), c .before .match .keys10) (c .branch .ensures)
 
 returns-13 : tie.Need-returns-13
 unfolding decideOf
 returns-13 c =
     let o = c .before .before .before .opcode-entry in
-    rw (entered (c .before .before .before .before .before .args .word) (o .result) (c .before .before .before .before .if1 .left) (o .ensures), c .before .match .keys11) (c .jalr .ensures)
+    let w = c .before .before .before .before .before .args .word in
+    let both = c .before .before .before .before .if1 .left in
+    rw (entered w (o .result) both (o .ensures), c .before .match .keys11) (c .jalr .ensures)
 
 returns-14 : tie.Need-returns-14
 unfolding decideOf
 returns-14 c =
     let o = c .before .before .before .opcode-entry in
-    rw (entered (c .before .before .before .before .before .args .word) (o .result) (c .before .before .before .before .if1 .left) (o .ensures), c .before .match .keys12) (c .jal .ensures)
+    let w = c .before .before .before .before .before .args .word in
+    let both = c .before .before .before .before .if1 .left in
+    rw (entered w (o .result) both (o .ensures), c .before .match .keys12) (c .jal .ensures)
 
 returns-15 : tie.Need-returns-15
 unfolding decideOf
 returns-15 c =
     let o = c .before .before .before .opcode-entry in
-    rw (entered (c .before .before .before .before .before .args .word) (o .result) (c .before .before .before .before .if1 .left) (o .ensures), c .before .match .keys13) (c .system .ensures)
+    let w = c .before .before .before .before .before .args .word in
+    let both = c .before .before .before .before .if1 .left in
+    rw (entered w (o .result) both (o .ensures), c .before .match .keys13) (c .system .ensures)
 
 returns-16 : tie.Need-returns-16
 unfolding decideOf
