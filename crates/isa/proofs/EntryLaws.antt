@@ -68,7 +68,7 @@ pub rules : (k : ℕ) → k < 256
     → ((getD opcodeTable k 0 ≡ opcodeAt k) × (getD opcodeTable k 0 < 256)) × ((getD atomicTable k 0 ≡ atomicAt k) × (getD atomicTable k 0 < 256))
 rules k h = (told opcodeAt k (getD opcodeTable k 0) (opcode-test k h .0), told atomicAt k (getD atomicTable k 0) (atomic-test k h))
 
--- the first table refines the 32 classes: an entry's upper digit is its row's class, or the entry is 0 and there the class has no instruction ..
+-- the first table refines the 32 classes: an entry's upper digit is its row's class, or the entry is 0 ..
 pub refine-classes : (k : ℕ) → k < 256 → (getD opcodeTable k 0 / 16 ≡ classAt (k / 8)) ⊎ (getD opcodeTable k 0 ≡ 0)
 refine-classes k h =
     ⊎-elim (λ t. inl (eqb→eq (getD opcodeTable k 0 / 16) (classAt (k / 8)) t))

@@ -34,7 +34,7 @@ use Rattle.isa.specs.declared.Width.the-variants.{Word, Double}
 use Rattle.isa.specs.declared.Instr.{Instr}
 use Rattle.isa.specs.declared.Instr.the-variants.{Illegal, Jalr, OpImm32, Fence}
 
--- ---- funct7 without a branch on it, as the code has it: equal, by one computation over all n and funct7
+-- ---- funct7 as the code reads it, which adds a bit to the operation: equal, by one computation over all n below 16 and funct7 below 128
 
 abbrev pub kept : ℕ → ℕ → Bool
 kept n f7 = eqb f7 (f7 / 32 % 2 * 32) && leb (f7 / 32 % 2) (0x41 / 2 ^ n % 2)

@@ -111,7 +111,7 @@ none = 15
 -- ---- the first table: over bits 6 to 2 with funct3
 
 -- the operation of a class and funct3, or none. Of those that funct7 or funct6 decide too, the one where it is 0, whose key is funct3; OP-IMM has
--- OP's numbers. 0 at every funct3 where the class has one instruction, and where more than funct3 is needed: of AMO and of SYSTEM
+-- OP's numbers. 0 at every funct3 where funct3 decides nothing (AUIPC, LUI, JAL) and where all is decided behind the table (AMO, SYSTEM)
 abbrev pub numbers : List (Row (ℕ → ℕ))
 numbers =
     LOAD ⇒ (λ f. select f loads loadNumber none) ∷

@@ -182,8 +182,8 @@ pub fn bytes_of(w: Width) -> usize
     }
 }
 
-// What a word is; Illegal is every word that document 01 gives cause 2. That AMO is asked for apart, before the others, saves time: its instruction alone holds
-// bytes where all others hold numbers.
+// What a word is; Illegal is every word that document 01 gives cause 2. That AMO is asked for apart, before the others, saves time: in memory its instruction
+// has fields of one byte where every other has a number of 8, and one match that made both would have the compiler merge the two layouts for every word.
 pub fn decode(word: u32) -> Instr
     ensures { λ r. ⌜ r ≡ decodeOf word ⌝ }
 {

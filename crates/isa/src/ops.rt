@@ -17,7 +17,7 @@ pub const SLL: u8 = 2;
 
 pub const SRL: u8 = 6;
 
-// No operation of the first table's.
+// What `with_funct7` gives where there is no operation.
 pub const NONE: u8 = 15;
 
 // Of atomics.
@@ -81,7 +81,7 @@ pub fn alu_op(n: u8) -> AluOp
 }
 
 // The operation of an entry with funct7, or NONE. 0x41 has the bits of ADD and of SRL: these alone have a second operation, SUB and SRA, at funct7 0x20, and
-// its number is one more. There is no branch on funct7, which is hard to foresee where ADD and SUB mix.
+// its number is one more. Which of the two it is is added: a branch there can hardly be foreseen where ADD and SUB mix.
 pub fn with_funct7(n: u8, funct7: u32) -> u8
     requires { ⌜ (n < 16) × (funct7 < 128) ⌝ }
     ensures { λ r. ⌜ r ≡ withFunct7 n funct7 ⌝ }

@@ -117,7 +117,8 @@ pub fn atomic_entry(word: u32) -> u8
 }
 
 // A row for each value of bits 6 to 2, and in it an entry for each funct3. The upper digit is the class, as `class` numbers it; the lower one the operation,
-// as `ops` numbers it: of those that funct7 or funct6 decide too, the first of the two. 0 is none: no word there has an instruction.
+// as `ops` numbers it, and 0 where the class has none; where funct7 or funct6 decides too, the operation that it has at 0. An entry of 0 says that no word
+// there has an instruction.
 const OPCODE_TABLE: [u8; 256] = [
     // 0, LOAD: LB LH LW LD LBU LHU LWU none
     0x10,

@@ -23,12 +23,16 @@ funct3-requires c κs = search needs
 in-row-requires : tie.Need-in-row-requires
 in-row-requires c κs = search needs
 
+atomic-row : ℕ → ℕ
+atomic-row k = le (part atomicTable (k * 8) 8)
+
 returns : tie.Need-returns
+unfolding atomic-row
 returns c =
     let w = c .before .before .before .before .args .word in
     let f = c .before .funct3 in
     c .in-row .ensures
-    ∙ ap (λ (row : ℕ). row / 2 ^ (f .result * 8) % 256) (c .before .before .atomic-row .ensures ∙ ap (λ (k : ℕ). le (part atomicTable (k * 8) 8)) (c .before .before .before .funct5 .ensures))
+    ∙ ap (λ (row : ℕ). row / 2 ^ (f .result * 8) % 256) (c .before .before .atomic-row .ensures ∙ ap atomic-row (c .before .before .before .funct5 .ensures))
     ∙ atomic-in-row (w / 134217728 % 32) (f .result) (omega arith) (f .ensures .1)
     ∙ ap (λ (funct3 : ℕ). atomicAt (key (funct5Of w) funct3)) (f .ensures .0)
 
