@@ -27,7 +27,8 @@ unfolding byTables
 returns c =
     let w = c .before .args .word in
     let low : w / 1 ≡ w = omega arith in
-    rw (by-tables w, low, ne-eqb _ _ (c .if1 .taken))
+    let apart : w % 4 ≡ 3 → ⊥ = c .if1 .taken in
+    rw (by-tables w, low, ne-eqb _ _ apart)
 
 opcode-entry-requires : tie.Need-opcode-entry-requires
 opcode-entry-requires c κs = search needs

@@ -1,8 +1,6 @@
-use mathlib.Core.Path.{sym, ap, _∙_}
-use mathlib.Core.Bool.{Bool, cond}
-use Prim.Native.Nat.{ℕ, _+_, _/_, _%_}
-use Rattle.isa.specs.Tables.{none}
-use Rattle.isa.proofs.TablesLaws.{with-bit}
+use mathlib.Core.Path.{_≡_}
+use mathlib.Core.Bool.{true, false}
+use Rattle.isa.proofs.TablesLaws.{kept, with-bit}
 use borrow.Author.Needs.{needs}
 use Rattle.isa.proofs.ops.with_funct7.Statement.{statement}
 use Rattle.isa.proofs.ops.with_funct7.Tie as tie
@@ -19,21 +17,17 @@ cast-result c = search needs
 add-result : tie.Need-add-result
 add-result c = search needs
 
--- what the code gives where its test says t
-given : (n f7 : ℕ) → Bool → ℕ
-given n f7 t = cond t (n + f7 / 32 % 2) none
-
 returns : tie.Need-returns
-unfolding given
 returns c =
     let a = c .before .args in
-    sym (ap (given (a .n) (a .funct7)) (c .if1 .taken)) ∙ with-bit (a .n) (a .funct7) (c .before .pre .0) (c .before .pre .1)
+    let passed : kept (a .n) (a .funct7) ≡ true = c .if1 .taken in
+    rw (← with-bit (a .n) (a .funct7) (c .before .pre .0) (c .before .pre .1), passed)
 
 returns-2 : tie.Need-returns-2
-unfolding given
 returns-2 c =
     let a = c .before .args in
-    sym (ap (given (a .n) (a .funct7)) (c .if1 .left)) ∙ with-bit (a .n) (a .funct7) (c .before .pre .0) (c .before .pre .1)
+    let failed : kept (a .n) (a .funct7) ≡ false = c .if1 .left in
+    rw (← with-bit (a .n) (a .funct7) (c .before .pre .0) (c .before .pre .1), failed)
 
 pub with-funct7-spec : {M : Type 1} → statement M
 with-funct7-spec = tie.close (tie.spec mul-if1 shr-if1 cast-result add-result returns returns-2)
