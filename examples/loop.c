@@ -1,5 +1,5 @@
-/* Says whether a retry loop is accepted: loop [VERSION] < WORDS. VERSION is that of A, 20 for 2.0 or 21 for 2.1; without it
- * 2.1. From the repository's root:
+/* Says whether a retry loop is accepted: loop [VERSION [KIND]] < WORDS. VERSION is that of A, 20 for 2.0 or 21 for 2.1;
+ * without it 2.1. KIND is that of the core, 0 for 64 bits or 1 for 32; without it 64. From the repository's root:
  *
  *   rt staticlib capi
  *   cc -Wall -Wextra -Iinclude examples/loop.c target/staticlib/libcapi.a -o target/loop
@@ -20,7 +20,7 @@ static int written(void)
 }
 
 /* Reads a decimal number: 1, or 0 if the text is none. One of more than 64 bits becomes the largest that there is, which is
- * no version either. */
+ * no version and no kind either. */
 static int read_number(const char *text, uint64_t *number)
 {
     *number = 0;
@@ -35,9 +35,9 @@ static int read_number(const char *text, uint64_t *number)
 
 int main(int argc, char **argv)
 {
-    uint64_t version = FLOECAVERN_A_2_1;
-    if (argc > 2 || (argc == 2 && !read_number(argv[1], &version))) {
-        fprintf(stderr, "usage: loop [VERSION] < WORDS\n");
+    uint64_t version = FLOECAVERN_A_2_1, kind = FLOECAVERN_KIND_64;
+    if (argc > 3 || (argc > 1 && !read_number(argv[1], &version)) || (argc > 2 && !read_number(argv[2], &kind))) {
+        fprintf(stderr, "usage: loop [VERSION [KIND]] < WORDS\n");
         return 2;
     }
     /* A word more than a block may have: a longer one is refused whatever its words, so that the rest is only counted. */
@@ -54,7 +54,7 @@ int main(int argc, char **argv)
         printf("bad input: length is not a multiple of 4\n");
         return written();
     }
-    floecavern_verdict verdict = floecavern_check_words_for(version, words, total / 4 > 17 ? 17 : total / 4);
+    floecavern_verdict verdict = floecavern_check_words_for(version, kind, words, total / 4 > 17 ? 17 : total / 4);
     if (verdict.refusal != FLOECAVERN_REFUSAL_NONE)
         printf("refused %d\n", (int)verdict.refusal);
     else if (verdict.reason != FLOECAVERN_REASON_NONE)

@@ -41,12 +41,13 @@ static uint32_t field(const uint8_t *bytes)
     return number;
 }
 
-/* Starts the machine of a case file that isn't refused, with the file's own bytes as its memory. */
+/* Starts the machine of a case file that isn't refused, of the case's kind and with the file's own bytes as its memory. */
 static floecavern_refusal start(uint8_t *file)
 {
     const uint8_t *harts = file + 40;
-    floecavern_refusal refusal = floecavern_machine_start(&machine, field(harts + 8), floecavern_number(harts),
-                                                          file + field(file + 20), field(file + 24));
+    floecavern_refusal refusal = floecavern_machine_start_kind(&machine, field(harts + 12), field(harts + 8),
+                                                               floecavern_number(harts), file + field(file + 20),
+                                                               field(file + 24));
     for (uint64_t h = 0; h < machine.state.count; h++) {
         for (int r = 1; r < 32; r++)
             machine.state.x[h][r] = floecavern_number(harts + 16 + 256 * h + 8 * (r - 1));

@@ -30,9 +30,9 @@
  * thing: FLOECAVERN_A_2_0 and FLOECAVERN_A_2_1, below.) The library has to be of the same one: a state may have another
  * size in another version, and a state of a wrong size is answered FLOECAVERN_BAD_SIZE. The typed form makes of that a
  * refusal whose text is "no refusal of the model", first of all in floecavern_machine_start. */
-#define FLOECAVERN_VERSION "0.7.0"
+#define FLOECAVERN_VERSION "0.8.0"
 #define FLOECAVERN_VERSION_MAJOR 0
-#define FLOECAVERN_VERSION_MINOR 7
+#define FLOECAVERN_VERSION_MINOR 8
 #define FLOECAVERN_VERSION_PATCH 0
 
 /* A condition that must hold where this is compiled: name is an identifier that no other assertion has. */
@@ -57,6 +57,12 @@ extern "C" {
 #define FLOECAVERN_A_2_0 20
 #define FLOECAVERN_A_2_1 21
 
+/* The kinds of core that the model has: registers and addresses of 64 bits, or of 32. A state says which one its machine
+ * is, and so does a case file; the default is the 64-bit one. What the 32-bit one is stands with the state, below. (The
+ * type floecavern_kind is another thing: what an event came to.) */
+#define FLOECAVERN_KIND_64 0
+#define FLOECAVERN_KIND_32 1
+
 /* The room that a report needs, in bytes. */
 #define FLOECAVERN_REPORT_ROOM 262144
 
@@ -68,7 +74,8 @@ extern "C" {
  *
  * A case file; numbers have their lowest byte first:
  *   at 0          the number 3, and of each body, kinds 1, 2 and 3, its kind, offset and length: 4 bytes each
- *   kind 1        harts: base (8 bytes), count of harts (4), zero (4); of each hart x1 to x31 and pc (8 bytes each)
+ *   kind 1        harts: base (8 bytes), count of harts (4), kind of core (4); of each hart x1 to x31 and pc (8 bytes
+ *                 each)
  *   kind 2        memory: its bytes
  *   kind 3        events: 24 bytes each, as for floecavern_run
  * The bodies follow one another without a gap from 40 to the end of the file. No hart starts with a reservation, a
@@ -76,8 +83,9 @@ extern "C" {
  *
  * Refusals, in the order they are tried, and the place, counted from the file's first byte: 7 the length is not 40 to
  * 65536 (0); 8 the table is wrong (its first wrong field; 36 if the last body does not end the file); 9 the harts body:
- * its length, count, zero, base or a pc (40); 10 the memory's length is not 64 or more and a multiple of 64 (its start);
- * 11 the events' length is not a multiple of 24 (their start), or an event is wrong (the event's start).
+ * its length, count, kind of core, base or a pc, or, of a 32-bit core, the upper half of a register or a pc (40); 10 the
+ * memory's length is not 64 or more and a multiple of 64, or, of a 32-bit core, base plus length is above 2^32 (its
+ * start); 11 the events' length is not a multiple of 24 (their start), or an event is wrong (the event's start).
  *
  * Lines: `case H harts B bytes E events`; for event N `N hH ok`, `N hH sc 0`, `N hH sc 1`, `N hH trap CAUSE VALUE`,
  * `N d ok` or `N yH ok`; `end E`. Where the event broke reservations, `N hH ok`, `N hH sc 0` and `N d ok` have
@@ -89,7 +97,7 @@ extern "C" {
  */
 uint64_t floecavern_report(const uint8_t *file, size_t file_len, uint8_t *out, size_t out_len);
 
-/* Whether a block of instruction words is a retry loop that is accepted under A 2.1.
+/* Whether a block of instruction words is a retry loop that is accepted under A 2.1, read as the 64-bit core reads them.
  *
  * words, words_len   the words, 4 bytes each, the lowest byte first; words_len counts bytes
  *
@@ -108,23 +116,28 @@ uint64_t floecavern_report(const uint8_t *file, size_t file_len, uint8_t *out, s
  */
 uint64_t floecavern_check_loop(const uint8_t *words, size_t words_len);
 
-/* The same under a version of A: FLOECAVERN_A_2_0 or FLOECAVERN_A_2_1.
+/* The same under a version of A, FLOECAVERN_A_2_0 or FLOECAVERN_A_2_1, and read as a kind of core reads them,
+ * FLOECAVERN_KIND_64 or FLOECAVERN_KIND_32.
  *
  * Under 2.0 reason 2 does not apply to a JALR. Before the first SC reason 4 applies to its rd, as to that of any word
- * there; a JALR is no jump of reason 3. So the blocks that are accepted under 2.1 are exactly those that are accepted
- * under 2.0 and have no JALR. That an accepted loop finishes if it is left alone is proved of these blocks, on a machine of
- * either version; of a block with a JALR it is not claimed.
+ * there; a JALR is no jump of reason 3. So, of each kind, the blocks that are accepted under 2.1 are exactly those that are
+ * accepted under 2.0 and have no JALR. That an accepted loop finishes if it is left alone is proved of these blocks, on a
+ * machine of the kind that they were read as, of either version; of a block with a JALR it is not claimed.
+ *
+ * Of the 32-bit kind the words are those of RV32I, LR.W and SC.W. So an LR.D at place 0 is reason 1; a later SC.D, LR.D,
+ * OP-32 or OP-IMM-32 word or a shift by 32 or more is reason 2, and an SC.D is not the first SC.
  *
  * Answers, the first that applies of
  *   FLOECAVERN_BAD_SIZE                   words_len is not a multiple of 4
- *   FLOECAVERN_LOOP_SETTING_REFUSED (2)   the version is neither of the two: refusal 2
+ *   FLOECAVERN_LOOP_SETTING_REFUSED (2)   the version or the kind is neither of the two: refusal 2
  *   FLOECAVERN_LOOP_REFUSED (6)           the block has fewer than 2 or more than 16 words: refusal 6
  *   256 * (place + 1) + reason            it is rejected, as above
  *   FLOECAVERN_LOOP_ACCEPTED (0)          it is accepted
  *
- * A later version of this interface may add arguments to this function, such as a kind of core; floecavern_check_loop
- * stays as it is. */
-uint64_t floecavern_check_loop_for(uint64_t version, const uint8_t *words, size_t words_len);
+ * Before version 0.8.0 this function had no kind: the library has to be of this header's version, and no answer of this
+ * function tells that it is not. A later version of this interface may add arguments again; floecavern_check_loop stays as
+ * it is. */
+uint64_t floecavern_check_loop_for(uint64_t version, uint64_t kind, const uint8_t *words, size_t words_len);
 
 #define FLOECAVERN_LOOP_ACCEPTED 0
 #define FLOECAVERN_LOOP_SETTING_REFUSED 2
@@ -136,7 +149,7 @@ uint64_t floecavern_check_loop_for(uint64_t version, const uint8_t *words, size_
 
 /* ---- A machine of one's own ---- */
 
-/* The state of the machine: 2328 bytes. A function that takes a state takes these bytes, as (uint8_t *)&state and
+/* The state of the machine: 2336 bytes. A function that takes a state takes these bytes, as (uint8_t *)&state and
  * sizeof state; every number has 8 bytes, the lowest first, as x86-64 keeps them.
  *
  *   offset   field
@@ -148,6 +161,18 @@ uint64_t floecavern_check_loop_for(uint64_t version, const uint8_t *words, size_
  *            (4 or 8) at addr made
  *     2312   set_size: how many bytes the set of a reservation has, of every hart: a power of two from 8 to 4096
  *     2320   version: that of A which the machine follows: FLOECAVERN_A_2_0 (20) or FLOECAVERN_A_2_1 (21)
+ *     2328   kind: that of the core: FLOECAVERN_KIND_64 (0) or FLOECAVERN_KIND_32 (1)
+ *
+ * A machine of the 32-bit kind. Registers, pcs and addresses have 32 bits, and sums of them are taken modulo 2^32. They
+ * are kept as numbers of 64 bits whose upper half is zero, so that -1 in a register is 0xffffffff: of a hart below the
+ * count any other register or pc is refused by 2. Every event keeps the upper halves zero, and the value of a trap has a
+ * zero upper half too. The words are those of RV32I, LR.W, SC.W, the W AMOs, AMOCAS.W, and AMOCAS.D on pairs of
+ * registers, an even one and the one above it: the 8 bytes, at a multiple of 8, are compared with the pair of rd, whose
+ * even register is the lower 4 of them, and replaced by the pair of rs2 if they are equal; the pair of rd gets what was
+ * there. The pair of x0 is zero, whatever x1 holds, and is not written. Every other word is cause 2: so are LD, LWU, SD,
+ * OP-32 and OP-IMM-32, shifts by 32 or more, LR.D, SC.D, the D AMOs, AMOCAS.D with an odd rd or rs2, and AMOCAS.Q. A
+ * reservation is 4 wide: a width of 8 is refused by 2. The memory ends at 2^32 or below: base plus length above that is
+ * refused by 1. Versions of A, set sizes and device writes, of up to 8 bytes, are as with the 64-bit kind.
  *
  * A start without reservations is FLOECAVERN_STATE_INIT, or what floecavern_state_start writes, with count, registers and
  * pcs filled in. A state of zeros is no start: its set size is 0, and so it is refused by 1. A later version may have more
@@ -165,26 +190,28 @@ typedef struct {
     floecavern_reservation reservation[8];
     uint64_t set_size;
     uint64_t version;
+    uint64_t kind;
 } floecavern_state;
 
-#define FLOECAVERN_STATE_SIZE 2328
+#define FLOECAVERN_STATE_SIZE 2336
 
 /* The set size that a state has by default, and that the machine of a case file always has. */
 #define FLOECAVERN_SET_SIZE 64
 
 /* A state with the defaults, to begin one with: floecavern_state state = FLOECAVERN_STATE_INIT; It has no harts yet: a
  * count of 0, which is refused by 2. */
-#define FLOECAVERN_STATE_INIT {0, {{0}}, {0}, {{0, 0, 0}}, FLOECAVERN_SET_SIZE, FLOECAVERN_A_2_1}
+#define FLOECAVERN_STATE_INIT {0, {{0}}, {0}, {{0, 0, 0}}, FLOECAVERN_SET_SIZE, FLOECAVERN_A_2_1, FLOECAVERN_KIND_64}
 
-FLOECAVERN_ASSERT(a_state_is_2328_bytes, sizeof(floecavern_state) == FLOECAVERN_STATE_SIZE);
+FLOECAVERN_ASSERT(a_state_is_2336_bytes, sizeof(floecavern_state) == FLOECAVERN_STATE_SIZE);
 FLOECAVERN_ASSERT(x_stands_at_8, offsetof(floecavern_state, x) == 8);
 FLOECAVERN_ASSERT(pc_stands_at_2056, offsetof(floecavern_state, pc) == 2056);
 FLOECAVERN_ASSERT(reservations_stand_at_2120, offsetof(floecavern_state, reservation) == 2120);
 FLOECAVERN_ASSERT(set_size_stands_at_2312, offsetof(floecavern_state, set_size) == 2312);
 FLOECAVERN_ASSERT(version_stands_at_2320, offsetof(floecavern_state, version) == 2320);
+FLOECAVERN_ASSERT(kind_stands_at_2328, offsetof(floecavern_state, kind) == 2328);
 
 /* The memory is the caller's bytes: mem_len of them, 64 to 1048576, at the address base, at most 2^40. Both are multiples
- * of 64, and of the state's set_size where that is larger.
+ * of 64, and of the state's set_size where that is larger. Of the 32-bit kind base plus mem_len is at most 2^32.
  *
  * What an event is answered:
  *
@@ -193,27 +220,28 @@ FLOECAVERN_ASSERT(version_stands_at_2320, offsetof(floecavern_state, version) ==
  *   FLOECAVERN_SC_FAILED (2)    a step that retired an SC, which failed
  *   256 + cause                 the step trapped: FLOECAVERN_IS_TRAP, FLOECAVERN_CAUSE
  *   512 + number                it is refused: FLOECAVERN_IS_REFUSAL, FLOECAVERN_NUMBER
- *   FLOECAVERN_BAD_SIZE         state_len is not 2328 or value_len is not 8
+ *   FLOECAVERN_BAD_SIZE         state_len is not 2336 or value_len is not 8
  *
  * Causes, and the value with each: 0 a jump or taken branch to a target that is not a multiple of 4 (the target); 1 the
- * word at pc is not wholly in memory (pc); 2 the word is no instruction of the model (the word); 3 EBREAK (0); 4 a
+ * word at pc is not wholly in memory (pc); 2 the word is no instruction of the core (the word); 3 EBREAK (0); 4 a
  * misaligned load or LR, 5 an aligned one not wholly in memory (the address); 6 a misaligned store, SC, AMO or AMOCAS,
  * 7 an aligned store, SC, AMO or AMOCAS not wholly in memory, SC also without a reservation, AMOCAS also where it would
  * not write (the address); 8 ECALL (0). A trap changes nothing: an SC that traps leaves its hart's reservation.
  *
  * Refusals, in the order they are tried: 1 the set size breaks the rules above, or else the length of memory or the base
- * does; 2 so does the rest of the state: its count or its version; or, of a hart below the count, x0 is not 0, pc is not
- * a multiple of 4, or the reservation's width is not 4 or 8, its address not aligned to that, or its bytes not in memory;
- * 3 the hart is not below the count; 4 a device write of 0 or more than 8 bytes; 5 one not wholly in memory; 11, of a run
- * alone: its events; 12 and 13, of a replay alone: its log.
+ * does, or else, of the 32-bit kind, their sum; 2 so does the rest of the state: its count, its version or its kind; or,
+ * of a hart below the count, x0 is not 0, pc is not a multiple of 4, or the reservation's width is not 4 or 8, its
+ * address not aligned to that, or its bytes not in memory; or, of the 32-bit kind, a register or the pc has an upper half
+ * that is not zero, or the reservation is 8 wide; 3 the hart is not below the count; 4 a device write of 0 or more than 8
+ * bytes; 5 one not wholly in memory; 11, of a run alone: its events; 12 and 13, of a replay alone: its log.
  *
- * What is written. value gets 8 bytes, the lowest first: of a retired event, answers 0 to 2, the harts whose
- * reservation it broke, bit 0 for hart 0, so 0 where it broke none; of a trap, the trap's value; of a refusal, 0. A
- * retired event changes state and memory as the model says: of the state, the registers and the pcs, and each used
- * hart's reservation, of which it writes held 1, addr and width, or three zeros, also where it is as before. The count,
- * the set size and the version never change, and no byte of a hart at or above the count. An answer of 256 or more to an
- * event or a run leaves every byte of state and memory as it was; FLOECAVERN_BAD_SIZE leaves value too. After each call
- * the bytes mean the state that the model's answer has, so calls one after another perform events one after another
+ * What is written. value gets 8 bytes, the lowest first: of a retired event, answers 0 to 2, the harts whose reservation
+ * it broke, bit 0 for hart 0, so 0 where it broke none; of a trap, the trap's value; of a refusal, 0. A retired event
+ * changes state and memory as the model says: of the state, the registers and the pcs, and each used hart's reservation,
+ * of which it writes held 1, addr and width, or three zeros, also where it is as before. The count, the set size, the
+ * version and the kind never change, and no byte of a hart at or above the count. An answer of 256 or more to an event or
+ * a run leaves every byte of state and memory as it was; FLOECAVERN_BAD_SIZE leaves value too. After each call the bytes
+ * mean the state that the model's answer has, so calls one after another perform events one after another
  * (crates/capi_means/proofs/Means.antt).
  *
  * Whose reservation is broken. A retired write of a hart (a store, an AMO, an equal AMOCAS, an SC that stored) breaks a
@@ -269,9 +297,9 @@ uint64_t floecavern_yield(uint8_t *state, size_t state_len, uint64_t base, uint8
  *   512 + number               the run is refused, and state and memory are as they were: 1 or 2 as above; 11 if events
  *                              is no multiple of 24 bytes (place 0) or an event's kind, hart, size, address or zeros are
  *                              wrong (the place of the first such event), also beyond the budget
- *   FLOECAVERN_BAD_SIZE        state_len is not 2328 or ran_len is not 16: nothing is written
+ *   FLOECAVERN_BAD_SIZE        state_len is not 2336 or ran_len is not 16: nothing is written
  *
- * To perform n events costs less by one run than by n calls: each call reads the 2328 bytes and writes them. */
+ * To perform n events costs less by one run than by n calls: each call reads the 2336 bytes and writes them. */
 uint64_t floecavern_run(uint8_t *state, size_t state_len, uint64_t base, uint8_t *mem, size_t mem_len,
                         const uint8_t *events, size_t events_len, size_t budget, uint8_t *ran, size_t ran_len);
 
@@ -282,7 +310,8 @@ uint64_t floecavern_run(uint8_t *state, size_t state_len, uint64_t base, uint8_t
  * log, log_len     48 bytes a row: `H PPPPPPPPPPPPPPPP WWWWWWWW DD VVVVVVVVVVVVVVVV` and a line feed. The hart, one decimal
  *                  digit; its pc and the word there, lower-case hex digits; rd, two decimal digits, and the value in rd
  *                  after the step, hex digits. rd is 00 and its value zero where the word has no rd, as FENCE, a branch
- *                  or a store; of a pair it is the first register. A log has no greatest length
+ *                  or a store; of a pair it is the first register. pc and value have 16 digits for a 32-bit core too, the
+ *                  upper 8 of them zeros in a row that agrees. A log has no greatest length
  * told, told_len   24 bytes, which get three numbers of 8 bytes, the lowest first: how many rows there are before the
  *                  stop, which is the number of the row that stopped it, from 0; the board's value; the model's value
  *
@@ -296,7 +325,7 @@ uint64_t floecavern_run(uint8_t *state, size_t state_len, uint64_t base, uint8_t
  *   FLOECAVERN_STOP_VALUE (5)    its value is not what rd holds after the step (the row's value, what rd holds)
  *   512 + number                 the replay is refused, and state and memory are as they were: 1 or 2 as above; 12 the
  *                                log is no multiple of 48 bytes; 13 it has no rows (0, 0, behind 0 rows)
- *   FLOECAVERN_BAD_SIZE          state_len is not 2328 or told_len is not 24: nothing is written
+ *   FLOECAVERN_BAD_SIZE          state_len is not 2336 or told_len is not 24: nothing is written
  *
  * A stop, also one by a trap, is no refusal: state and memory are then written as after exactly the rows before it, and
  * with FLOECAVERN_STOP_AGREED as after all of them. What the bytes mean afterwards is the state that the model's replay
@@ -397,7 +426,7 @@ FLOECAVERN_INLINE const char *floecavern_refusal_text(uint64_t refusal)
     switch (refusal) {
     case 0: return "not refused";
     case 1: return "the set size or the memory's length or base is wrong";
-    case 2: return "the version of A or the state is wrong";
+    case 2: return "the version of A, the kind of core or the state is wrong";
     case 3: return "the hart is not below the count";
     case 4: return "a device write of 0 or more than 8 bytes";
     case 5: return "a device write not wholly in memory";
@@ -405,7 +434,7 @@ FLOECAVERN_INLINE const char *floecavern_refusal_text(uint64_t refusal)
     case 7: return "the file's length is not 40 to 65536";
     case 8: return "the table of contents is wrong";
     case 9: return "the harts body is wrong";
-    case 10: return "the memory body's length is wrong";
+    case 10: return "the memory body's length, or base plus length, is wrong";
     case 11: return "an event or the length of the events is wrong";
     case 12: return "the log's length is not a multiple of 48";
     case 13: return "the log has no rows";
@@ -691,27 +720,37 @@ FLOECAVERN_INLINE floecavern_replayed floecavern_machine_replay(floecavern_machi
     return replayed;
 }
 
-/* Starts a machine: count harts with their pc at base, registers 0 and no reservations, the set size FLOECAVERN_SET_SIZE
- * and the version FLOECAVERN_A_2_1. The memory is left as it is. Answers FLOECAVERN_REFUSAL_NONE, or 1 or 2: the machine is
- * then filled in all the same, and every call of it is refused by that number. It asks by a run of no events, which changes
- * nothing of such a machine. With a library of another version the answer is no refusal of the model.
+/* Starts a machine of a kind of core, FLOECAVERN_KIND_64 or FLOECAVERN_KIND_32: count harts with their pc at base,
+ * registers 0 and no reservations, the set size FLOECAVERN_SET_SIZE and the version FLOECAVERN_A_2_1. The memory is left as
+ * it is. Answers FLOECAVERN_REFUSAL_NONE, or 1 or 2: the machine is then filled in all the same, and every call of it is
+ * refused by that number. It asks by a run of no events, which changes nothing of such a machine. With a library of another
+ * version the answer is no refusal of the model.
  *
  * For another set size, set machine->state.set_size after the start: where a memory fits that size, the start takes it
  * too. For A 2.0, set machine->state.version to FLOECAVERN_A_2_0. If the size does not fit, every call from then on is
  * refused by 1, and by 2 if the version is neither of the two; floecavern_machine_run(machine, NULL, 0, 0).refusal asks for
  * that. */
-FLOECAVERN_INLINE floecavern_refusal floecavern_machine_start(floecavern_machine *machine, uint64_t count, uint64_t base,
-                                                              uint8_t *mem, size_t mem_len)
+FLOECAVERN_INLINE floecavern_refusal floecavern_machine_start_kind(floecavern_machine *machine, uint64_t kind,
+                                                                   uint64_t count, uint64_t base, uint8_t *mem,
+                                                                   size_t mem_len)
 {
     size_t hart;
     memset(machine, 0, sizeof *machine);
     floecavern_state_start(&machine->state, count);
+    machine->state.kind = kind;
     machine->base = base;
     machine->mem = mem;
     machine->mem_len = mem_len;
     for (hart = 0; hart < 8 && hart < count; hart++)
         machine->state.pc[hart] = base;
     return floecavern_machine_run(machine, NULL, 0, 0).refusal;
+}
+
+/* The same of the 64-bit kind. */
+FLOECAVERN_INLINE floecavern_refusal floecavern_machine_start(floecavern_machine *machine, uint64_t count, uint64_t base,
+                                                              uint8_t *mem, size_t mem_len)
+{
+    return floecavern_machine_start_kind(machine, FLOECAVERN_KIND_64, count, base, mem, mem_len);
 }
 
 /* Puts words into a machine's memory from addr on, 4 bytes each with the lowest first. This is no event: it breaks no
@@ -729,18 +768,35 @@ FLOECAVERN_INLINE floecavern_refusal floecavern_machine_put_words(floecavern_mac
     return FLOECAVERN_REFUSAL_NONE;
 }
 
+/* Whether the library takes states of this size: 1 or 0. One of another version may take other arguments, which a function
+ * without a state does not tell. The memory of 0 bytes is refused by 1, and so nothing is done. */
+FLOECAVERN_INLINE int floecavern_library_fits(void)
+{
+    floecavern_state state;
+    uint8_t none[1] = {0}, value[8];
+    floecavern_state_start(&state, 1);
+    return floecavern_yield((uint8_t *)&state, sizeof state, 0, none, 0, 0, value, sizeof value) != FLOECAVERN_BAD_SIZE;
+}
+
 /* Whether a block of instruction words is a retry loop that is accepted under a version of A, FLOECAVERN_A_2_0 or
- * FLOECAVERN_A_2_1. Refusals 2, of any other version, and 6. words may be NULL if count is 0. A later version of this
- * interface may add arguments to this function. */
-FLOECAVERN_INLINE floecavern_verdict floecavern_check_words_for(uint64_t version, const uint32_t *words, size_t count)
+ * FLOECAVERN_A_2_1, read as a kind of core reads them, FLOECAVERN_KIND_64 or FLOECAVERN_KIND_32. Refusals 2, of any other
+ * version or kind, and 6; with a library of another version, one that is no refusal of the model. words may be NULL if
+ * count is 0. A later version of this interface may add arguments to this function. */
+FLOECAVERN_INLINE floecavern_verdict floecavern_check_words_for(uint64_t version, uint64_t kind, const uint32_t *words,
+                                                                size_t count)
 {
     static const uint32_t none[1] = {0};
     /* A block of 17 or more words is refused whatever the words are, so that 17 of them say it. */
     size_t looked_at = count > 17 ? 17 : count;
     floecavern_verdict verdict;
-    uint64_t answer = floecavern_check_loop_for(version, (const uint8_t *)(words == NULL ? none : words),
-                                                words == NULL ? 0 : 4 * looked_at);
+    uint64_t answer;
     memset(&verdict, 0, sizeof verdict);
+    if (!floecavern_library_fits()) {
+        verdict.refusal = (floecavern_refusal)FLOECAVERN_NUMBER(FLOECAVERN_BAD_SIZE);
+        return verdict;
+    }
+    answer = floecavern_check_loop_for(version, kind, (const uint8_t *)(words == NULL ? none : words),
+                                       words == NULL ? 0 : 4 * looked_at);
     if (answer == FLOECAVERN_LOOP_SETTING_REFUSED) {
         verdict.refusal = FLOECAVERN_REFUSAL_STATE;
     } else if (answer == FLOECAVERN_LOOP_REFUSED) {
@@ -752,10 +808,10 @@ FLOECAVERN_INLINE floecavern_verdict floecavern_check_words_for(uint64_t version
     return verdict;
 }
 
-/* The same under A 2.1: refusal 6 alone. */
+/* The same under A 2.1 of the 64-bit kind: refusal 6 alone. */
 FLOECAVERN_INLINE floecavern_verdict floecavern_check_words(const uint32_t *words, size_t count)
 {
-    return floecavern_check_words_for(FLOECAVERN_A_2_1, words, count);
+    return floecavern_check_words_for(FLOECAVERN_A_2_1, FLOECAVERN_KIND_64, words, count);
 }
 
 /* A report: len characters of bytes are the lines, and no 0 ends them. It has 256 KiB: static or allocated, rather than

@@ -17,6 +17,9 @@ FLOECAVERN_SO names a shared object at another place; a relative name counts fro
 The set of a reservation has 64 bytes, SET_SIZE, or as many as Machine(2, 0, 128, set_size=16) says. The machine follows version 2.1 of A, or 2.0
 with Machine(2, 0, 128, version=A_2_0): there a device write breaks no reservation. check_loop(words, version=A_2_0) checks a loop under 2.0.
 
+The core has registers of 64 bits, or of 32 with Machine(2, 0, 128, kind=KIND_32); `State` says what that asks. check_loop(words, kind=KIND_32)
+reads the words of a loop as RV32I. (The class Kind is another thing: what an event came to.)
+
 The names are those of include/floecavern.h and of rust/, whose `Answer` is the outcome here. What the model refuses is the exception Refused,
 and state and memory are as they were; a trap is an outcome. A value that isn't the model's at all is a TypeError or a ValueError before the
 library is called: a number that doesn't fit its bits, a memory that can't be written. One machine is for one thread at a time.
@@ -30,14 +33,15 @@ import struct
 from dataclasses import dataclass
 from typing import NamedTuple, Optional
 
-__version__ = '0.7.0'
+__version__ = '0.8.0'
 
 BUILD = 'cc -shared -o target/libfloecavern.so -Wl,--whole-archive target/staticlib/libcapi.a -Wl,--no-whole-archive'
 ROOT = os.path.dirname(os.path.dirname(os.path.abspath(__file__)))
 
-STATE_SIZE, EVENT_SIZE, ROW_SIZE, REPORT_ROOM, MAX_HARTS, MAX_MEMORY = 2328, 24, 48, 262_144, 8, 1_048_576
+STATE_SIZE, EVENT_SIZE, ROW_SIZE, REPORT_ROOM, MAX_HARTS, MAX_MEMORY = 2336, 24, 48, 262_144, 8, 1_048_576
 SET_SIZE = 64  # the set size that a state has by default, and that the machine of a case file always has
 A_2_0, A_2_1 = 20, 21  # the versions of A; a state has 2.1 by default, and the machine of a case file always has it
+KIND_64, KIND_32 = 0, 1  # the kinds of core; a state has the 64-bit one by default, and a case file says which one
 
 _BAD_SIZE, _TRAP, _REFUSED, _ALL = 2**64 - 1, 256, 512, 2**64 - 1
 
@@ -51,7 +55,7 @@ def _library():
     library = ctypes.CDLL(os.path.abspath(path))                # a name without a folder would be looked for among the system's libraries
     lent, read, number, size = ctypes.c_void_p, ctypes.c_char_p, ctypes.c_uint64, ctypes.c_size_t
     machine = [lent, size, number, lent, size]
-    for name, arguments in [('report', [read, size, lent, size]), ('check_loop_for', [number, read, size]),
+    for name, arguments in [('report', [read, size, lent, size]), ('check_loop_for', [number, number, read, size]),
                             ('step', machine + [size, lent, size]), ('yield', machine + [size, lent, size]),
                             ('device_write', machine + [number, size, number, lent, size]),
                             ('run', machine + [read, size, size, lent, size]), ('replay', machine + [read, size, lent, size])]:
@@ -59,7 +63,15 @@ def _library():
         if function is None:
             raise _other_version('has no floecavern_' + name)
         function.argtypes, function.restype = arguments, number
+    # One of another version may take other arguments, which a function without a state doesn't tell. A state of zeros is refused: nothing is done.
+    zeros, none, value = ((ctypes.c_uint8 * length)() for length in (STATE_SIZE, 1, 8))
+    if library.floecavern_yield(zeros, STATE_SIZE, 0, none, 0, 0, value, 8) == _BAD_SIZE:
+        raise _other_size()
     return library
+
+
+def _other_size():
+    return _other_version('takes no state of %d bytes' % STATE_SIZE)
 
 
 def _other_version(what):
@@ -107,7 +119,7 @@ class Cause(_Numbered):
 class Refusal(_Numbered):
     """Why a call is refused: 1 to 5 an event, 2 and 6 a block, 7 to 11 a case file, 1, 2 and 11 a run, 1, 2, 12 and 13 a replay."""
     MEMORY = 1, "the set size or the memory's length or base is wrong"
-    STATE = 2, 'the version of A or the state is wrong'
+    STATE = 2, 'the version of A, the kind of core or the state is wrong'
     HART = 3, 'the hart is not below the count'
     DEVICE_SIZE = 4, 'a device write of 0 or more than 8 bytes'
     DEVICE_ADDRESS = 5, 'a device write not wholly in memory'
@@ -115,7 +127,7 @@ class Refusal(_Numbered):
     FILE_LENGTH = 7, "the file's length is not 40 to 65536"
     TABLE = 8, 'the table of contents is wrong'
     HARTS_BODY = 9, 'the harts body is wrong'
-    MEMORY_BODY = 10, "the memory body's length is wrong"
+    MEMORY_BODY = 10, "the memory body's length, or base plus length, is wrong"
     EVENTS = 11, 'an event or the length of the events is wrong'
     LOG_LENGTH = 12, "the log's length is not a multiple of 48"
     LOG_EMPTY = 13, 'the log has no rows'
@@ -228,30 +240,33 @@ class Verdict(NamedTuple):
 
 
 class Reservation(NamedTuple):
-    """What an LR made: the `width` bytes, 4 or 8, at `addr`."""
+    """What an LR made: the `width` bytes, 4 or 8, at `addr`; of the 32-bit kind 4."""
     addr: int
     width: int
 
 
 class State:
     """The state: of harts 0 to count - 1, 1 to 8 of them, the registers x[hart][register], pc[hart] and the reservation; and for all of them
-    set_size, how many bytes the set of a reservation has, a power of two from 8 to 4,096, and version, that of A which the machine follows, A_2_0
-    or A_2_1. No call changes the size or the version.
+    set_size, how many bytes the set of a reservation has, a power of two from 8 to 4,096, version, that of A which the machine follows, A_2_0 or
+    A_2_1, and kind, that of the core, KIND_64 or KIND_32. No call changes the size, the version or the kind.
+
+    The registers and pcs of a 32-bit core have 32 bits, and an upper half that is zero: -1 is 2**32 - 1. In a used hart any other is refused by 2,
+    and so is a reservation 8 wide. Every event keeps the upper halves zero.
 
     Two states are equal if all of this is, of unused harts too. How a reservation is written down in bytes doesn't count.
     """
     __slots__ = '_bytes', '_numbers', '_x', '_pc'
     __hash__ = None
 
-    def __init__(self, count, *, set_size=SET_SIZE, version=A_2_1):
-        """Registers and pcs are 0, and there are no reservations. What isn't allowed is refused when it is used: a set size by 1, a version or a
-        count by 2."""
+    def __init__(self, count, *, set_size=SET_SIZE, version=A_2_1, kind=KIND_64):
+        """Registers and pcs are 0, and there are no reservations. What isn't allowed is refused when it is used: a set size by 1, a version, a kind
+        or a count by 2."""
         self._bytes = bytearray(STATE_SIZE)
         # Numbers of 64 bits over the bytes: assigning one that doesn't fit is an error, of Python's own.
         self._numbers = memoryview(self._bytes).cast('Q')
         self._x = tuple(self._numbers[1 + 32 * h:33 + 32 * h] for h in range(MAX_HARTS))
         self._pc = self._numbers[257:265]
-        self.count, self.set_size, self.version = count, set_size, version
+        self.count, self.set_size, self.version, self.kind = count, set_size, version, kind
 
     @property
     def count(self):
@@ -276,6 +291,14 @@ class State:
     @version.setter
     def version(self, version):
         self._numbers[290] = _number('version', version)
+
+    @property
+    def kind(self):
+        return self._numbers[291]
+
+    @kind.setter
+    def kind(self, kind):
+        self._numbers[291] = _number('kind', kind)
 
     @property
     def x(self):
@@ -305,12 +328,12 @@ class State:
             self._numbers[n] = number
 
     def to_bytes(self):
-        """Its 2328 bytes, as the header says: every number 8 bytes, the lowest first."""
+        """Its 2336 bytes, as the header says: every number 8 bytes, the lowest first."""
         return bytes(self._bytes)
 
     @classmethod
     def from_bytes(cls, data):
-        """The state that has these 2328 bytes: any bytes are one."""
+        """The state that has these 2336 bytes: any bytes are one."""
         data = _read(data)
         if len(data) != STATE_SIZE:
             raise ValueError('%d bytes: a state has %d' % (len(data), STATE_SIZE))
@@ -319,7 +342,7 @@ class State:
         return state
 
     def _meaning(self):
-        return self._numbers[:265].tolist(), [self.reservation(h) for h in range(MAX_HARTS)], self.set_size, self.version
+        return self._numbers[:265].tolist(), [self.reservation(h) for h in range(MAX_HARTS)], self.set_size, self.version, self.kind
 
     def __eq__(self, other):
         return self._meaning() == other._meaning() if isinstance(other, State) else NotImplemented
@@ -330,7 +353,8 @@ class State:
     def __repr__(self):
         pcs = ' '.join('%#x' % pc for pc in self.pc[:min(self.count, MAX_HARTS)])
         version = {A_2_0: 'A 2.0', A_2_1: 'A 2.1'}.get(self.version, 'version %d' % self.version)
-        return '<State of %d harts, %s, sets of %d bytes, pcs %s>' % (self.count, version, self.set_size, pcs)
+        kind = {KIND_64: '64 bits', KIND_32: '32 bits'}.get(self.kind, 'kind %d' % self.kind)
+        return '<State of %d harts, %s, %s, sets of %d bytes, pcs %s>' % (self.count, kind, version, self.set_size, pcs)
 
 
 @dataclass(frozen=True)
@@ -413,7 +437,7 @@ def _call(name, told, state, base, mem, *arguments):
     answer = getattr(_library(), 'floecavern_' + name)(
         (ctypes.c_uint8 * STATE_SIZE).from_buffer(state._bytes), STATE_SIZE, base, lent, length, *arguments, numbers, 8 * told)
     if answer == _BAD_SIZE:  # the sizes are right, so the shared object is of another version, in which a state has another size
-        raise _other_version('takes no state of %d bytes' % STATE_SIZE)
+        raise _other_size()
     return answer, list(numbers)
 
 
@@ -489,14 +513,15 @@ def report(file):
     return text
 
 
-def check_loop(words, *, version=A_2_1):
-    """Whether a block of instruction words, numbers of 32 bits, is a retry loop that is accepted under a version of A: under A_2_0 a later word may
-    be a JALR too. Refusals 2, of any other version, and 6. That an accepted loop finishes if it is left alone is claimed of the blocks that are
-    accepted under A_2_1: these are exactly those that are accepted under 2.0 and have no JALR."""
-    version = _number('version', version)
+def check_loop(words, *, version=A_2_1, kind=KIND_64):
+    """Whether a block of instruction words, numbers of 32 bits, is a retry loop that is accepted under a version of A, read as a kind of core reads
+    them. Under A_2_0 a later word may be a JALR too. As KIND_32 the words are those of RV32I, LR.W and SC.W. Refusals 2, of any other version or
+    kind, and 6. That an accepted loop finishes if it is left alone is claimed of the blocks that are accepted under A_2_1, on a machine of the kind
+    that they were read as: of each kind these are exactly those that are accepted under 2.0 and have no JALR."""
+    version, kind = _number('version', version), _number('kind', kind)
     # A block of 17 or more words is refused whatever the words are, so that 17 of them say it.
     block = b''.join(struct.pack('<I', word) for word in _words(words)[:17])
-    answer = _library().floecavern_check_loop_for(version, block, len(block))
+    answer = _library().floecavern_check_loop_for(version, kind, block, len(block))
     assert answer != _BAD_SIZE, 'whole words'
     if answer == 0:
         return Verdict(True)
@@ -511,11 +536,12 @@ class Machine:
     __slots__ = 'state', 'base', 'mem'
     __hash__ = None
 
-    def __init__(self, harts, base, length, *, set_size=SET_SIZE, version=A_2_1):
+    def __init__(self, harts, base, length, *, set_size=SET_SIZE, version=A_2_1, kind=KIND_64):
         """`harts` harts with their pc at `base`, registers 0 and no reservations; `length` bytes of memory, all 0; sets of `set_size` bytes; the
-        `version` of A that it follows. Refusals 1 and 2: 1 also if the size isn't a power of two from 8 to 4,096, or if the length or the base
-        isn't a multiple of it, 2 also if the version is neither A_2_0 nor A_2_1."""
-        state, base = State(harts, set_size=set_size, version=version), _number('base', base)
+        `version` of A that it follows; the `kind` of its core. Refusals 1 and 2: 1 also if the size isn't a power of two from 8 to 4,096, if the
+        length or the base isn't a multiple of it, or if the memory of a 32-bit machine would end above 2^32, 2 also if the version is neither A_2_0
+        nor A_2_1 or the kind neither KIND_64 nor KIND_32."""
+        state, base = State(harts, set_size=set_size, version=version, kind=kind), _number('base', base)
         for hart in range(min(state.count, MAX_HARTS)):
             state.pc[hart] = base
         # Before so much is allocated.

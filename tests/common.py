@@ -24,9 +24,23 @@ def vectors():
     return _folder[0]
 
 
-def vector_pairs():
-    """(name, case, output) of every outside case, as bytes."""
-    for path, _, files in os.walk(vectors()):
+# The outside cases of request 10 of document 02, of the 32-bit kind, and those of the earlier ones whose output is another one with it.
+KIND_32 = os.path.join(ROOT, 'tests', 'vectors', '10-cases')
+
+
+# What examples/pair32.c and examples/pair32.py print.
+PAIRS = '''\
+equal: x8 22222222, x9 11111111, the words at 64 ffffffff 00000007
+not equal: x8 ffffffff, x9 00000007, the words at 64 ffffffff 00000007
+rd is x9: trap 2 0000000028a2b4af: illegal instruction
+64 bits in x8: refusal 2: the version of A, the kind of core or the state is wrong
+a memory that ends above 2^32: refusal 1: the set size or the memory's length or base is wrong
+'''
+
+
+def vector_pairs(folder=None):
+    """(name, case, output) of every outside case, as bytes; of a folder, if one is given."""
+    for path, _, files in os.walk(folder or vectors()):
         for file in sorted(files):
             if file.endswith('.case'):
                 yield os.path.join(path, file), data(os.path.join(path, file)), data(os.path.join(path, file[:-5] + '.out'))

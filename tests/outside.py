@@ -1,17 +1,22 @@
-"""The outside vectors of requests 5 and 7 of document 02, tests/vectors/05-sizes.jsonl and 07-versions.jsonl: a line is a call of the library, its
-answer and what it leaves.
+"""The outside vectors of requests 5, 7 and 10 of document 02, tests/vectors/05-sizes.jsonl, 07-versions.jsonl and 10-kind32.jsonl: a line is a call of
+the library, its answer and what it leaves.
 
 They were made from the documents alone by an independent model. A line is a dict: call (step, device, yield, run, replay, loop); base (hex), len
-and mem (hex of the first bytes, the rest zero); count, size, version and harts (eight of [x0 to x31, pc, None or [address, width]], hex but for the
-width); the call's arguments; answer, broke, each and after. A loop has words (hex) and version alone. The functions below give the parts of it as
-numbers and bytes.
+and mem (hex of the first bytes, the rest zero); count, size, version, kind and harts (eight of [x0 to x31, pc, None or [address, width]], hex but for
+the width); the call's arguments; answer, broke, each and after. A loop has words (hex), version and kind alone. The functions below give the parts of
+it as numbers and bytes.
+
+Of request 10 there are case files too, 10-cases/NAME.case with what the program writes in NAME.out, and logs of such cases, 10-logs/NAME.case and
+NAME.log with what the program replay writes in NAME.out, and in NAME.json what the replay leaves, as a line has it. 10-cases/changed has the case of the
+older vectors whose output is another one with request 10.
 """
 import json
 import os
 
 FOLDER = os.path.join(os.path.dirname(os.path.abspath(__file__)), 'vectors')
-SIZES, VERSIONS = '05-sizes.jsonl', '07-versions.jsonl'
-FILES = (SIZES, VERSIONS)
+SIZES, VERSIONS, KINDS = '05-sizes.jsonl', '07-versions.jsonl', '10-kind32.jsonl'
+FILES = (SIZES, VERSIONS, KINDS)
+CASES, LOGS = '10-cases', '10-logs'
 
 
 def lines(*files):
@@ -29,6 +34,10 @@ def set_size(line):
 
 def version(line):
     return line.get('version', 21)
+
+
+def kind(line):
+    return line.get('kind', 0)
 
 
 def base(line):
@@ -56,6 +65,12 @@ def device(line):
 def words(line):
     """The words of a block."""
     return [int(word, 16) for word in line['words']]
+
+
+def cases(folder):
+    """The paths of a folder's case files without `.case`, by name."""
+    found = (os.path.join(path, name) for path, _, names in os.walk(os.path.join(FOLDER, folder)) for name in names)
+    return sorted(path[:-len('.case')] for path in found if path.endswith('.case'))
 
 
 def afterwards(line):

@@ -10,13 +10,13 @@ import tempfile
 import textwrap
 import unittest
 
-from common import CASE, EXAMPLE, EXAMPLE_LINES, ROOT, command, data, vector_pairs
+from common import CASE, EXAMPLE, EXAMPLE_LINES, KIND_32, ROOT, command, data, vector_pairs
 import casefile
 import casetext
 
 START = 'memory 64\nhart 0\n'
 # Every place of a number in a text, and the line that it is on.
-NUMBERS = [('base %s', 1), ('memory %s', 1)] + [(START + line, 3) for line in ('x5=%s', 'pc=%s', 'at %s')] + [
+NUMBERS = [('kind %s', 1), ('base %s', 1), ('memory %s', 1)] + [(START + line, 3) for line in ('x5=%s', 'pc=%s', 'at %s')] + [
     (START + 'at 0\n' + line, 4) for line in (
         '.byte %s', '.half 1 %s', '.word 1,%s', '.dword %s', '.space %s', '.space 1,%s', '.align %s', '.balign %s', '.align 2,%s', '.align 2,0,%s',
         'li x5,%s', 'addi x1,x2,%s', 'lw x1,%s(x2)', 'sw x1,%s(x2)', 'jalr x1,%s(x2)', 'jr %s(x5)', 'lui x1,%s', 'slli x1,x2,%s', 'slliw x1,x2,%s',
@@ -36,9 +36,10 @@ def bits(number):
 
 
 class RoundTrip(unittest.TestCase):
-    def test_every_outside_case(self):
+    def round_trip(self, pairs):
+        """How many of the cases are good and how many are refused."""
         good = refused = 0
-        for name, given, output in vector_pairs():
+        for name, given, output in pairs:
             try:
                 case = casefile.read(given)
             except casefile.Refused as error:
@@ -50,15 +51,24 @@ class RoundTrip(unittest.TestCase):
             self.assertEqual(casefile.faults(case, output.decode()), [], name)
             text = '\n'.join(casetext.show(case, casefile.numbered(output.decode().split('\n'))))
             self.assertEqual(casetext.make(text), given, name)
-        self.assertEqual((good, refused), (833, 159))
+        return good, refused
+
+    def test_every_outside_case(self):
+        self.assertEqual(self.round_trip(vector_pairs()), (834, 158))
+
+    def test_every_outside_case_of_32_bits(self):
+        """The one good case more is that of changed/."""
+        self.assertEqual(self.round_trip(vector_pairs(KIND_32)), (138, 45))
 
     def test_any_bytes(self):
-        registers = tuple((k * 0x0123456789ABCDEF) % (1 << 64) for k in range(1, 32))
-        harts = [casefile.Hart(registers, (1 << 64) - 4)] * 8
-        memory = bytes(k * k % 251 for k in range(4096))
-        events = [casefile.Event(2, 0, size, (1 << 40) + 4096 - size, (1 << 8 * size) - 1) for size in range(1, 9)]
-        given = casefile.write(casefile.Case(1 << 40, harts, memory, events + [casefile.Event(3, 7, 0, 0, 0)]))
-        self.assertEqual(casetext.make('\n'.join(casetext.show(casefile.read(given)))), given)
+        for kind, xlen in enumerate(casefile.WIDTHS):
+            top = min(1 << 40, (1 << xlen) - 4096)
+            registers = tuple((k * 0x0123456789ABCDEF) % (1 << xlen) for k in range(1, 32))
+            harts = [casefile.Hart(registers, (1 << xlen) - 4)] * 8
+            memory = bytes(k * k % 251 for k in range(4096))
+            events = [casefile.Event(2, 0, size, top + 4096 - size, (1 << 8 * size) - 1) for size in range(1, 9)]
+            given = casefile.write(casefile.Case(top, harts, memory, events + [casefile.Event(3, 7, 0, 0, 0)], kind))
+            self.assertEqual(casetext.make('\n'.join(casetext.show(casefile.read(given)))), given)
 
 
 class Make(unittest.TestCase):
@@ -94,6 +104,43 @@ class Make(unittest.TestCase):
         self.assertEqual(case.memory[8:32].hex(), '2f230510' + 'e31e03fe' + '6f00c000' + '010203' + '0504' + 'ff' + 'feff' + '08100000')
         self.assertEqual([tuple(e) for e in case.events], [(1, 0, 0, 0, 0)] * 3 + [(2, 0, 2, 0x1040, 0xABCD), (3, 1, 0, 0, 0)])
 
+    def test_kinds(self):
+        """A 32-bit core has its own words, and registers of 32 bits."""
+        lines = 'base 0xffffff80\nmemory 128\nhart 0 x5=-1 x6=0xffffffff a0=lock\nat 0xffffff80\nlr.w x6,(x5)\namocas.d x6,x8,(x5)\n%s\nlock: events\n'
+        good = 'li x7,0x80000001'
+        case = casefile.read(casetext.make('kind 32\n' + lines.replace('lock: ', 'lock:\n') % good))
+        self.assertEqual((case.kind, case.harts[0].pc, case.harts[0].registers[4:6]), (1, 0xFFFFFF80, (0xFFFFFFFF,) * 2))
+        self.assertEqual(case.harts[0].registers[9], 0xFFFFFF90)
+        self.assertEqual(case.memory[:16].hex(' ', 4), '2fa30210 2fb38228 b7030080 93831300')
+        shown = '\n'.join(casetext.show(case))
+        self.assertIn('\nkind 32\nbase 0xffffff80\n', shown)
+        self.assertRegex(shown, r'addi x7,x7,1 +# ffffff8c: 00138393')
+        for text in (lines.replace('lock: ', 'lock:\n') % 'ld x1,0(x5)', 'kind 64\n' + lines.replace('lock: ', 'lock:\n') % 'ld x1,0(x5)'):
+            case = casefile.read(casetext.make(text))
+            self.assertEqual((case.kind, case.harts[0].registers[4]), (0, (1 << 64) - 1))
+            self.assertNotIn('kind', '\n'.join(casetext.show(case)))
+
+    def test_bad_kinds(self):
+        start = 'kind 32\n' + START
+        for text, line, what in (
+                ('kind', 1, 'write kind 64 or kind 32'), ('kind 32 64', 1, 'write kind 64'), ('kind 33', 1, 'neither 64 nor 32'), ('kind x', 1, 'no number'),
+                ('kind 128', 1, 'not 0x0 to 0x40'), ('kind 32\nkind 32', 2, 'twice'), ('kind 64\nkind 32', 2, 'twice'),
+                (START + 'at 0\nnop\nkind 32', 5, 'what stands above has 64 bits: write kind 32 above'),
+                (start + 'x5=0x100000000', 4, 'x5: 0x100000000 is not'), (start + 'x5=-2147483649', 4, 'x5: '), (start + 'pc=0x100000000', 4, 'pc: '),
+                ('kind 32\nbase 0x100000000\nmemory 64\nhart 0\n', 5, 'ends at 0x100000040, above 2^32'),
+                ('kind 32\nbase 0xffffffc0\nmemory 128\nhart 0\n', 5, 'ends at 0x100000040, above 2^32'),
+                *((start + 'at 0\n' + word, 5, "'%s' is no instruction of the 32-bit kind" % word.split()[0]) for word in (
+                    'ld x1,0(x2)', 'lwu x1,0(x2)', 'sd x1,0(x2)', 'addiw x1,x2,3', 'slliw x1,x2,3', 'addw x1,x2,x3', 'sraw x1,x2,x3', 'lr.d x1,(x2)',
+                    'sc.d.aq x1,x3,(x2)', 'amoadd.d x1,x3,(x2)', 'amocas.q x2,x4,(x1)')),
+                *((start + 'at 0\n' + word, 5, "'%s' is no instruction of the model" % word.split()[0]) for word in ('negw x1,x2', 'sext.w x1,x2')),
+                (start + 'at 0\nslli x1,x2,32', 5, 'out of range: 0 to 31'), (start + 'at 0\nli x1,0x100000000', 5, 'out of range'),
+                (start + 'at 0\namocas.d x1,x2,(x3)', 5, 'amocas.d takes an even rd'), (start + 'at 0\namocas.d x2,x1,(x3)', 5, 'takes an even rs2'),
+                (start + 'x5=far\nat 0x100000000\nfar:', 4, 'the label far is 0x100000000, more than 32 bits')):
+            with self.assertRaises(casetext.TextError, msg=text) as caught:
+                casetext.make(text + '\n')
+            self.assertIn(what, str(caught.exception))
+            self.assertEqual(caught.exception.line, line, text)
+
     def test_to_a_file(self):
         with tempfile.TemporaryDirectory() as folder:
             text, out = os.path.join(folder, 'a.txt'), os.path.join(folder, 'a.case')
@@ -109,7 +156,7 @@ class Make(unittest.TestCase):
 
     def test_bad_texts(self):
         for text, line, what in (
-                ('zork', 1, 'base, memory, hart, elf, at or events'), ('', 1, 'memory LENGTH'), ('memory 64\n', 2, 'without a hart'),
+                ('zork', 1, 'kind, base, memory, hart, elf, at or events'), ('', 1, 'memory LENGTH'), ('memory 64\n', 2, 'without a hart'),
                 ('base 3', 1, 'no multiple of 64'), ('base 0x10000000040', 1, 'not 0x0 to'), ('base 0\nbase 0', 2, 'twice'), ('base', 1, 'write base'),
                 ('memory 65', 1, 'no multiple of 64'), ('memory 0', 1, 'not 0x40'), ('memory 64\nmemory 64', 2, 'twice'), ('memory x', 1, 'no number'),
                 ('hart 1', 1, 'write hart 0'), (START + 'hart 0', 3, 'write hart 1'),
@@ -412,6 +459,10 @@ class Show(unittest.TestCase):
         good = data(EXAMPLE)
         for given, what in ((b'', 'refused 7 0'), (b'\1' + good[1:], 'refused 8 0'), (good + b'\0', 'refused 8 36'),
                             (good[:40] + b'\1' + good[41:], 'refused 9 40: harts: the base'),
+                            (good[:52] + b'\2' + good[53:], 'refused 9 40: harts: the kind is 2, not 0 (64-bit) or 1 (32-bit)'),
+                            (good[:52] + b'\1' + good[53:68] + b'\1' + good[69:], 'refused 9 40: harts: x2 of hart 0 has more than 32 bits'),
+                            (good[:52] + b'\1' + good[53:308] + b'\1' + good[309:], 'refused 9 40: harts: pc of hart 0 has more than 32 bits'),
+                            (good[:44] + b'\1' + good[45:52] + b'\1' + good[53:], 'refused 10 568: length of the memory: 128 bytes at 0x100000000'),
                             (good[:697] + b'\2' + good[698:], 'refused 11 696: events: event 0: hart 2')):
             status, out, err = command(CASE, 'show', '-', given=given)
             self.assertEqual((status, out), (1, b''))

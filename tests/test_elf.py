@@ -29,9 +29,9 @@ def program(*segments, entry=0x1000, content=CODE, bits=2, order=1, **changed):
     return (header + b''.join(struct.pack('<IIQQQQQQ', *s) for s in segments)).ljust(0x200, b'\xcc') + content
 
 
-def of_32_bits():
+def of_32_bits(flags=0):
     """A program of a 32-bit core: a header of 52 bytes and a segment."""
-    header = b'\x7fELF' + bytes([1, 1, 1]) + bytes(9) + struct.pack('<HHIIIIIHHHHHH', 2, 243, 1, 0x1000, 52, 0, 0, 52, 32, 1, 0, 0, 0)
+    header = b'\x7fELF' + bytes([1, 1, 1]) + bytes(9) + struct.pack('<HHIIIIIHHHHHH', 2, 243, 1, 0x1000, 52, 0, flags, 52, 32, 1, 0, 0, 0)
     return header + struct.pack('<IIIIIIII', 1, 84, 0x1000, 0x1000, 8, 8, 5, 4) + CODE
 
 
@@ -110,7 +110,29 @@ class Loaded(Files):
             self.assertEqual(command(CASE, 'make', text, '-o', output), (1, b'', said))
             self.assertEqual(data(output), program(LOAD))
 
+    def test_of_32_bits(self):
+        """An ELF file of 32 bits makes a case of the 32-bit kind; a kind line has to say the same."""
+        case = self.case(of_32_bits())
+        self.assertEqual((case.kind, case.harts[0].pc, case.memory), (1, 0x1000, CODE.ljust(128, b'\0')))
+        self.assertEqual(self.case(program(LOAD)).kind, 0)
+        for line, content in (('kind 32', of_32_bits()), ('kind 64', program(LOAD))):
+            for text in (line + '\n' + TEXT, TEXT + line):
+                self.assertEqual(self.case(content, text).kind, int(line == 'kind 32'))
+        for line, content, bits in (('kind 64', of_32_bits(), 32), ('kind 32', program(LOAD), 64)):
+            with self.assertRaisesRegex(casetext.TextError, 'elf a.elf: it is of %d bits: the case has %d' % (bits, 96 - bits)):
+                self.case(content, line + '\n' + TEXT)
+            with self.assertRaisesRegex(casetext.TextError, 'kind: what stands above has %d bits' % bits):
+                self.case(content, TEXT + line)
+        # An instruction above the elf line is one of the 64-bit kind, if no kind line stands above it.
+        above = TEXT.replace('elf a.elf', 'at 0x1040\nnop\nelf a.elf')
+        self.assertEqual(self.case(of_32_bits(), 'kind 32\n' + above).kind, 1)
+        with self.assertRaisesRegex(casetext.TextError, 'it is of 32 bits: the case has 64'):
+            self.case(of_32_bits(), above)
+
     def test_compressed(self):
+        warnings = []
+        self.case(of_32_bits(flags=1), warnings=warnings)
+        self.assertEqual(warnings, [(5, 'elf a.elf: it may have compressed words, which the model has not: compile it with -march=rv32ia')])
         warnings = []
         self.case(program(LOAD, flags=5), warnings=warnings)
         self.assertEqual(warnings, [(5, 'elf a.elf: it may have compressed words, which the model has not: compile it with -march=rv64ia')])
@@ -120,7 +142,7 @@ class Refused(Files):
     def test_files(self):
         good = program(LOAD)
         for content, what in (
-                (b'', 'no ELF'), (b'memory 64\n', 'no ELF'), (good[:63], 'no whole ELF'), (of_32_bits(), 'of 32 bits'),
+                (b'', 'no ELF'), (b'memory 64\n', 'no ELF'), (good[:63], 'no whole ELF'),
                 (program(LOAD, bits=0), 'no whole ELF file: Invalid EI_CLASS'), (of_high_bytes(), 'highest byte first'),
                 (program(LOAD, machine=62), 'for the machine EM_X86_64'), (program(LOAD, machine=0xfedc), 'for the machine 65244'),
                 (program(LOAD, type=1), 'not linked'), (program(LOAD, type=3), 'position-independent'), (program(LOAD, type=9), 'its type is 9'),

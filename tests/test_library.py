@@ -8,8 +8,9 @@ import subprocess
 import tempfile
 import unittest
 
-from common import EXAMPLE, EXAMPLE_LINES, ROOT, data
+from common import EXAMPLE, EXAMPLE_LINES, PAIRS, ROOT, data
 import casetext
+import outside
 
 LIBRARY = os.path.join(ROOT, 'target', 'staticlib', 'libcapi.a')
 CC, CXX = shutil.which('cc'), shutil.which('c++')
@@ -42,30 +43,31 @@ h0 sc.w: sc failed
 h0 lr.w: retired
 a byte at 67, A 2.0: retired
 h0 sc.w: sc stored
-h0 lr.w: refused 2 (the version of A or the state is wrong)
-a byte at 67, A 2.2: refused 2 (the version of A or the state is wrong)
-h0 sc.w: refused 2 (the version of A or the state is wrong)
+h0 lr.w: refused 2 (the version of A, the kind of core or the state is wrong)
+a byte at 67, A 2.2: refused 2 (the version of A, the kind of core or the state is wrong)
+h0 sc.w: refused 2 (the version of A, the kind of core or the state is wrong)
 a run of 5 events: performed 5
 x7 of the harts: 1 0; the word at 64: 12345678
 with a budget of 2: performed 2
 with an event of hart 7: refused 11 at 96 (an event or the length of the events is wrong)
 '''
 
-# Every function that writes, with each buffer a byte short, a byte long and empty (too small, for a report), a state without version or without set_size
-# too, as programs of versions 0.6 and 0.5 have it, and a block that isn't whole words, under any version: nothing is written.
+# Every function that writes, with each buffer a byte short, a byte long and empty (too small, for a report), a state without kind, without version or
+# without set_size too, as programs of versions 0.7, 0.6 and 0.5 have it, and a block that isn't whole words, under any version and kind: nothing is written.
 SIZES = '''
 #include <stdlib.h>
 #include <string.h>
 #include "floecavern.h"
-static uint8_t state[2329], mem[128], out[25], was_state[2329], was_mem[128], was_out[25];
+static uint8_t state[2337], mem[128], out[25], was_state[2337], was_mem[128], was_out[25];
 static void check(uint64_t r)
 {
-    if (r != FLOECAVERN_BAD_SIZE || memcmp(state, was_state, 2329) || memcmp(mem, was_mem, 128) || memcmp(out, was_out, 25))
+    if (r != FLOECAVERN_BAD_SIZE || memcmp(state, was_state, 2337) || memcmp(mem, was_mem, 128) || memcmp(out, was_out, 25))
         abort();
 }
 int main(void)
 {
     size_t sizeless = offsetof(floecavern_state, set_size), versionless = offsetof(floecavern_state, version);
+    size_t kindless = offsetof(floecavern_state, kind);
     was_state[0] = state[0] = 1;
     was_state[sizeless] = state[sizeless] = 64;
     was_state[versionless] = state[versionless] = 21;
@@ -74,8 +76,8 @@ int main(void)
     memset(was_out, 0xa5, 25);
     static const uint8_t event[24] = {1};
     static const char row[] = "0 0000000000000000 00000013 00 0000000000000000\\n";
-    size_t sizes[][4] = {{2327, 8, 16, 24}, {2329, 8, 16, 24}, {sizeless, 8, 16, 24}, {versionless, 8, 16, 24}, {0, 8, 16, 24},
-                         {2328, 7, 15, 23}, {2328, 9, 17, 25}, {2328, 0, 0, 0}};
+    size_t sizes[][4] = {{2335, 8, 16, 24}, {2337, 8, 16, 24}, {sizeless, 8, 16, 24}, {versionless, 8, 16, 24}, {kindless, 8, 16, 24}, {0, 8, 16, 24},
+                         {2336, 7, 15, 23}, {2336, 9, 17, 25}, {2336, 0, 0, 0}};
     for (size_t i = 0; i < sizeof sizes / sizeof *sizes; i++) {
         size_t n = sizes[i][0], v = sizes[i][1], r = sizes[i][2], t = sizes[i][3];
         check(floecavern_step(state, n, 0, mem, 128, 0, out, v));
@@ -95,13 +97,14 @@ int main(void)
         if ((floecavern_check_loop(event, n) == FLOECAVERN_BAD_SIZE) != (n % 4 != 0))
             abort();
         for (uint64_t version = 19; version < 23; version++)
-            if ((floecavern_check_loop_for(version, event, n) == FLOECAVERN_BAD_SIZE) != (n % 4 != 0))
-                abort();
+            for (uint64_t kind = 0; kind < 3; kind++)
+                if ((floecavern_check_loop_for(version, kind, event, n) == FLOECAVERN_BAD_SIZE) != (n % 4 != 0))
+                    abort();
     }
-    if (floecavern_replay(state, 2328, 0, mem, 128, (const uint8_t *)row, 48, out, 24) != FLOECAVERN_STOP_AGREED || out[0] != 1 || out[1] != 0)
+    if (floecavern_replay(state, 2336, 0, mem, 128, (const uint8_t *)row, 48, out, 24) != FLOECAVERN_STOP_AGREED || out[0] != 1 || out[1] != 0)
         abort();
     state[2056] = 0;
-    return floecavern_step(state, 2328, 0, mem, 128, 0, out, 8) == FLOECAVERN_RETIRED ? 0 : 1;
+    return floecavern_step(state, 2336, 0, mem, 128, 0, out, 8) == FLOECAVERN_RETIRED ? 0 : 1;
 }
 '''
 
@@ -383,6 +386,139 @@ static void wrong_versions(void)
     }
 }
 
+enum { LR_D = 0x1002b32f, SC_D = 0x1882b3af, ADDI = 0x00130313 /* addi x6,x6,1 */, ADDIW = 0x0013031b, ADDW = 0x0083033b /* addw x6,x6,x8 */,
+       SLLI_31 = 0x01f31313 /* slli x6,x6,31 */, SLLI_32 = 0x02031313, PAIR = 0x28a2b42f /* amocas.d x8,x10,(x5) */ };
+
+/* A hart of a kind at 4096 with the word there and x5 = 4160, where 0x80000001 stands. */
+static void start_kind(uint64_t kind, uint32_t word)
+{
+    static const uint32_t negative = 0x80000001;
+    memset(mem, 0, sizeof mem);
+    CHECK(floecavern_machine_start_kind(&machine, kind, 1, 4096, mem, sizeof mem) == FLOECAVERN_REFUSAL_NONE);
+    CHECK(machine.state.kind == kind && machine.state.pc[0] == 4096 && machine.state.set_size == 64 && machine.state.version == 21);
+    CHECK(floecavern_machine_put_words(&machine, 4096, &word, 1) == FLOECAVERN_REFUSAL_NONE);
+    CHECK(floecavern_machine_put_words(&machine, 4160, &negative, 1) == FLOECAVERN_REFUSAL_NONE);
+    machine.state.x[0][5] = 4160;
+    was = machine;
+}
+
+/* What a word leaves in x6, by the kind. */
+static void leaves(uint32_t word, uint64_t x6_32, uint64_t x6_64)
+{
+    start_kind(FLOECAVERN_KIND_32, word);
+    CHECK(is(floecavern_machine_step(&machine, 0), FLOECAVERN_RETIRED, 0, 0, 0) && machine.state.x[0][6] == x6_32 && machine.state.kind == 1);
+    start_kind(FLOECAVERN_KIND_64, word);
+    CHECK(is(floecavern_machine_step(&machine, 0), FLOECAVERN_RETIRED, 0, 0, 0) && machine.state.x[0][6] == x6_64 && machine.state.kind == 0);
+}
+
+/* Legal words of the 64-bit core that the 32-bit one does not have: ld, lwu, sd, addw, addiw, a shift by 32, lr.d, sc.d, amoadd.d, amocas.q, and
+ * amocas.d of an odd rd and of an odd rs2. */
+static const uint32_t wide_word[] = {0x0002b303, 0x0002e303, 0x0082b023, ADDW, ADDIW, SLLI_32, LR_D, SC_D, 0x0082b4af, 0x28a2c42f, 0x28a2b4af, 0x28b2b42f};
+
+static void kinds(void)
+{
+    static const char row[] = "0 0000000000001000 fff00313 06 00000000ffffffff\n", wide[] = "0 0000000000001000 fff00313 06 ffffffffffffffff\n";
+    static const uint32_t minus_1 = 0xfff00313; /* addi x6,x0,-1 */
+    floecavern_event event = floecavern_event_step(0);
+    floecavern_replayed r;
+    size_t i;
+    CHECK(FLOECAVERN_KIND_64 == 0 && FLOECAVERN_KIND_32 == 1 && FLOECAVERN_STATE_SIZE == 2336);
+    for (i = 0; i < sizeof wide_word / sizeof *wide_word; i++) {
+        start_kind(FLOECAVERN_KIND_32, wide_word[i]);
+        CHECK(is(floecavern_machine_step(&machine, 0), FLOECAVERN_TRAP, FLOECAVERN_CAUSE_ILLEGAL_INSTRUCTION, wide_word[i], 0));
+        CHECK(memcmp(&machine, &was, sizeof was) == 0);
+        start_kind(FLOECAVERN_KIND_64, wide_word[i]);
+        CHECK(!is(floecavern_machine_step(&machine, 0), FLOECAVERN_TRAP, FLOECAVERN_CAUSE_ILLEGAL_INSTRUCTION, wide_word[i], 0));
+    }
+    leaves(minus_1, 0xffffffff, UINT64_MAX);
+    leaves(LW, 0x80000001, UINT64_MAX - 0x7ffffffe);
+    leaves(LR, 0x80000001, UINT64_MAX - 0x7ffffffe);
+    leaves(0x80000337 /* lui x6,0x80000 */, 0x80000000, UINT64_MAX - 0x7fffffff);
+    start_kind(FLOECAVERN_KIND_32, minus_1);
+    CHECK(floecavern_machine_run(&machine, &event, 1, 1).performed == 1 && machine.state.x[0][6] == 0xffffffff);
+    start_kind(FLOECAVERN_KIND_32, minus_1);
+    CHECK(floecavern_machine_replay(&machine, (const uint8_t *)row, 48).kind == FLOECAVERN_STOP_AGREED && machine.state.x[0][6] == 0xffffffff);
+    start_kind(FLOECAVERN_KIND_32, minus_1);
+    r = floecavern_machine_replay(&machine, (const uint8_t *)wide, 48);
+    CHECK(r.kind == FLOECAVERN_STOP_VALUE && r.board == UINT64_MAX && r.model == 0xffffffff);
+    start_kind(FLOECAVERN_KIND_32, LW); /* an address is not cut to 32 bits where it is no register */
+    CHECK(is(floecavern_machine_device_write(&machine, ((uint64_t)1 << 32) + 4160, 1, 0), FLOECAVERN_REFUSED, 0, 0, FLOECAVERN_REFUSAL_DEVICE_ADDRESS));
+    CHECK(is(floecavern_machine_device_write(&machine, 4160, 8, UINT64_MAX), FLOECAVERN_RETIRED, 0, 0, 0) && mem[71] == 0xff);
+}
+
+/* AMOCAS.D at x5 of the words 0x80000001 and 0, with x8 and x9 and, in x10 and x11, 0xffffffff and 7: whether it swapped them. */
+static int swapped(uint32_t word, uint64_t x8, uint64_t x9)
+{
+    static const uint8_t new_bytes[8] = {0xff, 0xff, 0xff, 0xff, 7}, old_bytes[8] = {1, 0, 0, 0x80};
+    start_kind(FLOECAVERN_KIND_32, word);
+    machine.state.x[0][1] = 9;
+    machine.state.x[0][8] = x8;
+    machine.state.x[0][9] = x9;
+    machine.state.x[0][10] = 0xffffffff;
+    machine.state.x[0][11] = 7;
+    CHECK(is(floecavern_machine_step(&machine, 0), FLOECAVERN_RETIRED, 0, 0, 0));
+    CHECK(machine.state.x[0][0] == 0 && machine.state.x[0][1] == 9);
+    CHECK(memcmp(mem + 64, new_bytes, 8) == 0 || memcmp(mem + 64, old_bytes, 8) == 0);
+    return memcmp(mem + 64, new_bytes, 8) == 0;
+}
+
+static void pairs(void)
+{
+    CHECK(swapped(PAIR, 0x80000001, 0) && machine.state.x[0][8] == 0x80000001 && machine.state.x[0][9] == 0);
+    CHECK(!swapped(PAIR, 0x80000001, 1) && machine.state.x[0][8] == 0x80000001 && machine.state.x[0][9] == 0);
+    CHECK(!swapped(PAIR, 0, 0x80000001) && machine.state.x[0][8] == 0x80000001 && machine.state.x[0][9] == 0);
+    CHECK(!swapped(0x28a2b02f /* amocas.d x0,x10,(x5) */, 5, 6) && machine.state.x[0][8] == 5 && machine.state.x[0][9] == 6);
+    start_kind(FLOECAVERN_KIND_32, PAIR);
+    machine.state.x[0][5] = 4164;
+    CHECK(is(floecavern_machine_step(&machine, 0), FLOECAVERN_TRAP, FLOECAVERN_CAUSE_STORE_ADDRESS_MISALIGNED, 4164, 0));
+}
+
+/* No kinds; some have the number of one in a part of their bits. */
+static const uint64_t wrong_kind[] = {2, 3, 32, 64, 256, 257, (uint64_t)1 << 32, ((uint64_t)1 << 32) + 1, ((uint64_t)1 << 63) + 1, UINT64_MAX};
+
+/* Every call of the machine is refused by a number, and nothing changes. */
+static int all_refused(int number)
+{
+    static const char row[] = "0 0000000000001000 1002a32f 06 0000000000000000\n";
+    floecavern_event event = floecavern_event_step(9);
+    was = machine;
+    return refused(floecavern_machine_step(&machine, 0), number) && refused(floecavern_machine_yield_hart(&machine, 9), number) &&
+           refused(floecavern_machine_device_write(&machine, 0, 0, 0), number) &&
+           (int)floecavern_machine_run(&machine, &event, 1, 1).refusal == number &&
+           (int)floecavern_machine_replay(&machine, (const uint8_t *)row, 47).refusal == number && memcmp(&machine, &was, sizeof was) == 0;
+}
+
+static void wrong_kinds(void)
+{
+    const uint64_t top = (uint64_t)1 << 32;
+    size_t i;
+    for (i = 0; i < sizeof wrong_kind / sizeof *wrong_kind; i++) {
+        CHECK(floecavern_machine_start_kind(&machine, wrong_kind[i], 1, 4096, mem, 128) == FLOECAVERN_REFUSAL_STATE);
+        CHECK(machine.state.kind == wrong_kind[i] && all_refused(FLOECAVERN_REFUSAL_STATE));
+        CHECK(floecavern_machine_start_kind(&machine, wrong_kind[i], 1, 4095, mem, 128) == FLOECAVERN_REFUSAL_MEMORY);
+        CHECK(floecavern_machine_start_kind(&machine, wrong_kind[i], 1, top, mem, 128) == FLOECAVERN_REFUSAL_STATE);
+    }
+    for (i = 1; i < 35; i++) { /* the registers, the pc, a reservation; of the hart that is used, and of one that is not */
+        start_kind(FLOECAVERN_KIND_32, ADDI);
+        *(i < 32 ? &machine.state.x[7][i] : &machine.state.pc[7]) = top;
+        machine.state.reservation[7].held = machine.state.reservation[7].width = 8;
+        CHECK(is(floecavern_machine_step(&machine, 0), FLOECAVERN_RETIRED, 0, 0, 0));
+        machine.state.reservation[0].held = i == 33;
+        machine.state.reservation[0].addr = 4160;
+        machine.state.reservation[0].width = 8;
+        if (i != 33)
+            *(i < 32 ? &machine.state.x[0][i] : &machine.state.pc[0]) = i == 34 ? UINT64_MAX - 3 : top;
+        CHECK(all_refused(FLOECAVERN_REFUSAL_STATE));
+        machine.state.kind = FLOECAVERN_KIND_64;
+        CHECK(floecavern_machine_run(&machine, NULL, 0, 0).refusal == FLOECAVERN_REFUSAL_NONE);
+    }
+    CHECK(floecavern_machine_start_kind(&machine, FLOECAVERN_KIND_32, 1, top - 128, mem, 128) == FLOECAVERN_REFUSAL_NONE);
+    CHECK(floecavern_machine_start_kind(&machine, FLOECAVERN_KIND_32, 0, top - 64, mem, 128) == FLOECAVERN_REFUSAL_MEMORY); /* 1 before 2 */
+    CHECK(all_refused(FLOECAVERN_REFUSAL_MEMORY));
+    CHECK(floecavern_machine_start_kind(&machine, FLOECAVERN_KIND_32, 1, top, mem, 64) == FLOECAVERN_REFUSAL_MEMORY);
+    CHECK(floecavern_machine_start(&machine, 1, top, mem, 64) == FLOECAVERN_REFUSAL_NONE && machine.state.kind == FLOECAVERN_KIND_64);
+}
+
 /* How a state is begun, and how not. */
 static void states(void)
 {
@@ -392,12 +528,13 @@ static void states(void)
     memset(&second, 0xa5, sizeof second);
     floecavern_state_start(&second, 8);
     CHECK(second.count == 8 && second.set_size == FLOECAVERN_SET_SIZE && second.version == FLOECAVERN_A_2_1 && first.count == 0);
+    CHECK(second.kind == FLOECAVERN_KIND_64 && first.kind == FLOECAVERN_KIND_64);
     first.count = 8;
     CHECK(memcmp(&first, &second, sizeof first) == 0);
     memset(&zeros, 0, sizeof zeros);
     zeros.count = 8;
     first.set_size = first.version = 0;
-    CHECK(memcmp(&first, &zeros, sizeof first) == 0); /* only the two settings have another default than 0 */
+    CHECK(memcmp(&first, &zeros, sizeof first) == 0); /* only set size and version have another default than 0 */
     memset(mem, 0, sizeof mem);
     memcpy(mem, &nop, sizeof nop);
     CHECK(floecavern_step((uint8_t *)&zeros, sizeof zeros, 0, mem, sizeof mem, 7, value, 8) == 512 + FLOECAVERN_REFUSAL_MEMORY);
@@ -521,13 +658,16 @@ static int verdict(floecavern_verdict v, int refusal, int reason, uint64_t place
 static void with_jalr(uint32_t first, uint32_t second, uint32_t third, uint64_t jalr, int reason, uint64_t place)
 {
     uint32_t block[3];
+    uint64_t kind;
     block[0] = first;
     block[1] = second;
     block[2] = third;
-    CHECK(verdict(floecavern_check_words_for(FLOECAVERN_A_2_0, block, 3), 0, reason, place));
-    CHECK(verdict(floecavern_check_words_for(FLOECAVERN_A_2_1, block, 3), 0, FLOECAVERN_REASON_NOT_PERMITTED, jalr));
     CHECK(verdict(floecavern_check_words(block, 3), 0, FLOECAVERN_REASON_NOT_PERMITTED, jalr));
-    CHECK(verdict(floecavern_check_words_for(22, block, 3), FLOECAVERN_REFUSAL_STATE, 0, 0));
+    for (kind = FLOECAVERN_KIND_64; kind <= FLOECAVERN_KIND_32; kind++) {
+        CHECK(verdict(floecavern_check_words_for(FLOECAVERN_A_2_0, kind, block, 3), 0, reason, place));
+        CHECK(verdict(floecavern_check_words_for(FLOECAVERN_A_2_1, kind, block, 3), 0, FLOECAVERN_REASON_NOT_PERMITTED, jalr));
+        CHECK(verdict(floecavern_check_words_for(22, kind, block, 3), FLOECAVERN_REFUSAL_STATE, 0, 0));
+    }
 }
 
 static void loops(void)
@@ -543,24 +683,61 @@ static void loops(void)
     with_jalr(LR, RET, RET, 1, FLOECAVERN_REASON_NO_SC, 3);
     for (i = 0; i < 17; i++)
         long_block[i] = i == 0 ? LR : i == 15 ? SC : RET;
-    CHECK(verdict(floecavern_check_words_for(FLOECAVERN_A_2_0, long_block, 16), 0, 0, 0));
+    CHECK(verdict(floecavern_check_words_for(FLOECAVERN_A_2_0, FLOECAVERN_KIND_64, long_block, 16), 0, 0, 0));
     for (i = 0; i < others + 2; i++) {
         int known = i >= others;
         uint64_t version = known ? i == others ? FLOECAVERN_A_2_0 : FLOECAVERN_A_2_1 : wrong_version[i];
         int refusal = known ? FLOECAVERN_REFUSAL_BLOCK : FLOECAVERN_REFUSAL_STATE;
-        CHECK(verdict(floecavern_check_words_for(version, loop, 4), known ? 0 : FLOECAVERN_REFUSAL_STATE, 0, 0));
-        CHECK(verdict(floecavern_check_words_for(version, loop, 1), refusal, 0, 0));
-        CHECK(verdict(floecavern_check_words_for(version, NULL, 0), refusal, 0, 0));
-        CHECK(verdict(floecavern_check_words_for(version, NULL, 4), refusal, 0, 0));
-        CHECK(verdict(floecavern_check_words_for(version, long_block, 17), refusal, 0, 0));
-        CHECK(verdict(floecavern_check_words_for(version, long_block, SIZE_MAX), refusal, 0, 0));
+        CHECK(verdict(floecavern_check_words_for(version, FLOECAVERN_KIND_64, loop, 4), known ? 0 : FLOECAVERN_REFUSAL_STATE, 0, 0));
+        CHECK(verdict(floecavern_check_words_for(version, FLOECAVERN_KIND_64, loop, 1), refusal, 0, 0));
+        CHECK(verdict(floecavern_check_words_for(version, FLOECAVERN_KIND_64, NULL, 0), refusal, 0, 0));
+        CHECK(verdict(floecavern_check_words_for(version, FLOECAVERN_KIND_64, NULL, 4), refusal, 0, 0));
+        CHECK(verdict(floecavern_check_words_for(version, FLOECAVERN_KIND_64, long_block, 17), refusal, 0, 0));
+        CHECK(verdict(floecavern_check_words_for(version, FLOECAVERN_KIND_64, long_block, SIZE_MAX), refusal, 0, 0));
         /* The same numbers, of the function over bytes. */
-        CHECK(floecavern_check_loop_for(version, (const uint8_t *)loop, 16) ==
+        CHECK(floecavern_check_loop_for(version, FLOECAVERN_KIND_64, (const uint8_t *)loop, 16) ==
               (known ? FLOECAVERN_LOOP_ACCEPTED : FLOECAVERN_LOOP_SETTING_REFUSED));
-        CHECK(floecavern_check_loop_for(version, (const uint8_t *)loop, 4) ==
+        CHECK(floecavern_check_loop_for(version, FLOECAVERN_KIND_64, (const uint8_t *)loop, 4) ==
               (known ? FLOECAVERN_LOOP_REFUSED : FLOECAVERN_LOOP_SETTING_REFUSED));
-        CHECK(floecavern_check_loop_for(version, (const uint8_t *)loop, 3) == FLOECAVERN_BAD_SIZE);
+        CHECK(floecavern_check_loop_for(version, FLOECAVERN_KIND_64, (const uint8_t *)loop, 3) == FLOECAVERN_BAD_SIZE);
     }
+}
+
+/* What the words of a block are, read as each kind reads them: a reason and its place, or 0. */
+static void by_kind(uint32_t first, uint32_t second, uint32_t third, int reason32, uint64_t place32, int reason64, uint64_t place64)
+{
+    uint32_t block[3];
+    uint64_t version;
+    block[0] = first;
+    block[1] = second;
+    block[2] = third;
+    CHECK(verdict(floecavern_check_words(block, 3), 0, reason64, place64));
+    for (version = FLOECAVERN_A_2_0; version <= FLOECAVERN_A_2_1; version++) {
+        CHECK(verdict(floecavern_check_words_for(version, FLOECAVERN_KIND_32, block, 3), 0, reason32, place32));
+        CHECK(verdict(floecavern_check_words_for(version, FLOECAVERN_KIND_64, block, 3), 0, reason64, place64));
+    }
+}
+
+static void loops_by_kind(void)
+{
+    size_t i;
+    by_kind(LR, ADDI, SC, 0, 0, 0, 0);
+    by_kind(LR, SLLI_31, SC, 0, 0, 0, 0);
+    by_kind(LR_D, ADDI, SC_D, FLOECAVERN_REASON_NO_LR, 0, 0, 0);
+    by_kind(LR, ADDI, SC_D, FLOECAVERN_REASON_NOT_PERMITTED, 2, FLOECAVERN_REASON_OTHER_SC, 2);
+    by_kind(LR, ADDIW, SC, FLOECAVERN_REASON_NOT_PERMITTED, 1, 0, 0);
+    by_kind(LR, SC, ADDW, FLOECAVERN_REASON_NOT_PERMITTED, 2, 0, 0);
+    by_kind(LR, SLLI_32, SC, FLOECAVERN_REASON_NOT_PERMITTED, 1, 0, 0);
+    by_kind(LR, PAIR, SC, FLOECAVERN_REASON_NOT_PERMITTED, 1, FLOECAVERN_REASON_NOT_PERMITTED, 1);
+    for (i = 0; i < sizeof wrong_kind / sizeof *wrong_kind; i++) {
+        CHECK(verdict(floecavern_check_words_for(FLOECAVERN_A_2_1, wrong_kind[i], loop, 4), FLOECAVERN_REFUSAL_STATE, 0, 0));
+        CHECK(verdict(floecavern_check_words_for(FLOECAVERN_A_2_0, wrong_kind[i], loop, 1), FLOECAVERN_REFUSAL_STATE, 0, 0));
+        CHECK(verdict(floecavern_check_words_for(22, wrong_kind[i], NULL, 0), FLOECAVERN_REFUSAL_STATE, 0, 0));
+        CHECK(floecavern_check_loop_for(21, wrong_kind[i], (const uint8_t *)loop, 16) == FLOECAVERN_LOOP_SETTING_REFUSED);
+        CHECK(floecavern_check_loop_for(21, wrong_kind[i], (const uint8_t *)loop, 15) == FLOECAVERN_BAD_SIZE);
+    }
+    CHECK(verdict(floecavern_check_words_for(FLOECAVERN_A_2_1, FLOECAVERN_KIND_32, NULL, 0), FLOECAVERN_REFUSAL_BLOCK, 0, 0));
+    CHECK(floecavern_check_loop_for(FLOECAVERN_A_2_1, FLOECAVERN_KIND_32, (const uint8_t *)loop, 16) == FLOECAVERN_LOOP_ACCEPTED);
 }
 
 static void others(void)
@@ -575,7 +752,7 @@ static void others(void)
     refused = floecavern_report_text(NULL, 40, &text);
     CHECK(refused.refusal == FLOECAVERN_REFUSAL_FILE_LENGTH && refused.place == 0);
     CHECK(text.len == 12 && memcmp(text.bytes, "refused 7 0\n", 12) == 0);
-    CHECK(FLOECAVERN_VERSION_MAJOR == 0 && FLOECAVERN_VERSION_MINOR == 7 && FLOECAVERN_VERSION_PATCH == 0);
+    CHECK(FLOECAVERN_VERSION_MAJOR == 0 && FLOECAVERN_VERSION_MINOR == 8 && FLOECAVERN_VERSION_PATCH == 0);
 }
 
 int main(int argc, char **argv)
@@ -590,11 +767,15 @@ int main(int argc, char **argv)
     wrong_sets();
     versions();
     wrong_versions();
+    kinds();
+    pairs();
+    wrong_kinds();
     states();
     starts();
     runs();
     replays();
     loops();
+    loops_by_kind();
     others();
     CHECK(floecavern_report_text(file, n, &text).refusal == FLOECAVERN_REFUSAL_NONE && text.len > 40);
     file[720] = 9;
@@ -622,6 +803,7 @@ uint64_t floecavern_device_write(STATE, uint64_t addr, size_t size, uint64_t dat
 uint64_t floecavern_yield(STATE, size_t hart, OUT) { return FLOECAVERN_BAD_SIZE; }
 uint64_t floecavern_run(STATE, const uint8_t *events, size_t len, size_t budget, OUT) { return FLOECAVERN_BAD_SIZE; }
 uint64_t floecavern_replay(STATE, const uint8_t *log, size_t len, OUT) { return FLOECAVERN_BAD_SIZE; }
+uint64_t floecavern_check_loop_for(uint64_t version, uint64_t kind, const uint8_t *words, size_t len) { return FLOECAVERN_LOOP_REFUSED; }
 
 static void refused(floecavern_outcome o)
 {
@@ -635,6 +817,8 @@ int main(void)
     floecavern_event event = floecavern_event_step(0);
     floecavern_ran ran;
     floecavern_replayed replayed;
+    floecavern_verdict verdict;
+    static const uint32_t words[2] = {0x1002a32f, 0x1882a3af};
     printf("%s\n", floecavern_refusal_text(floecavern_machine_start(&m, 1, 0, mem, sizeof mem)));
     refused(floecavern_machine_step(&m, 0));
     refused(floecavern_machine_yield_hart(&m, 0));
@@ -643,16 +827,18 @@ int main(void)
     printf("%d %d %s\n", (int)ran.performed, (int)ran.place, floecavern_refusal_text(ran.refusal));
     replayed = floecavern_machine_replay(&m, mem, 48);
     printf("%d %d %s\n", replayed.kind == FLOECAVERN_STOP_REFUSED, (int)replayed.rows, floecavern_refusal_text(replayed.refusal));
+    verdict = floecavern_check_words(words, 2);
+    printf("%d %d %s\n", (int)verdict.reason, (int)verdict.place, floecavern_refusal_text(verdict.refusal));
     return 0;
 }
 """
 
 CAUSES = ['instruction address misaligned', 'instruction access fault', 'illegal instruction', 'breakpoint', 'load address misaligned', 'load access fault',
           'store/AMO address misaligned', 'store/AMO access fault', 'environment call', 'no cause of the model']
-REFUSALS = ['not refused', "the set size or the memory's length or base is wrong", 'the version of A or the state is wrong',
+REFUSALS = ['not refused', "the set size or the memory's length or base is wrong", 'the version of A, the kind of core or the state is wrong',
             'the hart is not below the count', 'a device write of 0 or more than 8 bytes', 'a device write not wholly in memory',
-            'a block of fewer than 2 or more than 16 words',
-            "the file's length is not 40 to 65536", 'the table of contents is wrong', 'the harts body is wrong', "the memory body's length is wrong",
+            'a block of fewer than 2 or more than 16 words', "the file's length is not 40 to 65536", 'the table of contents is wrong',
+            'the harts body is wrong', "the memory body's length, or base plus length, is wrong",
             'an event or the length of the events is wrong', "the log's length is not a multiple of 48", 'the log has no rows', 'no refusal of the model']
 REASONS = ['not rejected', 'place 0 is not an LR', 'a word that a retry loop may not hold', 'a jump or branch that a retry loop may not make',
            "the LR's rs1 is written before the SC", 'the SC has another width or rs1 than the LR', 'no SC', 'no reason of the model']
@@ -677,7 +863,7 @@ static floecavern_state state = FLOECAVERN_STATE_INIT;
 static void *nothing(void *p) { return p; }
 static void *report(void *p) { floecavern_report(file, len, out, sizeof out); return p; }
 static void *loop(void *p) { floecavern_check_loop(mem, 64); return p; }
-static void *loop_for(void *p) { floecavern_check_loop_for(FLOECAVERN_A_2_0, mem, 64); return p; }
+static void *loop_for(void *p) { floecavern_check_loop_for(FLOECAVERN_A_2_0, FLOECAVERN_KIND_32, mem, 64); return p; }
 static void *step(void *p) { floecavern_step((uint8_t *)&state, sizeof state, 0, mem, sizeof mem, 0, value, 8); return p; }
 static void *device(void *p) { floecavern_device_write((uint8_t *)&state, sizeof state, 0, mem, sizeof mem, 64, 8, 1, value, 8); return p; }
 static void *yield(void *p) { floecavern_yield((uint8_t *)&state, sizeof state, 0, mem, sizeof mem, 0, value, 8); return p; }
@@ -762,19 +948,38 @@ class Library(unittest.TestCase):
             self.assertEqual(self.example('loop', given=bytes(length)), line + b'\n')
 
     def test_loop_versions(self):
-        """The version is the one argument, a decimal number; 2.1 without it."""
+        """The version is the first argument, a decimal number; 2.1 without it."""
         jalr = struct.pack('<3I', 0x1002a32f, 0x00008067, 0x1882a3af)
         for args, line in [([], b'rejected 1 2'), (['21'], b'rejected 1 2'), (['20'], b'accepted'), (['020'], b'accepted'), (['0'], b'refused 2'),
                            (['22'], b'refused 2'), (['276'], b'refused 2'), (['%d' % (2**64 + 20)], b'refused 2'), (['9' * 100], b'refused 2')]:
             self.assertEqual(self.example('loop', *args, given=jalr), line + b'\n')
         self.assertEqual(self.example('loop', '22'), b'refused 2\n')
         self.assertEqual(self.example('loop', '22', given=b'abc'), b'bad input: length is not a multiple of 4\n')
-        for args in [[''], ['x'], ['2x'], ['-20'], ['+20'], [' 20'], ['20 '], ['2.0'], ['20', '21']]:
+        for args in [[''], ['x'], ['2x'], ['-20'], ['+20'], [' 20'], ['20 '], ['2.0'], ['20', ''], ['20', 'x'], ['20', '-1'], ['20', '0', '0']]:
             done = subprocess.run([self.built('loop'), *args], input=jalr, capture_output=True)
-            self.assertEqual((done.returncode, done.stdout, done.stderr), (2, b'', b'usage: loop [VERSION] < WORDS\n'))
+            self.assertEqual((done.returncode, done.stdout, done.stderr), (2, b'', b'usage: loop [VERSION [KIND]] < WORDS\n'))
+
+    def test_loop_kinds(self):
+        """The kind is the second argument; the 64-bit one without it."""
+        wide, jalr = struct.pack('<2I', 0x1002b32f, 0x1882b3af), struct.pack('<3I', 0x1002a32f, 0x00008067, 0x1882a3af)  # lr.d, sc.d; lr.w, jalr, sc.w
+        for block, args, line in [(wide, ['21'], b'accepted'), (wide, ['21', '0'], b'accepted'), (wide, ['21', '1'], b'rejected 0 1'),
+                                  (wide, ['21', '01'], b'rejected 0 1'), (jalr, ['20', '1'], b'accepted'), (jalr, ['21', '1'], b'rejected 1 2'),
+                                  (wide, ['21', '2'], b'refused 2'), (wide, ['22', '1'], b'refused 2'), (wide, ['21', '%d' % (2**64 + 1)], b'refused 2'),
+                                  (b'', ['21', '2'], b'refused 2'), (b'', ['21', '1'], b'refused 6')]:
+            self.assertEqual(self.example('loop', *args, given=block), line + b'\n')
 
     def test_events(self):
         self.assertEqual(self.example('events'), EVENTS)
+
+    def test_pairs(self):
+        self.assertEqual(self.example('pair32').decode(), PAIRS)
+
+    def test_replay_of_32_bits(self):
+        """The logs of request 10, and the case that says the kind: each as the program replay answers it."""
+        for path in outside.cases(outside.LOGS):
+            with self.subTest(log=os.path.basename(path)):
+                done = subprocess.run([self.built('replay'), path + '.case', path + '.log'], capture_output=True)
+                self.assertEqual((done.returncode, done.stdout, done.stderr), (0, data(path + '.out'), b''))
 
     def test_replay(self):
         crate = os.path.join(ROOT, 'crates', 'replay')
@@ -809,10 +1014,13 @@ class Library(unittest.TestCase):
         for compiler, language, standard in [(CC, 'c', 'c89'), (CC, 'c', 'c17'), (CXX, 'c++', 'c++17')]:
             if compiler is not None:
                 printed = self.output(self.written('other.c', OTHER_VERSION), compiler=compiler, language=language, standard=standard)
-                self.assertEqual(printed.decode(), none + 3 * ('1 0 0 0 ' + none) + '0 0 ' + none + '1 0 ' + none)
+                self.assertEqual(printed.decode(), none + 3 * ('1 0 0 0 ' + none) + '0 0 ' + none + '1 0 ' + none + '0 0 ' + none)
 
     def built(self, name):
+        """An example's program, made once in a test."""
         program = os.path.join(self.folder, name)
+        if os.path.exists(program):
+            return program
         subprocess.run([CC, '-I' + os.path.join(ROOT, 'include'), os.path.join(ROOT, 'examples', name + '.c'), LIBRARY, '-o', program], check=True)
         return program
 
@@ -832,7 +1040,7 @@ class Library(unittest.TestCase):
     def test_output_that_is_lost(self):
         """The examples tell that not all could be written: on a full disk, and where standard output is closed."""
         crate = os.path.join(ROOT, 'crates', 'loopcheck')
-        for name, args, given in [('report', [EXAMPLE], b''), ('report', [self.long_case()], b''), ('events', [], b''),
+        for name, args, given in [('report', [EXAMPLE], b''), ('report', [self.long_case()], b''), ('events', [], b''), ('pair32', [], b''),
                                   ('replay', [os.path.join(ROOT, 'crates', 'replay', 'data', name) for name in ['case', 'log']], b''),
                                   ('loop', [], data(os.path.join(crate, 'stdin'))), ('loop', [], b''), ('loop', [], b'abc')]:
             program = self.built(name)

@@ -39,8 +39,18 @@ class Loopcheck(unittest.TestCase):
             self.assertEqual(self.line(WITH_JALR, str(number)), b'refused 2\n')
 
     def test_use(self):
-        """What is no decimal number, and more than one argument, get no answer."""
+        """What is no decimal number, and more than two arguments, get no answer."""
         for args in [[''], [' '], ['x'], ['2x'], ['x20'], ['-20'], ['+20'], [' 20'], ['20 '], ['20\n'], ['2.0'], ['0x14'], ['2_0'], ['\u0662\u0660'],
-                     ['20', '21'], ['20', ''], ['', '20'], ['20', '20', '20'], ['--help'], ['x' * 100000]]:
+                     ['20', ''], ['', '20'], ['20', 'x'], ['21', '-1'], ['20', '0', '0'], ['--help'], ['x' * 100000]]:
             done = subprocess.run([PROGRAM, *args], input=WITH_JALR, capture_output=True)
-            self.assertEqual((done.returncode, done.stdout, done.stderr), (0, b'', b'use: loopcheck [VERSION] < WORDS\n'), args)
+            self.assertEqual((done.returncode, done.stdout, done.stderr), (0, b'', b'use: loopcheck [VERSION [KIND]] < WORDS\n'), args)
+
+    def test_kinds(self):
+        """The first word is read as the kind does: an LR.D is no LR of the 32-bit core; any other kind is refused, before the length."""
+        words = b''.join(word.to_bytes(4, 'little') for word in (0x1002B32F, 0x1882B3AF))
+        for args, answer in ((['21'], b'accepted\n'), (['21', '0'], b'accepted\n'), (['21', '1'], b'rejected 0 1\n'), (['21', '001'], b'rejected 0 1\n'),
+                             (['21', '2'], b'refused 2\n'), (['21', '32'], b'refused 2\n'), (['20', '21'], b'refused 2\n'), (['22', '1'], b'refused 2\n')):
+            done = subprocess.run([PROGRAM, *args], input=words, capture_output=True)
+            self.assertEqual((done.returncode, done.stdout, done.stderr), (0, answer, b''), args)
+        self.assertEqual(subprocess.run([PROGRAM, '21', '2'], input=b'', capture_output=True).stdout, b'refused 2\n')
+        self.assertEqual(subprocess.run([PROGRAM, '21', '1'], input=b'', capture_output=True).stdout, b'refused 6\n')

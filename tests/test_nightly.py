@@ -457,8 +457,8 @@ class Nightly(NightlyCase):
         whole = data(files[1])
         for change, what in ((lambda r: r['cases'].pop(), 'does not agree with itself'), (lambda r: r.pop('beside'), 'no counts file'),
                              (lambda r: r.update(sha256='0'), 'another program'), (lambda r: r.update(list='0'), 'another list of cases'),
-                             (lambda r: r.update(format='floecavern nightly counts 3'), 'is no counts file of this version of tools/nightly: '
-                              "its format is 'floecavern nightly counts 3', not 'floecavern nightly counts 4'\n"),
+                             (lambda r: r.update(format='floecavern nightly counts 4'), 'is no counts file of this version of tools/nightly: '
+                              "its format is 'floecavern nightly counts 4', not 'floecavern nightly counts 5'\n"),
                              (lambda r: r.clear(), 'no counts file')):
             self.rewrite(files[1], change)
             self.assert_not_merged(what, *files)
@@ -534,6 +534,6 @@ class Nightly(NightlyCase):
     def test_the_program_over_all_outside_cases(self):
         status, out, _ = command(NIGHTLY, vectors(), '--expect')
         self.assertEqual(status, 0, out.decode())
-        for row in ('992  files', '64,031  .. performed, each with its line', '992  outputs equal to the expected ones',
+        for row in ('992  files', '64,035  .. performed, each with its line', '992  outputs equal to the expected ones',
                     '1,283  writes that broke a reservation'):
             self.assertRegex(out.decode(), '(?m)^ +%s$' % row)

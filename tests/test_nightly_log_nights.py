@@ -300,7 +300,7 @@ class Nights(LogsCase):
         self.assertEqual((record['logs'], [case['unlogged'] for case in record['cases']]), (4, [False, True, False]))
         self.assertEqual((log['name'], log['board'], log['outcome'], log['bytes'], len(log['sha256'])), ('a.b7.log', 'b7', 'stopped', 192, 64))
         self.assertEqual(log['stop'], {'row': 3, 'field': 'value', 'board': '0' * 16, 'model': '0' * 15 + '1', 'line': DIFFERENT[3][:-1].decode(),
-                                       'form': None})
+                                       'form': None, 'xlen': 64})
         self.assertEqual(log['counts'], {'logs': 1, 'log rows': 4, 'rows agreed': 3, 'rows differ': 1, 'row lr.w': 2, 'row sc.w': 2, 'agreed lr.w': 2,
                                          'agreed sc.w': 1, 'controls': 2})
         self.assertEqual((record['counts']['log rows'], record['counts']['rows agreed'], record['counts']['rows unanswered']), (16, 11, 4))

@@ -1,19 +1,21 @@
-"""The outside vectors of requests 5 and 7 of document 02, all lines of tests/vectors/05-sizes.jsonl and 07-versions.jsonl, against the library,
-byte for byte.
+"""The outside vectors of requests 5, 7 and 10 of document 02, all lines of tests/vectors/05-sizes.jsonl, 07-versions.jsonl and 10-kind32.jsonl, against
+the library, byte for byte; and the case files of 10-cases and the logs of 10-logs against the library and, where they are built, the programs.
 
 The library is called as include/floecavern.h has it, on target/libfloecavern.so (FLOECAVERN_SO names a shared object at another place):
 
     cc -shared -o target/libfloecavern.so -Wl,--whole-archive target/staticlib/libcapi.a -Wl,--no-whole-archive
 
-Each line is one call. Compared are the answer, what is told, every byte of the state (all eight harts, unused ones too, the set size and the
-version) and all of memory; of a loop the answer. The events of a run are performed by single calls as well, since the line has the answer of each
-of them.
+Each line is one call. Compared are the answer, what is told, every byte of the state (all eight harts, unused ones too, the set size, the version
+and the kind) and all of memory; of a loop the answer. The events of a run are performed by single calls as well, since the line has the answer of
+each of them.
 """
 import ctypes
 import importlib.machinery
 import importlib.util
+import json
 import os
 import struct
+import subprocess
 import sys
 import unittest
 
@@ -24,21 +26,27 @@ import outside  # noqa: E402, it stands beside this file
 
 SO = os.environ.get('FLOECAVERN_SO', os.path.join(ROOT, 'target', 'libfloecavern.so'))
 
-LINES = {outside.SIZES: 739, outside.VERSIONS: 336}
-IN_EVENT_TABLE = {outside.SIZES: 611, outside.VERSIONS: 221}
+PROGRAM, REPLAY = (os.path.join(ROOT, 'target', 'bin', name) for name in ('floecavern', 'replay'))
+
+LINES = {outside.SIZES: 739, outside.VERSIONS: 336, outside.KINDS: 629}
+IN_EVENT_TABLE = {outside.SIZES: 611, outside.VERSIONS: 221, outside.KINDS: 483}
 
 BAD_SIZE = 2 ** 64 - 1
 TRAP, REFUSED = 256, 512
-STATE, PC, RESERVATION, SET_SIZE, VERSION = 2328, 2056, 2120, 2312, 2320
+STATE, PC, RESERVATION, SET_SIZE, VERSION, KIND = 2336, 2056, 2120, 2312, 2320, 2328
+REPORT_ROOM = 262144
 EVENT = 24
 # No version of A, but some have the number of one in a part of their bits.
 OTHER_VERSIONS = (0, 1, 2, 19, 22, 32, 33, 210, 20 << 8, 20 << 32, (1 << 32) + 20, (1 << 63) + 21, 2 ** 64 - 1)
+# The same of the kind of core.
+OTHER_KINDS = (2, 3, 32, 64, 255, 256, 257, 1 << 32, (1 << 32) + 1, 1 << 63, (1 << 63) + 1, 2 ** 64 - 1)
 # What stands where the library reads nothing, or has not written yet.
 RUBBISH = 0xA5A5A5A5A5A5A5A5
 
 
 def library():
-    """The functions that take a state, and the loop checker that takes a version, with the types that include/floecavern.h gives them."""
+    """The functions that take a state, the one that takes a case file, and the loop checker that takes a version and a kind, with the types that
+    include/floecavern.h gives them."""
     found = ctypes.CDLL(os.path.abspath(SO))
     number, size, place = ctypes.c_uint64, ctypes.c_size_t, ctypes.POINTER(ctypes.c_uint8)
     machine, told = [place, size, number, place, size], [place, size]
@@ -46,7 +54,8 @@ def library():
     for name, own in arguments.items():
         function = getattr(found, 'floecavern_' + name)
         function.argtypes, function.restype = machine + own + told, number
-    found.floecavern_check_loop_for.argtypes, found.floecavern_check_loop_for.restype = [number, place, size], number
+    found.floecavern_check_loop_for.argtypes, found.floecavern_check_loop_for.restype = [number, number, place, size], number
+    found.floecavern_report.argtypes, found.floecavern_report.restype = [place, size, place, size], number
     return found
 
 
@@ -56,7 +65,7 @@ def buffer(data):
 
 
 class Machine:
-    """A state of 2328 bytes and a memory, lent to one call after another."""
+    """A state of 2336 bytes and a memory, lent to one call after another."""
 
     def __init__(self, library, state, base, memory):
         self.library, self.base = library, base
@@ -86,7 +95,7 @@ def state_bytes(line):
     numbers = [line['count']] + [value for x, _, _ in harts for value in x] + [pc for _, pc, _ in harts]
     for _, _, held in harts:
         numbers += [0, RUBBISH, RUBBISH] if held is None else [1, *held]
-    return struct.pack('<291Q', *numbers, outside.set_size(line), outside.version(line))
+    return struct.pack('<292Q', *numbers, outside.set_size(line), outside.version(line), outside.kind(line))
 
 
 def written(line):
@@ -102,11 +111,11 @@ def written(line):
 
 
 def meaning(state):
-    """Count, set size, version and harts of a state's bytes; the harts as the module outside has them."""
-    numbers = struct.unpack('<291Q', state)
+    """Count, set size, version, kind and harts of a state's bytes; the harts as the module outside has them."""
+    numbers = struct.unpack('<292Q', state)
     x, pcs, held = numbers[1:257], numbers[257:265], numbers[265:289]
     harts = [(list(x[32 * h:32 * h + 32]), pcs[h], tuple(held[3 * h + 1:3 * h + 3]) if held[3 * h] else None) for h in range(8)]
-    return numbers[0], numbers[289], numbers[290], harts
+    return numbers[0], numbers[289], numbers[290], numbers[291], harts
 
 
 def answered(answer, broke):
@@ -178,7 +187,8 @@ class Vectors(unittest.TestCase):
         part = outside.afterwards(line)
         self.assertEqual(memory, outside.memory(line, part))
         self.assertEqual(state, written(line) if writes else state_bytes(line))
-        self.assertEqual(meaning(state), (line['count'], outside.set_size(line), outside.version(line), list(outside.harts(part))))
+        settings = outside.set_size(line), outside.version(line), outside.kind(line)
+        self.assertEqual(meaning(state), (line['count'], *settings, list(outside.harts(part))))
 
     def single(self, line):
         machine = self.machine(line)
@@ -212,7 +222,8 @@ class Vectors(unittest.TestCase):
 
     def loop(self, line):
         block = b''.join(struct.pack('<I', word) for word in outside.words(line))
-        self.assertEqual(self.library.floecavern_check_loop_for(outside.version(line), *buffer(block)), loop_answered(line['answer']))
+        settings = outside.version(line), outside.kind(line)
+        self.assertEqual(self.library.floecavern_check_loop_for(*settings, *buffer(block)), loop_answered(line['answer']))
 
     CALLS = {'step': single, 'device': single, 'yield': single, 'run': run_of_events, 'replay': replay, 'loop': loop}
 
@@ -240,27 +251,102 @@ class Vectors(unittest.TestCase):
     def test_loops(self):
         self.each('loop')
 
-    def test_other_versions(self):
-        """The first line of each call that isn't refused, with another version: refused by 2, and nothing is written. The vectors have none above 255."""
+    def others(self, file, setting, numbers):
+        """The first line of each call that isn't refused, with another number of a setting: refused by 2, and nothing is written."""
         for call in ('step', 'device', 'yield', 'run', 'replay'):
-            line = next(line for _, _, line in outside.lines(outside.VERSIONS) if line['call'] == call and 'after' in line)
+            line = next(line for _, _, line in outside.lines(file) if line['call'] == call and 'after' in line)
             refused = {**line, 'answer': ['refused', 2] + (['performed', 0] if call in ('run', 'replay') else []), 'broke': 0}
             del refused['after']
-            for version in OTHER_VERSIONS:
-                with self.subTest(call=call, version=version):
-                    self.CALLS[call](self, {**refused, 'version': version})
+            for number in numbers:
+                with self.subTest(call=call, **{setting: number}):
+                    self.CALLS[call](self, {**refused, setting: number})
+
+    def test_other_versions(self):
+        """The vectors have none above 255."""
+        self.others(outside.VERSIONS, 'version', OTHER_VERSIONS)
+
+    def test_other_kinds(self):
+        self.others(outside.KINDS, 'kind', OTHER_KINDS)
 
     def test_length_of_a_state(self):
-        """Every function takes 2328 bytes of a state and no other number of them; then nothing is written."""
+        """Every function takes 2336 bytes of a state and no other number of them; then nothing is written."""
         _, _, line = next(outside.lines())
         for name, arguments, told in (('step', (0,), 1), ('yield', (0,), 1), ('device_write', (0, 1, 0), 1), ('run', (*buffer(b''), 0), 2),
                                       ('replay', buffer(b''), 3)):
-            for length in (0, 8, 2304, SET_SIZE, VERSION, STATE - 1, STATE + 1, STATE + 8):
+            for length in (0, 8, 2304, SET_SIZE, VERSION, KIND, STATE - 1, STATE + 1, STATE + 8):
                 with self.subTest(call=name, length=length):
                     state = (state_bytes(line) + bytes(8))[:length]
                     machine = Machine(self.library, state, outside.base(line), outside.memory(line, line))
                     self.assertEqual(machine.call(name, arguments, told), (BAD_SIZE, (RUBBISH,) * told))
                     self.assertEqual(machine.bytes(), (state, outside.memory(line, line)))
+
+
+def read(path):
+    with open(path, 'rb') as file:
+        return file.read()
+
+
+class CaseFiles(unittest.TestCase):
+    """The case files of request 10, and that of the older ones whose text is another one with it."""
+
+    def each(self, answer):
+        for path in outside.cases(outside.CASES):
+            with self.subTest(case=os.path.relpath(path, outside.FOLDER)):
+                self.assertEqual(answer(path + '.case'), read(path + '.out'))
+
+    def reported(self, path):
+        file, (out, room) = read(path), buffer(bytes(REPORT_ROOM))
+        length = self.library.floecavern_report(*buffer(file), out, room)
+        self.assertLessEqual(length, room)
+        return bytes(out)[:length]
+
+    @unittest.skipUnless(os.path.exists(SO), 'the library is not built')
+    def test_library(self):
+        self.library = library()
+        self.each(self.reported)
+
+    @unittest.skipUnless(os.path.exists(PROGRAM), 'target/bin/floecavern is not built')
+    def test_program(self):
+        self.each(lambda path: subprocess.run([PROGRAM], input=read(path), capture_output=True, check=True).stdout)
+
+
+def line_of(path):
+    """A case with its log as a line of the vectors has it, for a replay by the library; None where the case is refused. Harts that the case has not hold
+    zeros."""
+    told = json.loads(read(path + '.json'))
+    file = read(path + '.case')
+    offsets = struct.unpack_from('<10I', file)[2::3]
+    if 'after' not in told:
+        return None
+    base, count, kind = struct.unpack_from('<QII', file, 40)
+    none = [['0'] * 32, '0', None]
+    used = [struct.unpack_from('<32Q', file, 56 + 256 * h) for h in range(count)]
+    harts = [[['0', *('%x' % value for value in x)], '%x' % pc, None] for *x, pc in used] + [none] * (8 - count)
+    after = {'harts': told['after']['harts'][:count] + [none] * (8 - count), 'mem': told['after']['mem']}
+    return {'call': 'replay', 'base': '%x' % base, 'len': told['len'], 'mem': file[offsets[1]:offsets[2]].hex(), 'count': count, 'kind': kind, 'harts': harts,
+            'log': read(path + '.log').decode('latin-1'), 'answer': told['answer'] + ['performed', told['performed']], 'after': after}
+
+
+class Logs(unittest.TestCase):
+    """The logs of request 10."""
+
+    @unittest.skipUnless(os.path.exists(REPLAY), 'target/bin/replay is not built')
+    def test_program(self):
+        for path in outside.cases(outside.LOGS):
+            with self.subTest(log=os.path.basename(path)):
+                done = subprocess.run([REPLAY, path + '.case', path + '.log'], capture_output=True)
+                self.assertEqual((done.returncode, done.stdout, done.stderr), (0, read(path + '.out'), b''))
+
+    @unittest.skipUnless(os.path.exists(SO), 'the library is not built')
+    def test_library(self):
+        """Where the case and the log aren't refused: what the replay leaves, too."""
+        vectors = Vectors()
+        vectors.library = library()
+        for path in outside.cases(outside.LOGS):
+            line = line_of(path)
+            if line:
+                with self.subTest(log=os.path.basename(path)):
+                    vectors.replay(line)
 
 
 def event_table():
@@ -294,12 +380,18 @@ class Counts(unittest.TestCase):
         """A test method for each call that a line has."""
         self.assertEqual({line['call'] for _, _, line in outside.lines()}, set(Vectors.CALLS))
 
+    def test_files(self):
+        """One case more than the 182 of request 10 is the older one that changes with it."""
+        self.assertEqual((len(outside.cases(outside.CASES)), len(outside.cases(outside.LOGS))), (183, 20))
+        self.assertEqual(len([path for path in outside.cases(outside.LOGS) if line_of(path)]), 19)
+
     def test_event_table(self):
         """Most lines are cases of the event table too. Not so: runs and replays, loops, and more memory than the program has."""
         cases, others = event_table().sorted_vectors()
         self.assertEqual({kind: len(numbers) for kind, numbers in others.items()},
                          {(outside.SIZES, 'runs and replays'): 78, (outside.SIZES, 'more memory than 8192 bytes'): 50,
-                          (outside.VERSIONS, 'runs and replays'): 55, (outside.VERSIONS, 'loops'): 60})
+                          (outside.VERSIONS, 'runs and replays'): 55, (outside.VERSIONS, 'loops'): 60,
+                          (outside.KINDS, 'runs and replays'): 70, (outside.KINDS, 'more memory than 8192 bytes'): 1, (outside.KINDS, 'loops'): 75})
         for name in outside.FILES:
             told = [number for file, number, _ in cases if file == name]
             self.assertEqual(len(told), IN_EVENT_TABLE[name])

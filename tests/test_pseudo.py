@@ -14,40 +14,42 @@ import riscv
 AS = next(filter(None, map(shutil.which, ('riscv64-linux-gnu-as', 'riscv64-unknown-elf-as'))), None)
 OBJCOPY = AS and AS[:-2] + 'objcopy'
 HEAD = 'base 0x10000000000\nmemory 57344\nhart 0\nat 0x10000000000\n'
+HEAD_32 = 'kind 32\nbase 0xffff0000\nmemory 57344\nhart 0\nat 0xffff0000\n'
+RV32 = ('-march=rv32ia', '-mabi=ilp32')
 
 
-def constants(count):
-    """Numbers of 64 bits around every place where the expansion of li changes, and others of all lengths."""
+def constants(count, xlen=64):
+    """Numbers of so many bits around every place where the expansion of li changes, and others of all lengths."""
     rng, edges = random.Random(8), set(range(-9, 10))
     for bit in range(64):
         for more in (-2049, -2048, -2047, -1, 0, 1, 2047, 2048, 2049):
             edges |= {(1 << bit) + more, -(1 << bit) + more, (0x5555 << bit) + more}
     others = {rng.getrandbits(rng.randint(1, 64)) << rng.randint(0, 63) for _ in range(count)}
     others |= {signs ^ rng.getrandbits(rng.randint(1, 64)) for signs in (0, (1 << 64) - 1) for _ in range(count)}
-    return sorted({riscv.signed(value, 64) for value in edges | others})
+    return sorted({riscv.signed(value, xlen) for value in edges | others})
 
 
-def ours(lines):
+def ours(lines, head=HEAD):
     """The bytes in memory of lines of a text."""
-    case = casefile.read(casetext.make(HEAD + '\n'.join(lines) + '\nend:\nhart 1 x1=end\nevents\n'))
+    case = casefile.read(casetext.make(head + '\n'.join(lines) + '\nend:\nhart 1 x1=end\nevents\n'))
     return case.memory[:case.harts[1].registers[0] - case.base]
 
 
-def of_gnu_as(lines, section='.text'):
+def of_gnu_as(lines, section='.text', target=('-march=rv64ia', '-mabi=lp64')):
     """The bytes that GNU as makes of lines in a section, without compressed words and without anything left to the linker."""
     with tempfile.TemporaryDirectory() as folder:
         made, raw = os.path.join(folder, 'a.o'), os.path.join(folder, 'a.bin')
         text = '\n'.join(['.option norvc', '.option norelax', section, *lines, ''])
-        subprocess.run([AS, '-march=rv64ia', '-mabi=lp64', '-o', made], input=text.encode(), check=True, capture_output=True)
+        subprocess.run([AS, *target, '-o', made], input=text.encode(), check=True, capture_output=True)
         subprocess.run([OBJCOPY, '-O', 'binary', '-j', section, made, raw], check=True)
         with open(raw, 'rb') as file:
             return file.read()
 
 
-def every_pseudo():
+def every_pseudo(without=()):
     """Each pseudo-instruction but li in each of its forms, with many registers, and targets before and behind it."""
     rng = random.Random(3)
-    for name in sorted(set(riscv.PSEUDO) - {'li'}):
+    for name in sorted(set(riscv.PSEUDO) - {'li', *without}):
         for shape in riscv.PSEUDO[name]:
             for _ in range(20):
                 text = shape
@@ -138,6 +140,27 @@ class AgainstGnuAs(unittest.TestCase):
     def test_every_other_pseudo_instruction(self):
         lines = ['before:', *every_pseudo(), 'behind:']
         self.assertEqual(ours(lines).hex(' ', 4), of_gnu_as(lines).hex(' ', 4))
+
+    def test_constants_of_rv32(self):
+        values = constants(500, 32)
+        for k in range(0, len(values), 1000):
+            lines = ['li x%d,%d' % (value % 32, value) for value in values[k:k + 1000]] + ['li x5,%#x' % (value % (1 << 32)) for value in values[k:k + 1000]]
+            self.assertEqual(ours(lines, HEAD_32).hex(' ', 4), of_gnu_as(lines, target=RV32).hex(' ', 4))
+        self.assertGreater(len(values), 1500)
+
+    def test_every_other_pseudo_instruction_of_rv32(self):
+        lines = ['before:', *every_pseudo(('negw', 'sext.w')), 'behind:']
+        self.assertEqual(ours(lines, HEAD_32).hex(' ', 4), of_gnu_as(lines, target=RV32).hex(' ', 4))
+
+    def test_instructions_of_rv32(self):
+        """Each instruction of RV32 that GNU as has, with many operands."""
+        rng, lines = random.Random(4), []
+        while len(lines) < 2000:
+            word = rng.randrange(1 << 25) << 7 | rng.choice(sorted(riscv.BY_OPCODE[32]))
+            text = riscv.disassemble(word, 32)
+            if text and not text.startswith(('fence', 'amocas', 'b', 'jal')):
+                lines.append(text)
+        self.assertEqual(ours(lines, HEAD_32).hex(' ', 4), of_gnu_as(lines, target=RV32).hex(' ', 4))
 
     def test_code(self):
         lines = []

@@ -13,13 +13,15 @@ import unittest
 import unittest.mock
 from array import array
 
-from common import EXAMPLE, EXAMPLE_LINES, ROOT, data, vector_pairs
+from common import EXAMPLE, EXAMPLE_LINES, PAIRS, ROOT, data, vector_pairs
+from common import KIND_32 as CASES_32
 import casetext
 
 sys.path.insert(0, os.path.join(ROOT, 'python'))
 import floecavern
-from floecavern import (A_2_0, A_2_1, RETIRED, SC_FAILED, SC_STORED, Cause, Event, Kind, Machine, Outcome, Reason, Refusal, Refused, Replayed, Reservation,
-                        State, Stop, StopKind, Verdict, check_loop, device_write, harts, replay, report, report_text, run, run_bytes, step, trap, yield_hart)
+from floecavern import (A_2_0, A_2_1, KIND_32, KIND_64, RETIRED, SC_FAILED, SC_STORED, Cause, Event, Kind, Machine, Outcome, Reason, Refusal, Refused,
+                        Replayed, Reservation, State, Stop, StopKind, Verdict, check_loop, device_write, harts, replay, report, report_text, run, run_bytes,
+                        step, trap, yield_hart)
 
 LIBRARY = os.path.join(ROOT, 'target', 'staticlib', 'libcapi.a')
 LR, SC = 0x1002a32f, 0x1882a3af  # lr.w x6,(x5); sc.w x7,x8,(x5)
@@ -177,8 +179,16 @@ class Calls(Refuses):
     def test_outside_cases(self):
         """What the calls answer, event by event, is what the lines of every outside case say; and a run does the same. The harts whose reservation an
         event broke are those that held one before it and don't after it, but for the hart of a step or a yield."""
+        self.assertEqual(self.outside(vector_pairs()), (834, 64_035, 1_283))
+
+    def test_outside_cases_of_32_bits(self):
+        """The same of the cases of request 10; one of them is among those above too."""
+        self.assertEqual(self.outside(vector_pairs(CASES_32))[0], 138)
+
+    def outside(self, pairs):
+        """How many cases aren't refused, their events, and how many of these broke a reservation."""
         cases = events = breaks = 0
-        for name, file, expected in vector_pairs():
+        for name, file, expected in pairs:
             self.assertEqual(report_text(file).encode(), expected, name)
             if expected.startswith(b'refused'):
                 continue
@@ -193,7 +203,7 @@ class Calls(Refuses):
             self.assertEqual(lines, expected.decode().splitlines()[1:-1], name)
             self.assertEqual((start.run_bytes(body), start), (len(body) // 24, one_by_one), name)
             cases, events, breaks = cases + 1, events + len(body) // 24, breaks + expected.count(b' broke ')
-        self.assertEqual((cases, events, breaks), (833, 64_031, 1_283))
+        return cases, events, breaks
 
 
 def number(bytes_):
@@ -203,7 +213,7 @@ def number(bytes_):
 def read(file):
     """The machine and the events body of a case file that isn't refused."""
     mem, events = number(file[20:24]), number(file[32:36])
-    state = State(number(file[48:52]))
+    state = State(number(file[48:52]), kind=number(file[52:56]))
     for hart in range(state.count):
         at = 56 + 256 * hart
         for r in range(1, 32):
@@ -344,10 +354,10 @@ class Sets(Refuses):
 
     def test_default(self):
         self.assertEqual((floecavern.SET_SIZE, State(1).set_size, Machine(1, 0, 64).state.set_size), (64, 64, 64))
-        self.assertEqual(State(2).to_bytes(), b'\x02' + bytes(2311) + b'\x40' + bytes(7) + b'\x15' + bytes(7))
+        self.assertEqual(State(2).to_bytes(), b'\x02' + bytes(2311) + b'\x40' + bytes(7) + b'\x15' + bytes(7) + bytes(8))
         self.assertEqual((State(1, set_size=64), State(1, set_size=16).set_size), (State(1), 16))
         self.assertNotEqual(State(1, set_size=16), State(1))
-        self.assertEqual(repr(State(2, set_size=16)), '<State of 2 harts, A 2.1, sets of 16 bytes, pcs 0x0 0x0>')
+        self.assertEqual(repr(State(2, set_size=16)), '<State of 2 harts, 64 bits, A 2.1, sets of 16 bytes, pcs 0x0 0x0>')
         # By its name alone: a later version may have more of them.
         self.assertRaises(TypeError, State, 1, 64)
         self.assertRaises(TypeError, Machine, 1, 0, 64, 64)
@@ -364,7 +374,7 @@ class Sets(Refuses):
                 self.refuses_unchanged(Refusal.MEMORY, m, device_write, 0, 0, 0)
                 self.refuses_unchanged(Refusal.MEMORY, m, run, [], place=0)
                 self.refuses_unchanged(Refusal.MEMORY, m, replay, b'')
-        zeros = State.from_bytes(b'\x01' + bytes(2327))
+        zeros = State.from_bytes(b'\x01' + bytes(2335))
         self.refuses(Refusal.MEMORY, step, zeros, 0, bytearray(64), 0)
         self.assertEqual(str(Refused(1)), "refusal 1: the set size or the memory's length or base is wrong")
 
@@ -431,9 +441,9 @@ class Versions(Refuses):
         self.assertEqual((State(1, version=A_2_1), State(1, version=A_2_0).version), (State(1), 20))
         self.assertEqual(Machine(1, 0, 64, version=A_2_0).state, Machine(1, 0, 64, set_size=64, version=20).state)
         self.assertNotEqual(State(1, version=A_2_0), State(1))
-        self.assertEqual(State(2, version=A_2_0).to_bytes()[2312:], b'\x40' + bytes(7) + b'\x14' + bytes(7))
-        self.assertEqual(repr(State(1, version=A_2_0)), '<State of 1 harts, A 2.0, sets of 64 bytes, pcs 0x0>')
-        self.assertEqual(repr(State(1, version=0)), '<State of 1 harts, version 0, sets of 64 bytes, pcs 0x0>')
+        self.assertEqual(State(2, version=A_2_0).to_bytes()[2312:], b'\x40' + bytes(7) + b'\x14' + bytes(15))
+        self.assertEqual(repr(State(1, version=A_2_0)), '<State of 1 harts, 64 bits, A 2.0, sets of 64 bytes, pcs 0x0>')
+        self.assertEqual(repr(State(1, version=0)), '<State of 1 harts, 64 bits, version 0, sets of 64 bytes, pcs 0x0>')
 
     def test_wrong_versions(self):
         """Refusal 2 of every call, after 1 and before what is asked of a call alone."""
@@ -451,7 +461,7 @@ class Versions(Refuses):
             self.refuses_unchanged(Refusal.STATE, m, replay, b'')
             m.base = 1
             self.refuses_unchanged(Refusal.MEMORY, m, step, 0)
-        self.assertEqual(str(Refused(2)), 'refusal 2: the version of A or the state is wrong')
+        self.assertEqual(str(Refused(2)), 'refusal 2: the version of A, the kind of core or the state is wrong')
 
     def test_device_writes(self):
         """They break what the LR read under 2.1 and nothing under 2.0. The memory is written under both."""
@@ -511,6 +521,145 @@ class Versions(Refuses):
         self.assertRaises(TypeError, check_loop, LOOP, A_2_0)
 
 
+class Kinds(Refuses):
+    """The kind of core that a machine has, and that a loop is read by."""
+    WRONG = [2, 3, 32, 64, 256, 257, 2**32, 2**32 + 1, 2**63 + 1, 2**64 - 1]  # some have 0 or 1 in a part of their bits
+    LR_D, SC_D, ADDW, SLLI_31, SLLI_32 = 0x1002b32f, 0x1882b3af, 0x0082833b, 0x01f29313, 0x02029313
+    PAIR = 0x28a2b42f  # amocas.d x8,x10,(x5)
+    # Legal words of the 64-bit core that the 32-bit one doesn't have; behind sc.d amoadd.d, amocas.q, and amocas.d of an odd rd and of an odd rs2.
+    WIDE = [0x0002b303, 0x0002e303, 0x0082b023, ADDW, 0x0012831b, SLLI_32, LR_D, SC_D, 0x0082b4af, 0x28a2c42f, 0x28a2b4af, 0x28b2b42f]
+
+    def machine(self, kind, word, **registers):
+        """A hart of the kind with the word at its pc, 0, x5 = 64 and 0x80000001 there."""
+        m = Machine(1, 0, 128, kind=kind)
+        m.put_words(0, [word])
+        m.put_words(64, [0x80000001])
+        for name, value in {'x5': 64, **registers}.items():
+            m.state.x[0][int(name[1:])] = value
+        return m
+
+    def test_default(self):
+        self.assertEqual((KIND_64, KIND_32, State(1).kind, Machine(1, 0, 64).state.kind), (0, 1, 0, 0))
+        self.assertEqual((State(1, kind=KIND_64), State(1, kind=KIND_32).kind), (State(1), 1))
+        self.assertNotEqual(State(1, kind=KIND_32), State(1))
+        self.assertEqual(State(2, kind=KIND_32).to_bytes()[2328:], b'\x01' + bytes(7))
+        self.assertEqual(repr(State(1, kind=KIND_32)), '<State of 1 harts, 32 bits, A 2.1, sets of 64 bytes, pcs 0x0>')
+        self.assertEqual(repr(State(1, kind=7)), '<State of 1 harts, kind 7, A 2.1, sets of 64 bytes, pcs 0x0>')
+
+    def test_wrong_kinds(self):
+        """Refusal 2 of every call, after 1 and before what is asked of a call alone."""
+        for kind in self.WRONG:
+            self.refuses(Refusal.STATE, lambda: Machine(1, 0, 64, kind=kind))
+            self.refuses(Refusal.STATE, lambda: Machine(1, 2**32, 64, kind=kind))
+            self.refuses(Refusal.MEMORY, lambda: Machine(1, 0, 65, kind=kind))
+            m = machine()
+            m.state.kind = kind
+            self.refuses_unchanged(Refusal.STATE, m, step, 0)
+            self.refuses_unchanged(Refusal.STATE, m, yield_hart, 9)
+            self.refuses_unchanged(Refusal.STATE, m, device_write, 0, 0, 0)
+            self.refuses_unchanged(Refusal.STATE, m, run, [Event.step(9)], place=0)
+            self.refuses_unchanged(Refusal.STATE, m, replay, b'')
+
+    def test_end_of_memory(self):
+        for base, length, fits in [(0, 64, True), (2**32 - 64, 64, True), (2**32 - 128, 128, True), (2**32 - 64, 128, False), (2**32, 64, False)]:
+            self.assertEqual(Machine(1, base, length).base, base)
+            if fits:
+                self.assertEqual(Machine(1, base, length, kind=KIND_32).base, base)
+            else:
+                self.refuses(Refusal.MEMORY, lambda: Machine(1, base, length, kind=KIND_32))
+
+    def test_upper_halves(self):
+        """Of a used hart every register and the pc have a zero one, and a reservation is 4 wide. An unused one isn't looked at."""
+        def widen(state, hart, n):
+            if n < 32:
+                state.x[hart][n] = 2**32
+            elif n < 34:
+                state.pc[hart] = [2**32, 2**63 + 4][n - 32]
+            else:
+                state.set_reservation(hart, Reservation(64, 8))
+
+        for n in range(1, 35):
+            for hart in range(8):
+                m = Machine(4, 0, 128)
+                widen(m.state, hart, n)
+                self.assertEqual(m.yield_hart(3 if hart == 2 else 2), RETIRED)
+                m.state.kind = KIND_32
+                if hart < 4:
+                    self.refuses_unchanged(Refusal.STATE, m, step, 0)
+                else:
+                    before = m.state.to_bytes()
+                    self.assertEqual((m.yield_hart(0), m.state.to_bytes()), (RETIRED, before))
+
+    def test_words(self):
+        for word in self.WIDE:
+            m = self.machine(KIND_32, word)
+            before = copy.deepcopy(m)
+            self.assertEqual((m.step(0), m), (trap(Cause.ILLEGAL_INSTRUCTION, word), before))
+            self.assertNotEqual(self.machine(KIND_64, word).step(0), trap(Cause.ILLEGAL_INSTRUCTION, word))
+
+    def test_results(self):
+        """What a step leaves has a zero upper half: addi x6,x0,-1; lui x6,0x80000; lw, lr.w; sub x6,x0,x8. By a run and a replay too."""
+        for word, value in [(0xfff00313, -1), (0x80000337, -2**31), (0x0002a303, 1 - 2**31), (LR, 1 - 2**31), (0x40800333, -3)]:
+            for kind, bits in [(KIND_32, 32), (KIND_64, 64)]:
+                m = self.machine(kind, word, x8=3)
+                ran, replayed, differs = copy.deepcopy(m), copy.deepcopy(m), copy.deepcopy(m)
+                self.assertEqual((m.step(0), m.state.x[0][6], m.state.kind), (RETIRED, value % 2**bits, kind))
+                self.assertEqual((ran.run([Event.step(0)]), ran), (1, m))
+                row = '0 %016x %08x 06 %016x\n'
+                log = (row % (0, word, value % 2**bits)).encode()
+                self.assertEqual((replayed.replay(log), replayed), (Replayed(1, Stop(StopKind.AGREED)), m))
+                log = (row % (0, word, value % 2**(96 - bits))).encode()
+                self.assertEqual(differs.replay(log), Replayed(0, Stop(StopKind.VALUE, value % 2**(96 - bits), value % 2**bits)))
+
+    def test_sums(self):
+        """Modulo 2^32: lw x6,4(x5), and the pc behind the last word that there is."""
+        for kind, x5, outcome in [(KIND_32, 2**32 - 4, RETIRED), (KIND_32, 2**32 - 8, trap(Cause.LOAD_ACCESS_FAULT, 2**32 - 4)),
+                                  (KIND_64, 2**32 - 4, trap(Cause.LOAD_ACCESS_FAULT, 2**32))]:
+            self.assertEqual(self.machine(kind, 0x0042a303, x5=x5).step(0), outcome)
+        m = Machine(1, 2**32 - 64, 64, kind=KIND_32)
+        m.put_words(2**32 - 4, [0x13])  # addi x0,x0,0
+        m.state.pc[0] = 2**32 - 4
+        self.assertEqual((m.step(0), m.state.pc[0], m.step(0)), (RETIRED, 0, trap(Cause.INSTRUCTION_ACCESS_FAULT, 0)))
+
+    def test_pairs(self):
+        """AMOCAS.D, whose even register is the lower 4 bytes. The pair of x0 is zero, whatever x1 holds, and isn't written."""
+        old, new = (0x80000001, 0), (2**32 - 1, 7)
+        for word, x8, x9, left, rd in [(self.PAIR, *old, new, old), (self.PAIR, 0, 0x80000001, old, old), (self.PAIR, 0x80000001, 1, old, old),
+                                       (0x2802b42f, *old, (0, 0), old),                   # amocas.d x8,x0,(x5)
+                                       (0x28a2b02f, 5, 6, old, (5, 6))]:                  # amocas.d x0,x10,(x5)
+            m = self.machine(KIND_32, word, x1=9, x8=x8, x9=x9, x10=new[0], x11=new[1])
+            self.assertEqual(m.step(0), RETIRED)
+            self.assertEqual(((number(m.bytes(64, 4)), number(m.bytes(68, 4))), tuple(m.state.x[0][8:10]), m.state.x[0][1]), (left, rd, 9))
+        self.assertEqual(self.machine(KIND_32, self.PAIR, x5=68).step(0), trap(Cause.STORE_ADDRESS_MISALIGNED, 68))
+
+    def test_device_writes(self):
+        """Of up to 8 bytes, at an address that isn't cut to 32 bits."""
+        m = self.machine(KIND_32, LR)
+        self.assertEqual(m.step(0), RETIRED)
+        self.refuses_unchanged(Refusal.DEVICE_ADDRESS, m, device_write, 2**32 + 64, 1, 0)
+        self.assertEqual((m.device_write(64, 8, 2**64 - 1), m.bytes(64, 8)), (RETIRED._replace(broke=1), b'\xff' * 8))
+
+    def test_loops(self):
+        accepted, no_lr, other_sc = Verdict(True), Verdict(False, 0, Reason.NO_LR), Verdict(False, 1, Reason.OTHER_SC)
+        for block, narrow, wide in [([LR, SC], accepted, accepted), (LOOP, accepted, accepted), ([LR, self.SLLI_31, SC], accepted, accepted),
+                                    ([self.LR_D, self.SC_D], no_lr, accepted), ([self.LR_D, SC], no_lr, other_sc),
+                                    ([LR, self.SC_D], Verdict(False, 1, Reason.NOT_PERMITTED), other_sc),
+                                    ([LR, self.ADDW, SC], Verdict(False, 1, Reason.NOT_PERMITTED), accepted),
+                                    ([LR, SC, self.ADDW], Verdict(False, 2, Reason.NOT_PERMITTED), accepted),
+                                    ([LR, self.SLLI_32, SC], Verdict(False, 1, Reason.NOT_PERMITTED), accepted)]:
+            for version in [A_2_0, A_2_1]:
+                self.assertEqual(check_loop(block, version=version, kind=KIND_32), narrow)
+                self.assertEqual((check_loop(block, version=version, kind=KIND_64), check_loop(block, version=version)), (wide, wide))
+            for kind in self.WRONG:
+                self.refuses(Refusal.STATE, lambda: check_loop(block, kind=kind))
+        jalr = [LR, 0x00008067, SC]
+        self.assertEqual(check_loop(jalr, version=A_2_0, kind=KIND_32), accepted)
+        self.assertEqual(check_loop(jalr, kind=KIND_32), Verdict(False, 1, Reason.NOT_PERMITTED))
+        for block in [[], [LR], [self.LR_D] * 17]:
+            self.refuses(Refusal.BLOCK, lambda: check_loop(block, kind=KIND_32))
+            self.refuses(Refusal.STATE, lambda: check_loop(block, kind=2))
+
+
 class Values(Refuses):
     """What isn't the model's at all is an error before the library is called."""
 
@@ -535,12 +684,14 @@ class Values(Refuses):
             self.assertRaises(error, Machine, 1, 0, 64, set_size=bad)
             for call in [lambda: State(1, version=bad), lambda: Machine(1, 0, 64, version=bad), lambda: check_loop(LOOP, version=bad)]:
                 self.assertRaisesRegex(error, '^version is ', call)
+            for call in [lambda: State(1, kind=bad), lambda: Machine(1, 0, 64, kind=bad), lambda: check_loop(LOOP, kind=bad)]:
+                self.assertRaisesRegex(error, '^kind is ', call)
             self.assertRaises(error, check_loop, [LR, bad])
             for make in [Event.step, Event.yield_hart, lambda n: Event.device_write(n, 1, 0), lambda n: Event.device_write(64, 1, n)]:
                 self.assertRaises(error, make, bad)
             state = State(1)
             for assign in [lambda: state.x[0].__setitem__(5, bad), lambda: state.pc.__setitem__(0, bad), lambda: setattr(state, 'count', bad),
-                           lambda: setattr(state, 'set_size', bad), lambda: setattr(state, 'version', bad),
+                           lambda: setattr(state, 'set_size', bad), lambda: setattr(state, 'version', bad), lambda: setattr(state, 'kind', bad),
                            lambda: state.set_reservation(0, (bad, 4)), lambda: state.set_reservation(0, (64, bad))]:
                 self.assertRaises(error, assign)
             self.assertEqual(state, State(1))
@@ -571,7 +722,7 @@ class Values(Refuses):
             self.assertRaises(TypeError, step, State(1), 0, mem, 0)
         state = State(1)
         self.assertRaises(ValueError, step, state, 0, state.x[0], 0)
-        self.assertRaises(TypeError, step, bytearray(2328), 0, bytearray(64), 0)
+        self.assertRaises(TypeError, step, bytearray(2336), 0, bytearray(64), 0)
         for bad in [24, 'text', None]:
             self.assertRaises(TypeError, report, bad)
             self.unchanged(TypeError, run_bytes, bad)
@@ -601,20 +752,20 @@ class Values(Refuses):
         self.assertEqual(m.bytes(128, 9), b'\xff' * 8 + b'\x80')
 
     def test_states(self):
-        given = bytes(i % 251 for i in range(2328))
+        given = bytes(i % 251 for i in range(2336))
         state = State.from_bytes(given)
         self.assertEqual(state.to_bytes(), given)
-        self.assertEqual((state.count, state.x[7][31], state.pc[7], state.set_size, state.version),
-                         tuple(number(given[at:at + 8]) for at in [0, 2048, 2112, 2312, 2320]))
+        self.assertEqual((state.count, state.x[7][31], state.pc[7], state.set_size, state.version, state.kind),
+                         tuple(number(given[at:at + 8]) for at in [0, 2048, 2112, 2312, 2320, 2328]))
         self.assertEqual(state.reservation(7), Reservation(number(given[2296:2304]), number(given[2304:2312])))
         self.assertEqual(State.from_bytes(given[:2288] + bytes([given[2288] ^ 1]) + given[2289:]), state)
-        for at in [2296, 2311, 2312, 2319, 2320, 2327]:
+        for at in [2296, 2311, 2312, 2319, 2320, 2327, 2328, 2335]:
             self.assertNotEqual(State.from_bytes(given[:at] + bytes([given[at] ^ 1]) + given[at + 1:]), state)
         self.assertEqual((pickle.loads(pickle.dumps(state)), copy.deepcopy(state)), (state, state))
         state.set_reservation(7, None)
         self.assertEqual(state.to_bytes()[2288:], bytes(24) + given[2312:])
-        for bad in [given[:-1], given + b'\0', b'', given[:2320]]:
-            self.assertRaisesRegex(ValueError, '^%d bytes: a state has 2328$' % len(bad), State.from_bytes, bad)
+        for bad in [given[:-1], given + b'\0', b'', given[:2320], given[:2328]]:
+            self.assertRaisesRegex(ValueError, '^%d bytes: a state has 2336$' % len(bad), State.from_bytes, bad)
         self.assertRaises(IndexError, state.reservation, 8)
         self.assertRaises(AttributeError, setattr, state, 'pcs', 1)
         self.assertRaises(AttributeError, setattr, state, 'pc', [0] * 8)
@@ -648,7 +799,7 @@ class Interface(unittest.TestCase):
 
     def test_version_sizes_and_command(self):
         self.assertIn('#define FLOECAVERN_VERSION "%s"\n' % floecavern.__version__, self.header())
-        for name in ['STATE_SIZE', 'EVENT_SIZE', 'ROW_SIZE', 'REPORT_ROOM', 'SET_SIZE', 'A_2_0', 'A_2_1']:
+        for name in ['STATE_SIZE', 'EVENT_SIZE', 'ROW_SIZE', 'REPORT_ROOM', 'SET_SIZE', 'A_2_0', 'A_2_1', 'KIND_64', 'KIND_32']:
             self.assertIn('#define FLOECAVERN_%s %d\n' % (name, getattr(floecavern, name)), self.header())
         for path in [os.path.join('docs', 'USING.md'), os.path.join('python', 'floecavern.py')]:
             self.assertIn('    ' + floecavern.BUILD + '\n', data(os.path.join(ROOT, path)).decode())
@@ -674,6 +825,14 @@ class Interface(unittest.TestCase):
             for version, lines in [('A_2_0', '0 retired\n1 retired\n2 sc stored\n'), ('A_2_1', '0 retired\n1 retired broke 01\n2 sc failed\n')]:
                 done = subprocess.run([sys.executable, '-c', code.replace('A_2_0', version), case], cwd=ROOT, capture_output=True, text=True)
                 self.assertEqual((done.stdout, done.stderr), (lines, ''))
+            # The kind is the case's own: a word that the 32-bit core doesn't have.
+            for kind, line in [(0, '0 retired\n'), (1, '0 trap 2 000000000002b303: illegal instruction\n')]:
+                narrow = bytearray(casetext.make('memory 128\nhart 0 x5=64\nat 0\nld x6,0(x5)\nevents\nstep 0\n'))
+                narrow[52] = kind
+                with open(case, 'wb') as file:
+                    file.write(narrow)
+                done = subprocess.run([sys.executable, '-c', code, case], cwd=ROOT, capture_output=True, text=True)
+                self.assertEqual((done.stdout, done.stderr), (line, ''))
 
     def test_relative_name(self):
         """A shared object in the current folder, or named from it."""
@@ -690,7 +849,7 @@ class Interface(unittest.TestCase):
             state = State(1)
             before = state.to_bytes()
             for call in [lambda: step(state, 0, bytearray(64), 0), lambda: run(state, 0, bytearray(64), []), lambda: Machine(1, 0, 64)]:
-                self.assertRaisesRegex(OSError, 'takes no state of 2336 bytes: it is of another version', call)
+                self.assertRaisesRegex(OSError, 'takes no state of 2344 bytes: it is of another version', call)
             self.assertEqual(state.to_bytes(), before)
 
     def test_older_version(self):
@@ -704,6 +863,30 @@ class Interface(unittest.TestCase):
                 done = subprocess.run([sys.executable, '-c', 'import floecavern; floecavern.' + call], env=env, capture_output=True, text=True)
                 self.assertEqual(done.stderr.splitlines()[-1], 'OSError: the shared object has no floecavern_check_loop_for: it is of another version. '
                                  'In the repository, after `rt staticlib capi`: ' + floecavern.BUILD)
+
+    def test_version_without_a_kind(self):
+        """A shared object of 0.7.0 has every function, but one of them has other arguments: told at the first call too, whatever it is."""
+        with tempfile.TemporaryDirectory() as folder:
+            made = os.path.join(folder, 'old.so')
+            names = ['report', 'check_loop', 'check_loop_for', 'step', 'device_write', 'yield', 'run', 'replay']
+            source = ''.join('unsigned long floecavern_%s(void) { return -1; }\n' % name for name in names)
+            subprocess.run(['cc', '-shared', '-fPIC', '-x', 'c', '-', '-o', made], input=source.encode(), check=True)
+            env = dict(os.environ, FLOECAVERN_SO=made, PYTHONPATH=os.path.join(ROOT, 'python'))
+            for call in ['report_text(b"")', 'check_loop([])', 'Machine(1, 0, 64)']:
+                done = subprocess.run([sys.executable, '-c', 'import floecavern; floecavern.' + call], env=env, capture_output=True, text=True)
+                self.assertEqual(done.stderr.splitlines()[-1], 'OSError: the shared object takes no state of 2336 bytes: it is of another version. '
+                                 'In the repository, after `rt staticlib capi`: ' + floecavern.BUILD)
+
+    def test_pairs(self):
+        """examples/pair32.py; and where standard output is full, or closed."""
+        example = [sys.executable, os.path.join(ROOT, 'examples', 'pair32.py')]
+        done = subprocess.run(example, capture_output=True, text=True)
+        self.assertEqual((done.returncode, done.stdout, done.stderr), (0, PAIRS, ''))
+        with open('/dev/full', 'wb') as full:
+            done = subprocess.run(example, stdout=full, stderr=subprocess.PIPE)
+        self.assertEqual((done.returncode, done.stderr), (1, b'standard output: No space left on device\n'))
+        done = subprocess.run(['/bin/sh', '-c', 'exec "$@" >&-', 'sh', *example], capture_output=True)
+        self.assertEqual((done.returncode, done.stderr), (1, b'standard output: Bad file descriptor\n'))
 
     def test_missing(self):
         env = dict(os.environ, FLOECAVERN_SO='/nowhere/libfloecavern.so', PYTHONPATH=os.path.join(ROOT, 'python'))

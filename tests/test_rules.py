@@ -123,6 +123,7 @@ class Rules(unittest.TestCase):
         words = [word for word, in struct.iter_unpack('<I', data(os.path.join(folder, 'stdin')))]
         lines = data(os.path.join(folder, 'stdout')).decode().splitlines()
         self.assertGreater(len(words), 2000)
+        self.assertEqual(len(lines), 2 * len(words))            # of RV64I, which the page has, and then of RV32I
         for word, line in zip(words, lines):
             self.assertEqual('%08x %s' % (word, decode(word)), line)
 

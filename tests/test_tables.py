@@ -28,7 +28,8 @@ class Tables(unittest.TestCase):
         self.same('touch-table', 'touch_table')
 
     def test_event_table(self):
-        self.same('event-table', 'event_table', ['tests/outside.py', 'tests/vectors/05-sizes.jsonl', 'tests/vectors/07-versions.jsonl'])
+        vectors = ['05-sizes.jsonl', '07-versions.jsonl', '10-kind32.jsonl']
+        self.same('event-table', 'event_table', ['tests/outside.py', *('tests/vectors/' + name for name in vectors)])
 
     @unittest.skipUnless(shutil.which('riscv64-linux-gnu-as') and shutil.which('riscv64-linux-gnu-objdump'), 'needs binutils-riscv64-linux-gnu')
     def test_decode_table(self):

@@ -10,11 +10,11 @@ import riscv
 
 
 def table():
-    """(word, the table's text for it) of each line, and the words of the table's input."""
+    """(word, the table's text for it) of each line of RV64I, which come first, and the words of the table's input."""
     folder = os.path.join(ROOT, 'crates', 'decode_table')
     words = [word for word, in struct.iter_unpack('<I', data(os.path.join(folder, 'stdin')))]
     lines = data(os.path.join(folder, 'stdout')).decode().splitlines()
-    return words, [(int(line[:8], 16), line[9:]) for line in lines]
+    return words, [(int(line[:8], 16), line[9:]) for line in lines[:len(words)]]
 
 
 def in_table_layout(text):
@@ -67,6 +67,33 @@ class Words(unittest.TestCase):
                  'addiw slliw srliw sraiw add sub sll slt sltu xor srl sra or and addw subw sllw srlw sraw fence ecall ebreak').split()
         names += ['%s.%s' % (op, w) for op in 'lr sc amoswap amoadd amoxor amoand amoor amomin amomax amominu amomaxu amocas'.split() for w in 'wd']
         self.assertEqual(sorted(riscv.INSTRUCTIONS), sorted(names + ['amocas.q']))
+
+    def test_mnemonics_of_rv32(self):
+        names = ('lui auipc jal jalr beq bne blt bge bltu bgeu lb lh lw lbu lhu sb sh sw addi slti sltiu xori ori andi slli srli srai '
+                 'add sub sll slt sltu xor srl sra or and fence ecall ebreak lr.w sc.w amocas.w amocas.d').split()
+        names += ['amo%s.w' % op for op in 'swap add xor and or min max minu maxu'.split()]
+        self.assertEqual(sorted(riscv.BY_XLEN[32]), sorted(names))
+
+    def test_words_of_rv32(self):
+        """A word of RV32 is one of RV64 with the same text. RV64 alone has: words of other names, shifts by 32 and more, amocas.d on odd registers."""
+        rng, alone = random.Random(2), set()
+        words = [rng.randrange(1 << 25) << 7 | opcode for opcode in range(3, 128, 4) for _ in range(2000)] + table()[0]
+        for word in words:
+            narrow, wide = riscv.disassemble(word, 32), riscv.disassemble(word, 64)
+            if narrow:
+                self.assertEqual((narrow, riscv.assemble(narrow, xlen=32), riscv.target(word)), (wide, word, riscv.target(word)))
+            elif wide:
+                alone.add(riscv.decode(word)[0])
+                with self.assertRaises(ValueError, msg=wide):
+                    riscv.assemble(wide, xlen=32)
+        self.assertEqual(alone, set(riscv.BY_XLEN[64]) - set(riscv.BY_XLEN[32]) | {'slli', 'srli', 'srai', 'amocas.d'})
+
+    def test_pairs_of_rv32(self):
+        for rd in range(32):
+            for rs2 in range(32):
+                word, even = 0x2802B02F | rd << 7 | rs2 << 20, rd % 2 == rs2 % 2 == 0
+                self.assertEqual(riscv.disassemble(word), 'amocas.d x%d,x%d,(x5)' % (rd, rs2))
+                self.assertEqual(riscv.disassemble(word, 32), 'amocas.d x%d,x%d,(x5)' % (rd, rs2) if even else None)
 
     def test_spellings(self):
         for text, word in (('lr.w x6,(x5)', 0x1002A32F), ('sc.w t2, s0, 0(t0)', 0x1882A3AF), ('sc.w.aqrl x7,x8,(x5)', 0x1E82A3AF),

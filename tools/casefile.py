@@ -6,8 +6,9 @@ from collections import Counter, namedtuple
 STEP, DEVICE, YIELD = 1, 2, 3
 Hart = namedtuple('Hart', 'registers pc')                    # registers: x1 to x31
 Event = namedtuple('Event', 'kind hart size address data')
-Case = namedtuple('Case', 'base harts memory events')
+Case = namedtuple('Case', 'base harts memory events kind', defaults=(0,))    # kind: of the core, a place in WIDTHS
 Answer = namedtuple('Answer', 'said losers')                 # said: 'ok', 'sc 0', 'sc 1', 'trap CAUSE VALUE'; losers: of HARTS, those behind `broke`
+WIDTHS = (64, 32)                                            # of the registers, by the kind
 HARTS = tuple('h%d' % hart for hart in range(8))
 WRITERS = (*HARTS, 'd')                                      # of a write that breaks reservations, as the lines name them
 
@@ -48,15 +49,16 @@ def read_table(data):
 
 
 def read_harts(body):
+    """The base, the harts and the kind."""
     if len(body) < 16:
         raise Refused(9, 40, 'the body has %d bytes, fewer than 16' % len(body))
-    base, count, zero = struct.unpack('<QII', body[:16])
+    base, count, kind = struct.unpack('<QII', body[:16])
     if not 1 <= count <= 8:
         raise Refused(9, 40, 'the count is %d, not 1 to 8' % count)
     if len(body) != 16 + 256 * count:
         raise Refused(9, 40, 'the body of %d harts has %d bytes, not %d' % (count, len(body), 16 + 256 * count))
-    if zero:
-        raise Refused(9, 40, 'the zero field is %d' % zero)
+    if kind >= len(WIDTHS):
+        raise Refused(9, 40, 'the kind is %d, not 0 (64-bit) or 1 (32-bit)' % kind)
     if base % 64 or base > 1 << 40:
         raise Refused(9, 40, 'the base %#x is no multiple of 64, or above 2^40' % base)
     harts = []
@@ -64,8 +66,11 @@ def read_harts(body):
         *registers, pc = struct.unpack_from('<32Q', body, 16 + 256 * h)
         if pc % 4:
             raise Refused(9, 40, 'the pc of hart %d, %#x, is no multiple of 4' % (h, pc))
+        wide = next((name for name, value in zip([*('x%d' % r for r in range(1, 32)), 'pc'], [*registers, pc]) if value >> WIDTHS[kind]), None)
+        if wide:
+            raise Refused(9, 40, '%s of hart %d has more than 32 bits' % (wide, h))
         harts.append(Hart(tuple(registers), pc))
-    return base, harts
+    return base, harts, kind
 
 
 def event_fault(event, zeros, base, length, harts):
@@ -105,16 +110,18 @@ def read(data):
     if not 40 <= len(data) <= 65536:
         raise Refused(7, 0, '%d bytes, not 40 to 65536' % len(data))
     harts_body, memory, events_body = read_table(data)
-    base, harts = read_harts(harts_body)
+    base, harts, kind = read_harts(harts_body)
     start = 40 + len(harts_body)
     if not 64 <= len(memory) <= 1 << 20 or len(memory) % 64:
         raise Refused(10, start, '%d bytes, no multiple of 64 from 64 on' % len(memory))
-    return Case(base, harts, memory, read_events(events_body, start + len(memory), base, len(memory), len(harts)))
+    if WIDTHS[kind] == 32 and base + len(memory) > 1 << 32:
+        raise Refused(10, start, '%d bytes at %#x, which end above 2^32' % (len(memory), base))
+    return Case(base, harts, memory, read_events(events_body, start + len(memory), base, len(memory), len(harts)), kind)
 
 
 def write(case):
     """The bytes of a case; read() of them gives it back."""
-    harts = struct.pack('<QII', case.base, len(case.harts), 0) + b''.join(struct.pack('<32Q', *h.registers, h.pc) for h in case.harts)
+    harts = struct.pack('<QII', case.base, len(case.harts), case.kind) + b''.join(struct.pack('<32Q', *h.registers, h.pc) for h in case.harts)
     events = b''.join(struct.pack('<3B5xQQ', *event) for event in case.events)
     table, start = struct.pack('<I', 3), 40
     for kind, body in enumerate((harts, case.memory, events), 1):

@@ -1,7 +1,10 @@
 """The text of a case:
 
   # a comment goes to the end of its line (in an elf line it starts behind a space); blank lines and indentation are free
-  base 0                    the memory's first address: a multiple of 64, at most 2^40 (0 if not given)
+  kind 64                   the kind of core, by the width of its registers: 64 or 32 (64 if not given, or what an elf's class says); it stands
+                            above the first instruction
+  base 0                    the memory's first address: a multiple of 64, at most 2^40 (0 if not given); the end of a 32-bit core's memory is at
+                            most 2^32
   memory 128                the memory's length in bytes, a multiple of 64
   hart 0 pc=0 x5=64         a hart, numbered from 0; what isn't given is zero, and pc the base (or an elf's entry)
     x6=-1 a0=lock           .. more of its registers
@@ -25,7 +28,8 @@ stand for a number where an address makes sense: registers, pc, .word, .dword, a
 names. Instructions are those of the model: RV64I without FENCE.I and CSRs, lr, sc and amo* with .w or .d, amocas with .w, .d or .q, each with
 .aq, .rl or .aqrl behind it or not; fence is `fence`, `fence PRED,SUCC`, `fence.tso`, or `fence rd,rs1,NUMBER` with its upper 12 bits as a
 number. These pseudo-instructions stand for the words that GNU as makes of them: nop, li (any number of 64 bits; up to 8 words), mv, not, neg,
-negw, sext.w, seqz, snez, sltz, sgtz, beqz, bnez, blez, bgez, bltz, bgtz, bgt, ble, bgtu, bleu, j, jr, ret.
+negw, sext.w, seqz, snez, sltz, sgtz, beqz, bnez, blez, bgez, bltz, bgtz, bgt, ble, bgtu, bleu, j, jr, ret. Those of a 32-bit core are RV32I,
+lr, sc and amo* with .w, and amocas with .w or, on even registers, .d; without negw and sext.w, and li takes numbers of 32 bits.
 
 An example, which is crates/floecavern/stdin: two harts, an LR and an SC each, and a device write between them.
 
@@ -48,7 +52,7 @@ from collections import namedtuple
 
 import elf
 import riscv
-from casefile import CAUSES, DEVICE, STEP, YIELD, Case, Event, Hart, event_fault, right_line, write
+from casefile import CAUSES, DEVICE, STEP, WIDTHS, YIELD, Case, Event, Hart, event_fault, right_line, write
 
 SIZES = {'.byte': 1, '.half': 2, '.word': 4, '.dword': 8}
 NOP = riscv.assemble('addi x0,x0,0').to_bytes(4, 'little')
@@ -72,6 +76,7 @@ class Maker:
         self.labels, self.harts, self.pieces, self.events = {}, [], [], []
         self.has_events, self.warnings, self.files = False, [], []
         self.code = False                                    # whether the line before in memory is an instruction
+        self.xlen = self.kind_line = None                    # the width, once a line says it or needs it; whether a kind line does
 
     def line(self, n, text):
         self.n = n
@@ -79,7 +84,7 @@ class Maker:
         if words[0] == 'elf':
             self.section = None
             self.do_elf(text[len('elf'):].strip())           # the name of a file may have spaces
-        elif words[0] in ('base', 'memory', 'hart', 'at', 'events'):
+        elif words[0] in ('kind', 'base', 'memory', 'hart', 'at', 'events'):
             self.section = None
             getattr(self, 'do_' + words[0])(words[1:])
         elif self.section == 'hart':
@@ -89,7 +94,7 @@ class Maker:
         elif self.section == 'events':
             self.event(words)
         else:
-            self.fail('%r: base, memory, hart, elf, at or events is wanted here' % words[0])
+            self.fail('%r: kind, base, memory, hart, elf, at or events is wanted here' % words[0])
 
     def fail(self, what):
         raise TextError(self.n, what)
@@ -128,6 +133,16 @@ class Maker:
         return words[0]
 
     # the sections
+
+    def do_kind(self, words):
+        if self.kind_line:
+            self.fail('kind is given twice')
+        xlen = self.number(self.only(words, 'kind 64 or kind 32'), 0, 64, 'kind')
+        if xlen not in WIDTHS:
+            self.fail('kind: %s is neither 64 nor 32' % words[0])
+        if self.xlen not in (None, xlen):
+            self.fail('kind: what stands above has %d bits: write kind %d above the first instruction and the elf' % (self.xlen, xlen))
+        self.xlen, self.kind_line = xlen, True
 
     def do_base(self, words):
         if self.base is not None:
@@ -180,8 +195,11 @@ class Maker:
             self.fail('elf %s: %s' % (name, error.strerror))
         except ValueError as error:
             self.fail('elf %s: %s' % (name, error))
+        if self.xlen not in (None, program.xlen):
+            self.fail('elf %s: it is of %d bits: the case has %d' % (name, program.xlen, self.xlen))
+        self.xlen = program.xlen
         if program.compressed:
-            self.warn('elf %s: it may have compressed words, which the model has not: compile it with -march=rv64ia' % name)
+            self.warn('elf %s: it may have compressed words, which the model has not: compile it with -march=rv%dia' % (name, self.xlen))
         self.entry = program.entry
         for s in program.segments:
             headers = ' (with the headers of the file: link with -N)' if s.data.startswith(elf.MAGIC) else ''
@@ -228,9 +246,10 @@ class Maker:
         self.code = True
         if self.place % 4:
             self.fail('an instruction stands at a multiple of 4, not at %#x' % self.place)
-        lines = self.tried(riscv.expand, text)
+        xlen = self.xlen = self.xlen or 64
+        lines = self.tried(riscv.expand, text, xlen)
         places = range(self.place, self.place + 4 * len(lines), 4)
-        return 4 * len(lines), lambda: b''.join(self.tried(riscv.assemble, t, self.label, p).to_bytes(4, 'little') for t, p in zip(lines, places))
+        return 4 * len(lines), lambda: b''.join(self.tried(riscv.assemble, t, self.label, p, xlen).to_bytes(4, 'little') for t, p in zip(lines, places))
 
     def tried(self, function, *args):
         try:
@@ -295,7 +314,7 @@ class Maker:
     def hart(self, settings):
         registers, pc = [0] * 32, self.base if self.entry is None else self.entry
         for key, (self.n, text) in settings.items():
-            value = self.value(text, 64, 'pc' if key == 'pc' else 'x%d' % key)
+            value = self.value(text, self.xlen, 'pc' if key == 'pc' else 'x%d' % key)
             if key == 'pc':
                 pc = value
                 if pc % 4:
@@ -338,14 +357,16 @@ class Maker:
             self.fail('the text ends without a hart')
         if not self.has_events:
             self.warn('the text ends without a line: events; the case has no events')
-        self.base = self.base or 0
+        self.base, self.xlen = self.base or 0, self.xlen or 64
+        if self.xlen == 32 and self.base + self.length > 1 << 32:
+            self.fail('the memory ends at %#x, above 2^32: the case has 32 bits' % (self.base + self.length))
         total = 56 + 256 * len(self.harts) + self.length + 24 * len(self.events)
         if total > 65536:
             self.fail('the file would have %d bytes, more than 65536' % total)
         harts, memory, events = [self.hart(h) for h in self.harts], self.memory(), []
         for self.n, kind, words in self.events:
             events.append(self.made(kind, words))
-        return Case(self.base, harts, memory, events)
+        return Case(self.base, harts, memory, events, WIDTHS.index(self.xlen))
 
 
 def uncommented(line):
@@ -389,7 +410,7 @@ def hart_lines(number, hart):
 def memory_lines(case):
     """Every word that isn't zero: as an instruction where it is one, else as a number, up to four on a line. Short runs of zeros stay."""
     words = [int.from_bytes(case.memory[k:k + 4], 'little') for k in range(0, len(case.memory), 4)]
-    k, following = 0, False
+    k, following, xlen = 0, False, WIDTHS[case.kind]
     while k < len(words):
         run = next((j for j in range(k, len(words)) if words[j]), len(words)) - k
         if run == len(words) - k:
@@ -398,15 +419,15 @@ def memory_lines(case):
             k, following = k + run, True
             yield ''
             yield 'at %#x' % (case.base + 4 * k)
-        text = riscv.disassemble(words[k])
+        text = riscv.disassemble(words[k], xlen)
         if text:
             offset, place = riscv.target(words[k]), case.base + 4 * k
-            to = '' if offset is None else ', to %#x' % ((place + offset) % (1 << 64))
+            to = '' if offset is None else ', to %#x' % ((place + offset) % (1 << xlen))
             yield beside('  ' + text, '%x: %08x%s' % (place, words[k], to))
             k += 1
         else:
             end = min(k + 4, len(words))
-            end = next((j for j in range(k + 1, end) if riscv.disassemble(words[j]) or not any(words[j:j + 3])), end)
+            end = next((j for j in range(k + 1, end) if riscv.disassemble(words[j], xlen) or not any(words[j:j + 3])), end)
             yield beside('  .word ' + ' '.join('%#x' % word for word in words[k:end]), '%x' % (case.base + 4 * k))
             k = end
 
@@ -422,20 +443,23 @@ def printable(line):
     return re.sub(r'[^ -~]', lambda found: found.group().encode('unicode_escape').decode(), line)
 
 
-def event_line(number, event, lines, harts):
+def event_line(number, event, lines, case):
     """An event with its number or, where lines are given, what the program wrote for it; behind a device write of a word, its disassembly."""
     mine = ['%d' % number] if lines is None else lines.get(number, ['%d: no line' % number])
     comment = ' | '.join(map(printable, mine))
-    if len(mine) == 1 and ' trap ' in comment and right_line(number, event, comment, harts):
+    if len(mine) == 1 and ' trap ' in comment and right_line(number, event, comment, len(case.harts)):
         comment += '  (%s)' % CAUSES[int(comment.split()[3])]
-    if event.size == 4 and event.address % 4 == 0 and riscv.disassemble(event.data):
-        comment += '  (%s)' % riscv.disassemble(event.data)
+    word = riscv.disassemble(event.data, WIDTHS[case.kind]) if event.size == 4 and event.address % 4 == 0 else None
+    if word:
+        comment += '  (%s)' % word
     return beside('  ' + event_text(event), comment)
 
 
 def show(case, lines=None):
     """The text of a case; make() of it gives the same case. lines: what the program wrote, by number of event."""
     yield '# %d harts, %d bytes of memory at %#x, %d events' % (len(case.harts), len(case.memory), case.base, len(case.events))
+    if WIDTHS[case.kind] != 64:
+        yield 'kind %d' % WIDTHS[case.kind]
     yield 'base %#x' % case.base
     yield 'memory %d' % len(case.memory)
     yield ''
@@ -445,4 +469,4 @@ def show(case, lines=None):
     yield ''
     yield 'events'
     for number, event in enumerate(case.events):
-        yield event_line(number, event, lines, len(case.harts))
+        yield event_line(number, event, lines, case)

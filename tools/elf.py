@@ -1,4 +1,4 @@
-"""What of a RISC-V program goes into memory: an ELF file of 64 bits, the lowest byte first, linked to fixed addresses. Used by tools/case.
+"""What of a RISC-V program goes into memory: an ELF file of 64 or 32 bits, the lowest byte first, linked to fixed addresses. Used by tools/case.
 
 The file is read by pyelftools (Debian: apt-get install python3-pyelftools). All else of the tools works without it.
 """
@@ -11,7 +11,7 @@ except ImportError:
     ELFFile = None
 
 Segment = namedtuple('Segment', 'number address data size')  # size: with the zeros behind the data (.bss)
-Program = namedtuple('Program', 'entry segments compressed')
+Program = namedtuple('Program', 'entry segments compressed xlen')
 MAGIC, COMPRESSED = b'\x7fELF', 1                            # how a file begins; a bit of e_flags
 TYPES = {'ET_REL': 'it is not linked', 'ET_DYN': 'it is position-independent: link it with -static and -no-pie', 'ET_CORE': 'it is a core dump'}
 
@@ -28,8 +28,6 @@ def opened(data):
 
 
 def check(file, segments):
-    if file.elfclass != 64:
-        raise ValueError('it is of 32 bits: the model has 64')
     if not file.little_endian:
         raise ValueError('it has the highest byte first: the model has the lowest first')
     if file['e_machine'] != 'EM_RISCV':
@@ -70,4 +68,4 @@ def read(data):
         raise ValueError('its entry %#x is not in what it loads' % entry)
     if entry % 4:
         raise ValueError('its entry %#x is no multiple of 4' % entry)
-    return Program(entry, loads, bool(file['e_flags'] & COMPRESSED))
+    return Program(entry, loads, bool(file['e_flags'] & COMPRESSED), file.elfclass)

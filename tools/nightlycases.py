@@ -21,7 +21,7 @@ from nightlylogs import one_log, stray_log
 from nightlypage import case_failed, failed, seconds
 from nightlyrun import kill_all, run, stop
 
-FORMAT = 'floecavern nightly counts 4'
+FORMAT = 'floecavern nightly counts 5'
 
 
 # ---- one case

@@ -20,8 +20,9 @@ import tempfile
 import time
 from collections import Counter, namedtuple
 
+from casefile import WIDTHS
 from nightlyfolder import board, file_hash, opened, plain
-from nightlyrows import ALWAYS_TRAP, ROW, Rows, cannot_agree, form_fault, in_memory, rd_of, split, well_formed
+from nightlyrows import ALWAYS_TRAP, ROW, Rows, cannot_agree, form_fault, in_memory, rd_of, split, well_formed, width_of
 from nightlyrun import run
 from riscv import decode, target
 
@@ -60,7 +61,8 @@ def width(name):
 
 def trap_fault(case, row, cause, value):
     """Why a row's step can't trap in this way; None if it can."""
-    pc, word, found = int(row.pc, 16), int(row.word, 16), decode(int(row.word, 16))
+    pc, word, xlen = int(row.pc, 16), int(row.word, 16), width_of(case)
+    found = decode(word, xlen)
     if (cause == 1) != (not in_memory(case, pc, 4)):
         return 'pc %#x is %s memory' % (pc, 'in' if cause == 1 else 'not in')
     name, form = found or (None, None)
@@ -68,9 +70,9 @@ def trap_fault(case, row, cause, value):
         (0,) if form in ('jump', 'branch') or name == 'jalr' else (4, 5) if form in ('load', 'lr') else (6, 7) if form in ('store', 'amo') else ())
     if cause != 1 and cause not in causes:
         return '%s has no such trap' % (name or 'a word that is no instruction')
-    exact = {1: pc, 2: word, 3: 0, 8: 0, 0: (pc + target(word)) % 2 ** 64 if target(word) is not None else value}.get(cause, value)
-    if value != exact:
-        return 'its value would be %016x' % exact
+    exact = {1: pc, 2: word, 3: 0, 8: 0, 0: (pc + target(word)) % 2 ** xlen if target(word) is not None else value}.get(cause, value)
+    if value != exact or value >> xlen:
+        return 'its value would be %016x' % exact if value != exact else 'its value has more than %d bits' % xlen
     if cause == 0 and value % 4 == 0 or cause in (4, 6) and value % width(name) == 0:
         return 'the address is aligned'
     if cause in (5, 7) and (value % width(name) or in_memory(case, value, width(name))):
@@ -80,13 +82,15 @@ def trap_fault(case, row, cause, value):
 
 def stop_fault(case, answer, row):
     """Why a stop can't be right for its row, which is well formed; None if it can."""
-    pc, word = int(row.pc, 16), int(row.word, 16)
+    pc, word, found = int(row.pc, 16), int(row.word, 16), decode(int(row.word, 16), width_of(case))
     if answer.field == 'trap':
         return trap_fault(case, row, int(answer.model[0]), int(answer.model[2:], 16))
     if answer.board != getattr(row, answer.field):
         return 'the row has the %s %s' % (answer.field, getattr(row, answer.field))
     if answer.board == answer.model:
         return 'the two values are equal'
+    if answer.field in ('pc', 'value') and int(answer.model, 16) >> width_of(case):
+        return 'the %s of a model has no more than %d bits' % (answer.field, width_of(case))
     if answer.field == 'pc':
         return 'the pc of a model is a multiple of 4' if int(answer.model, 16) % 4 else None
     if answer.field == 'word':
@@ -94,7 +98,7 @@ def stop_fault(case, answer, row):
     if answer.field == 'value':
         why = cannot_agree(row._replace(value='0'), case)
         return why or ('x0 is zero' if row.rd == '00' and int(answer.model, 16) else None)
-    if not in_memory(case, pc, 4) or not decode(word) or decode(word)[0] in ALWAYS_TRAP:
+    if not in_memory(case, pc, 4) or not found or found[0] in ALWAYS_TRAP:
         return 'the row traps'
     return None if int(answer.model) == rd_of(word) else 'its word has rd %02d' % rd_of(word)
 
@@ -138,14 +142,15 @@ def possible_stop(stop):
     if stop['field'] == 'form':
         return stop['form'] is not None
     values = ''.join(' ' + value for value in (stop['board'], stop['model']) if value is not None)
-    return bool(re.fullmatch(STOPS[stop['field']], values)) and well_formed(stop['line'].encode('utf-8', 'backslashreplace') + b'\n', 8)
+    line = stop['line'].encode('utf-8', 'backslashreplace') + b'\n'
+    return stop['xlen'] in WIDTHS and bool(re.fullmatch(STOPS[stop['field']], values)) and well_formed(line, 8)
 
 
 def stop_of(answer, found):
     """A stop as the record has it."""
     line = (found.at[:-1] if found.at.endswith(b'\n') else found.at).decode('latin-1')
     return {'row': answer.row, 'field': answer.field, 'board': answer.board or None, 'model': answer.model or None, 'line': line,
-            'form': form_fault(found.at, found.harts) if answer.field == 'form' else None}
+            'form': form_fault(found.at, found.harts) if answer.field == 'form' else None, 'xlen': found.xlen}
 
 
 # ---- control rows

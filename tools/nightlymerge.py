@@ -20,7 +20,7 @@ ROW = {'name': str, 'sha256': str, 'expected': str, 'uncompared': bool, 'outcome
        'seconds': float, 'kept': list, 'unkept': TEXT, 'logs': list, 'unlogged': bool}
 LOG = {'name': str, 'board': str, 'sha256': str, 'bytes': (int, type(None)), 'outcome': str, 'what': TEXT, 'refusal': TEXT,
        'stop': (dict, type(None)), 'counts': dict, 'seconds': float, 'kept': list, 'unkept': TEXT, 'uncontrolled': TEXT}
-STOP = {'row': int, 'field': str, 'board': TEXT, 'model': TEXT, 'line': str, 'form': TEXT}
+STOP = {'row': int, 'field': str, 'board': TEXT, 'model': TEXT, 'line': str, 'form': TEXT, 'xlen': int}
 BROKE = {'broke %s %s' % (writer, loser) for writer in WRITERS for loser in HARTS if writer != loser}         # a hart doesn't break its own
 APART = 24 * 3600         # seconds between the starts of two parts that may be of one night, if it has no name
 

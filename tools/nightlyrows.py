@@ -8,6 +8,7 @@ import hashlib
 import re
 from collections import Counter, namedtuple
 
+from casefile import WIDTHS
 from nightlyrun import stop as night
 from riscv import INSTRUCTIONS, decode, get
 
@@ -47,15 +48,20 @@ def form_fault(row, harts):
 
 # ---- what a word says of its row
 
+def width_of(case):
+    """The width of a case's registers; 64 where there is no case."""
+    return WIDTHS[case.kind] if case else 64
+
+
 def rd_of(word):
-    """The rd of a row that holds this instruction: 0 where it has none."""
+    """The rd of a row that holds this instruction: 0 where it has none. It is the same for both widths."""
     return 0 if decode(word)[1] in ('store', 'branch', 'fence', 'alone') else get('rd', word)
 
 
 @functools.lru_cache(1 << 16)
-def meaning(key):
+def meaning(key, xlen):
     """Of a row's word and rd, as their bytes stand in it: the instruction, and whether a step of it can retire and leave this rd."""
-    word, found = int(key[:8], 16), decode(int(key[:8], 16))
+    word, found = int(key[:8], 16), decode(int(key[:8], 16), xlen)
     return (found[0], found[0] not in ALWAYS_TRAP and rd_of(word) == int(key[9:])) if found else (NO_INSTRUCTION, False)
 
 
@@ -65,14 +71,16 @@ def in_memory(case, address, size):
 
 def cannot_agree(row, case):
     """Why no model can agree with a well formed row, whatever its state is; None if one can."""
-    pc, word, rd = int(row.pc, 16), int(row.word, 16), int(row.rd)
-    found = decode(word)
+    pc, word, rd, xlen = int(row.pc, 16), int(row.word, 16), int(row.rd), width_of(case)
+    found = decode(word, xlen)
     if pc % 4 or not in_memory(case, pc, 4):
         return 'its pc %#x is %s' % (pc, 'no multiple of 4' if pc % 4 else 'not in memory')
     if not found or found[0] in ALWAYS_TRAP:
         return 'its word %s is %s, which always traps' % (row.word, found[0] if found else NO_INSTRUCTION)
     if rd != rd_of(word):
         return 'its rd is %s, that of its word %s is %02d' % (row.rd, row.word, rd_of(word))
+    if int(row.value, 16) >> xlen:
+        return 'its value has more than the %d bits of a register' % xlen
     return 'its value is not zero, but x0 is' if rd == 0 and int(row.value, 16) else None
 
 
@@ -85,6 +93,7 @@ class Rows:
 
     def __init__(self, path, case, stop):
         self.case, self.harts, self.stop = case, len(case.harts) if case else 8, stop if case else 0
+        self.xlen = width_of(case)
         self.size, self.bad, self.odd, self.at = 0, None, None, b''
         self.all, self.agreed, self.first = Counter(), Counter(), {}
         sha = hashlib.sha256()
@@ -122,7 +131,7 @@ class Rows:
         keys, fit = [rows[k:k + 11] for k in range(19, len(rows), ROW)], True
         new = {}
         for key, n in Counter(keys).items():
-            kind, fits = meaning(key)
+            kind, fits = meaning(key, self.xlen)
             self.all[kind] += n
             if agreed:
                 self.agreed[kind] += n
@@ -134,8 +143,10 @@ class Rows:
             self.find_odd(rows, first)
 
     def can_agree(self, rows):
-        """Whether the pcs of these rows are in memory and multiples of 4, and every value in x0 is zero."""
+        """Whether the pcs of these rows are in memory and multiples of 4, no value is wider than a register, and every value in x0 is zero."""
         pcs = [rows[k:k + 16] for k in range(2, len(rows), ROW)]
+        if self.xlen == 32 and any(rows[k:k + 8] != b'00000000' for k in range(31, len(rows), ROW)):
+            return False
         return (in_memory(self.case, int(min(pcs), 16), 4) and in_memory(self.case, int(max(pcs), 16), 4)
                 and not rows[17::ROW].translate(None, b'048c') and not NOT_ZERO_IN_X0.search(rows))
 

@@ -122,8 +122,8 @@ def uncontrolled(record):
 
 # ---- a stop
 
-def word_text(word):
-    return disassemble(int(word, 16)) or '%s, no instruction of the model' % word
+def word_text(word, xlen):
+    return disassemble(int(word, 16), xlen) or '%s, no instruction of the model' % word
 
 
 def difference_text(stop, row):
@@ -133,7 +133,7 @@ def difference_text(stop, row):
         cause, value = int(model[0]), int(model[2:], 16)
         return 'trap: board x%d = %s, model cause %d (%s), value %s' % (int(row.rd), short(int(row.value, 16)), cause, CAUSES[cause], short(value))
     if field == 'word':
-        return 'word: board %s, model %s (%s)' % (board, model, word_text(model))
+        return 'word: board %s, model %s (%s)' % (board, model, word_text(model, stop['xlen']))
     base = 10 if field == 'rd' else 16
     return '%s: board %s, model %s' % (field, *(str(int(n)) if field == 'rd' else short(int(n, base)) for n in (board, model)))
 
@@ -146,7 +146,7 @@ def stop_text(log):
         return 'row %s: badly formed: %s; the row is %s%s' % (number(stop['row']), stop['form'], ascii(stop['line']), behind)
     row = split(stop['line'].encode())
     return 'row %s, h%s at %#x: %s: %s%s' % (
-        number(stop['row']), row.hart, int(row.pc, 16), word_text(row.word), difference_text(stop, row), behind)
+        number(stop['row']), row.hart, int(row.pc, 16), word_text(row.word, stop['xlen']), difference_text(stop, row), behind)
 
 
 def board_text(log):

@@ -1,5 +1,5 @@
-"""The 32-bit words of the model as text, and back: RV64I without FENCE.I and CSRs, A, and AMOCAS; and what pseudo-instructions stand for.
-Used by tools/case and tools/nightly."""
+"""The 32-bit words of the model as text, and back: RV64I and RV32I without FENCE.I and CSRs, A, and AMOCAS; and what pseudo-instructions stand for.
+xlen is the width of the registers, 64 or 32. Used by tools/case and tools/nightly."""
 import functools
 import re
 
@@ -74,10 +74,24 @@ def instructions():
     return table
 
 
+def of_rv32(table):
+    """The instructions of RV32 among those of RV64: the amount of a shift has 5 bits there, and of all D and Q there is amocas.d alone."""
+    alone = 'ld lwu sd addiw slliw srliw sraiw addw subw sllw srlw sraw'.split()
+    kept = (name for name in table if name not in alone and (name == 'amocas.d' or not name.endswith(('.d', '.q'))))
+    return {name: ({'shift': 'shiftw'}.get(table[name][0], table[name][0]), table[name][1]) for name in kept}
+
+
+def by_opcode(table):
+    found = {}
+    for name, (form, bits) in table.items():
+        found.setdefault(bits & 127, []).append((name, form, bits, FORMS[form][0]))
+    return found
+
+
 INSTRUCTIONS = instructions()
-BY_OPCODE = {}
-for _name, (_form, _bits) in INSTRUCTIONS.items():
-    BY_OPCODE.setdefault(_bits & 127, []).append((_name, _form, _bits, FORMS[_form][0]))
+BY_XLEN = {64: INSTRUCTIONS, 32: of_rv32(INSTRUCTIONS)}
+BY_OPCODE = {xlen: by_opcode(table) for xlen, table in BY_XLEN.items()}
+PAIRS = {64: 'amocas.q', 32: 'amocas.d'}                     # of even registers and those behind them
 
 
 def get(field, word):
@@ -92,11 +106,11 @@ def put(field, value):
 
 # ---- a word to its text
 
-def decode(word):
+def decode(word, xlen=64):
     """(name without its ordering, form) of a word, or None of one that is no instruction of the model."""
-    for name, form, bits, mask in BY_OPCODE.get(word & 127, ()):
+    for name, form, bits, mask in BY_OPCODE[xlen].get(word & 127, ()):
         if word & mask == bits:
-            return None if name == 'amocas.q' and word & 0x00100080 else (name, form)
+            return None if name == PAIRS[xlen] and word & 0x00100080 else (name, form)
     return None
 
 
@@ -112,9 +126,9 @@ def fence_text(word):
 
 
 @functools.lru_cache(1 << 16)
-def disassemble(word):
+def disassemble(word, xlen=64):
     """The text of a word; None of one that is no instruction of the model. Offsets of branches and jal count from their own address."""
-    found = decode(word)
+    found = decode(word, xlen)
     if found is None:
         return None
     name, form = found
@@ -206,23 +220,23 @@ def signed(value, bits):
     return value - (1 << bits) if value >> bits - 1 else value
 
 
-def load_constant(rd, value):
-    """The instructions by which GNU as loads a number beyond 12 bits. One of 32 bits: lui, and addiw for the low 12 bits. Any other: what stands
-    above the low 12 bits, without the zeros at its end, in the same way; then a shift, and addi for the low 12 bits. GNU as writes addiw also
-    where addi would do, and into x0 also where the low bits are zero."""
+def load_constant(rd, value, xlen=64):
+    """The instructions by which GNU as loads a number beyond 12 bits. One of 32 bits: lui, and addiw (in RV32 addi) for the low 12 bits. Any other:
+    what stands above the low 12 bits, without the zeros at its end, in the same way; then a shift, and addi for the low 12 bits. GNU as writes addiw
+    also where addi would do, and into x0 also where the low bits are zero."""
     low = signed(value, 12)
     high = signed(value - low, 64)
     if value == signed(value, 32):
-        upper = ['lui %s,%#x' % (rd, high >> 12 & 0xFFFFF)] if high else []
-        return upper + (['addiw %s,%s,%d' % (rd, rd if high else 'x0', low)] if low or not high or rd == 'x0' else [])
+        upper, add = ['lui %s,%#x' % (rd, high >> 12 & 0xFFFFF)] if high else [], 'addiw' if xlen == 64 else 'addi'
+        return upper + (['%s %s,%s,%d' % (add, rd, rd if high else 'x0', low)] if low or not high or rd == 'x0' else [])
     shift = (high & -high).bit_length() - 1
     return load_constant(rd, high >> shift) + ['slli %s,%s,%d' % (rd, rd, shift)] + (['addi %s,%s,%d' % (rd, rd, low)] if low else [])
 
 
-def expand(text):
+def expand(text, xlen=64):
     """The instructions, as texts, that a line stands for: one or more of a pseudo-instruction, else the line itself."""
     name, *rest = text.split(None, 1)
-    if name not in PSEUDO:
+    if name not in PSEUDO or xlen == 32 and name in ('negw', 'sext.w'):      # these two stand for words of RV64 alone
         return [text]
     shape, given = fields(name, PSEUDO[name], operands(''.join(rest)))
     if name != 'li':
@@ -230,10 +244,10 @@ def expand(text):
     value = number(given['constant'])
     if value is None:
         raise ValueError('%r is no number' % given['constant'])
-    if not -1 << 63 <= value < 1 << 64:
-        raise ValueError('%d is out of range: %d to %d' % (value, -1 << 63, (1 << 64) - 1))
-    rd, value = 'x%d' % register(given['rd']), signed(value, 64)
-    return ['addi %s,x0,%d' % (rd, value)] if value == signed(value, 12) else load_constant(rd, value)
+    if not -1 << xlen - 1 <= value < 1 << xlen:
+        raise ValueError('%d is out of range: %d to %d' % (value, -1 << xlen - 1, (1 << xlen) - 1))
+    rd, value = 'x%d' % register(given['rd']), signed(value, xlen)
+    return ['addi %s,x0,%d' % (rd, value)] if value == signed(value, 12) else load_constant(rd, value, xlen)
 
 
 def assemble_fence(name, args):
@@ -255,23 +269,32 @@ def assemble_fence(name, args):
     raise ValueError('write fence, fence PRED,SUCC, fence rd,rs1,NUMBER, or fence.tso')
 
 
-def assemble(text, resolve=None, address=0):
-    """The word of an instruction's text. resolve gives a label's address, for branches and jal; ValueError says what is wrong."""
-    name, *rest = text.split(None, 1)
-    rest = operands(''.join(rest))
-    if name in ('fence', 'fence.tso'):
-        return assemble_fence(name, rest.split(',') if rest else [])
+def known(name, xlen):
+    """An instruction by its name: the name without its ordering, the form, the bits that name it, and the ordering. ValueError of one that the model
+    has not."""
     plain, order = name, 0
     for bits in (3, 2, 1):
         if name.endswith(ORDERINGS[bits]):
             plain, order = name[:-len(ORDERINGS[bits])], bits
             break
-    if plain not in INSTRUCTIONS or order and INSTRUCTIONS[plain][0] not in ('lr', 'amo'):
+    table = BY_XLEN[xlen]
+    if plain in INSTRUCTIONS and plain not in table:
+        raise ValueError('%r is no instruction of the 32-bit kind' % name)
+    if plain not in table or order and table[plain][0] not in ('lr', 'amo'):
         raise ValueError('%r is no instruction of the model' % name)
-    form, word = INSTRUCTIONS[plain]
+    return plain, *table[plain], order
+
+
+def assemble(text, resolve=None, address=0, xlen=64):
+    """The word of an instruction's text. resolve gives a label's address, for branches and jal; ValueError says what is wrong."""
+    name, *rest = text.split(None, 1)
+    rest = operands(''.join(rest))
+    if name in ('fence', 'fence.tso'):
+        return assemble_fence(name, rest.split(',') if rest else [])
+    plain, form, word, order = known(name, xlen)
     for field, arg in fields(name, [FORMS[form][1]], rest)[1].items():
         value = register(arg) if field in ('rd', 'rs1', 'rs2') else immediate(field, arg, resolve, address)
-        if plain == 'amocas.q' and field in ('rd', 'rs2') and value % 2:
-            raise ValueError('amocas.q takes an even %s, x%d is odd' % (field, value))
+        if plain == PAIRS[xlen] and field in ('rd', 'rs2') and value % 2:
+            raise ValueError('%s takes an even %s, x%d is odd' % (plain, field, value))
         word |= put(field, value)
     return word | put('order', order)

@@ -2,7 +2,7 @@
 //! reader sees what was never tried.
 
 use crate::calls::{of_events, Call};
-use crate::machine::{HartMask, Memory, Outcome, Reservation, State, A_2_1, MAX_HARTS};
+use crate::machine::{low, Hart, HartMask, Memory, Outcome, Reservation, State, A_2_1, MAX_HARTS};
 use crate::reached::{cell, equal};
 use crate::word::{decode, AtomicOp, Instr};
 
@@ -38,12 +38,12 @@ impl Write {
     fn of_step(state: &State, memory: &Memory, number: usize) -> Option<Write> {
         let hart = &state.harts[number];
         let (writer, addr, size) = match next_instr(state, memory, number)? {
-            Instr::Store { width, rs1, imm, .. } => (Writer::Store, hart.x[rs1 as usize].wrapping_add(imm), width),
+            Instr::Store { width, rs1, imm, .. } => (Writer::Store, low(hart.x[rs1 as usize].wrapping_add(imm), state.xlen()), width),
             Instr::Atomic(a) => {
                 let writer = match a.op {
                     AtomicOp::Lr => return None,
                     AtomicOp::Sc => Writer::Sc,
-                    AtomicOp::Cas if equal(hart, memory, a) => Writer::Cas,
+                    AtomicOp::Cas if equal(hart, memory, a, state.xlen()) => Writer::Cas,
                     AtomicOp::Cas => return None,
                     _ => Writer::Amo,
                 };
@@ -78,7 +78,7 @@ impl Write {
 
 /// What the hart's next step performs, if it isn't a trap of causes 1 or 2.
 fn next_instr(state: &State, memory: &Memory, hart: usize) -> Option<Instr> {
-    decode(memory.word(state.harts[hart].pc)?)
+    decode(memory.word(state.harts[hart].pc)?, state.xlen())
 }
 
 /// The hart that steps an LR.
@@ -105,9 +105,25 @@ fn perform(call: &Call, state: &mut State, memory: &mut Memory) -> Option<Outcom
 /// The reservations of all harts, also of unused ones.
 pub(crate) type Held = [Option<Reservation>; MAX_HARTS];
 
+/// A step before it is performed: its hart, and the word at its pc if that is in memory.
+pub(crate) struct Step {
+    pub(crate) hart: Hart,
+    pub(crate) word: Option<u32>,
+}
+
+impl Step {
+    fn of(call: &Call, state: &State, memory: &Memory) -> Option<Step> {
+        match *call {
+            Call::Step { hart } if hart < state.count => Some(Step { hart: state.harts[hart], word: memory.word(state.harts[hart].pc) }),
+            _ => None,
+        }
+    }
+}
+
 /// An event that isn't refused.
 pub(crate) struct Event {
     pub(crate) call: Call,
+    pub(crate) step: Option<Step>,
     /// What it writes, unless it traps or is an SC that fails.
     pub(crate) write: Option<Write>,
     /// The hart that reserves, unless it traps.
@@ -127,8 +143,9 @@ pub(crate) fn each_event(state: &State, base: u64, memory: &[u8], events: &[u8],
     for call in of_events(events) {
         let held = state.harts.map(|hart| hart.reservation);
         let (write, reserves) = (Write::of(&call, &state, memory), reserves(&call, &state, memory));
+        let step = Step::of(&call, &state, memory);
         if let Some(outcome) = perform(&call, &mut state, memory) {
-            observe(&Event { call, write, reserves, held, outcome });
+            observe(&Event { call, step, write, reserves, held, outcome });
         }
     }
 }

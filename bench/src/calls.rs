@@ -4,7 +4,7 @@ use crate::case::{run, EVENT};
 use crate::layout;
 use crate::log::{replay, Reason};
 use crate::loops::{self, Verdict};
-use crate::machine::{Memory, Outcome, State, A_2_1};
+use crate::machine::{Memory, Outcome, State, A_2_1, KIND_64};
 
 /// The answer to a size that is wrong.
 pub const BAD_SIZE: u64 = u64::MAX;
@@ -137,18 +137,18 @@ pub fn of_events(events: &[u8]) -> impl Iterator<Item = Call> + '_ {
     events.chunks_exact(EVENT).map(Call::of_event)
 }
 
-/// The answer for a block of words, each 4 bytes, the lowest first, under the default version.
+/// The answer for a block of words, each 4 bytes, the lowest first, under the default version and of the default kind.
 pub fn check_loop(words: &[u8]) -> u64 {
-    check_loop_for(A_2_1, words)
+    check_loop_for(A_2_1, KIND_64, words)
 }
 
-/// The answer under a version. A length that is wrong is told before a version that is.
-pub fn check_loop_for(version: u64, words: &[u8]) -> u64 {
+/// The answer under a version and of a kind. A length that is wrong is told before a version or a kind that is.
+pub fn check_loop_for(version: u64, kind: u64, words: &[u8]) -> u64 {
     if !words.len().is_multiple_of(4) {
         return BAD_SIZE;
     }
     let words: Vec<u32> = words.chunks_exact(4).map(|w| u32::from_le_bytes(w.try_into().unwrap())).collect();
-    match loops::check_loop(version, &words) {
+    match loops::check_loop(version, kind, &words) {
         Ok(Verdict::Accepted) => 0,
         Ok(Verdict::Rejected { place, reason }) => 256 * (place as u64 + 1) + reason as u64,
         Err(number) => number as u64,
@@ -159,19 +159,20 @@ pub fn check_loop_for(version: u64, words: &[u8]) -> u64 {
 mod tests {
     use super::*;
     use crate::generate::{scenario, Rng};
-    use crate::machine::A_2_0;
+    use crate::machine::{A_2_0, KIND_32};
 
     /// A length that is wrong comes before a version that is, and that before refusal 6.
     #[test]
     fn loops_by_version() {
         let block: Vec<u8> = [0x1002_A32F, 0x0000_8067, 0x1882_A3AFu32].into_iter().flat_map(u32::to_le_bytes).collect();
-        assert_eq!(check_loop_for(A_2_0, &block), 0);
-        assert_eq!((check_loop_for(A_2_1, &block), check_loop(&block)), (256 * 2 + 2, 256 * 2 + 2));
+        assert_eq!(check_loop_for(A_2_0, KIND_64, &block), 0);
+        assert_eq!((check_loop_for(A_2_1, KIND_64, &block), check_loop(&block)), (256 * 2 + 2, 256 * 2 + 2));
         for (length, answer) in [(0, 6), (4, 6), (8, 256 * 3 + 6), (5, BAD_SIZE), (11, BAD_SIZE)] {
-            assert_eq!(check_loop_for(A_2_0, &block[..length]), answer);
+            assert_eq!(check_loop_for(A_2_0, KIND_64, &block[..length]), answer);
         }
         for (length, answer) in [(0, 2), (4, 2), (12, 2), (1, BAD_SIZE), (11, BAD_SIZE)] {
-            assert_eq!(check_loop_for(256 + A_2_0, &block[..length]), answer);
+            assert_eq!(check_loop_for(256 + A_2_0, KIND_64, &block[..length]), answer);
+            assert_eq!(check_loop_for(A_2_0, 2, &block[..length]), answer);
         }
     }
 
@@ -181,15 +182,15 @@ mod tests {
         (0..before.harts.len()).filter(gone).map(|h| 1 << h).sum()
     }
 
-    /// The set size has the 8 bytes from 2312 on, the version those from 2320 on, the lowest first; a state of any other length is no state,
-    /// that of earlier versions of the library too.
+    /// The set size has the 8 bytes from 2312 on, the version those from 2320 on, the kind those from 2328 on, the lowest first; a state of any
+    /// other length is no state, that of earlier versions of the library too.
     #[test]
     fn state_lengths() {
-        let state = State { set_size: 4096, version: A_2_0, ..State::default() };
+        let state = State { set_size: 4096, version: A_2_0, kind: KIND_32, ..State::default() };
         let bytes = layout::bytes(&state);
-        assert_eq!((bytes.len(), &bytes[2312..]), (2328, &[0, 16, 0, 0, 0, 0, 0, 0, 20, 0, 0, 0, 0, 0, 0, 0][..]));
+        assert_eq!((bytes.len(), &bytes[2312..]), (2336, &[4096u64, 20, 1].map(u64::to_le_bytes).concat()[..]));
         assert_eq!(layout::read(&bytes), Some(state));
-        for length in [0, 2304, 2311, 2312, 2319, 2320, 2321, 2327, 2329, 2336] {
+        for length in [0, 2304, 2311, 2312, 2319, 2320, 2321, 2327, 2328, 2329, 2335, 2337, 2344] {
             let mut machine = Machine { state: bytes.clone(), base: 0, memory: vec![0; 4096] };
             machine.state.resize(length, 0);
             let (given, mut told) = (machine.clone(), [0xA5; 8]);
@@ -217,7 +218,7 @@ mod tests {
                     _ => 0,
                 };
                 let value = layout::get(&told, 0);
-                assert_eq!((before.set_size, before.version), (after.set_size, after.version));
+                assert_eq!((before.set_size, before.version, before.kind), (after.set_size, after.version, after.kind));
                 match answer {
                     0..TRAP => {
                         assert_eq!(value, lost(&before, &after) & !own, "seed {seed}, {call:?}");

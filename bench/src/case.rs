@@ -1,6 +1,8 @@
 //! The case file, a run of its events, and the program's lines.
 
-use crate::machine::{base_allowed, length_allowed, HartMask, Memory, Outcome, State, DEFAULT_SET, MAX_HARTS};
+use crate::machine::{
+    base_allowed, end_allowed, kind_allowed, length_allowed, low, HartMask, Memory, Outcome, State, DEFAULT_SET, MAX_HARTS,
+};
 
 pub const EVENT: usize = 24;
 pub const TABLE: usize = 40;
@@ -24,7 +26,8 @@ fn u64_at(bytes: &[u8], place: usize) -> u64 {
     u64::from_le_bytes(bytes[place..place + 8].try_into().unwrap())
 }
 
-/// A read case: the parts of the file and the state at the start. A file says no set size and no version, so it has the defaults.
+/// A read case: the parts of the file and the state at the start. A file says no set size and no version, so it has the defaults; it says the
+/// kind.
 pub struct Case<'a> {
     pub state: State,
     pub base: u64,
@@ -62,21 +65,24 @@ fn check_events(body: &[u8], count: usize, base: u64, length: usize) -> Result<(
     Ok(())
 }
 
+/// "A case file states it in the zero field of the harts body: 0 is 64-bit, 1 is 32-bit, anything else is refusal 9. Registers and pc of a 32-bit
+/// case with a nonzero upper half are refusal 9 too". The base keeps document 01's rule.
 fn read_harts(body: &[u8]) -> Option<(State, u64)> {
     if body.len() < 16 {
         return None;
     }
-    let (base, count, zero) = (u64_at(body, 0), u32_at(body, 8) as usize, u32_at(body, 12));
-    if !base_allowed(base, DEFAULT_SET) || !(1..=MAX_HARTS).contains(&count) || zero != 0 || body.len() != 16 + 256 * count {
+    let (base, count, kind) = (u64_at(body, 0), u32_at(body, 8) as usize, u32_at(body, 12).into());
+    if !base_allowed(base, DEFAULT_SET) || !(1..=MAX_HARTS).contains(&count) || !kind_allowed(kind) || body.len() != 16 + 256 * count {
         return None;
     }
-    let mut state = State { count, ..State::default() };
+    let mut state = State { count, kind, ..State::default() };
+    let xlen = state.xlen();
     for (hart, bytes) in state.harts.iter_mut().zip(body[16..].chunks_exact(256)) {
         for (r, value) in hart.x[1..].iter_mut().enumerate() {
             *value = u64_at(bytes, 8 * r);
         }
         hart.pc = u64_at(bytes, 248);
-        if hart.pc % 4 != 0 {
+        if hart.pc % 4 != 0 || hart.x.iter().chain([&hart.pc]).any(|&value| value != low(value, xlen)) {
             return None;
         }
     }
@@ -111,7 +117,8 @@ pub fn read_case(file: &[u8]) -> Result<Case<'_>, Refusal> {
     let Some((state, base)) = read_harts(harts) else {
         return refuse(9, bodies[0].0);
     };
-    if !length_allowed(memory.len(), DEFAULT_SET) {
+    // "Base plus length is at most 2^32 for this kind, refusal 1 in the library and 10 in a case file".
+    if !length_allowed(memory.len(), DEFAULT_SET) || !end_allowed(base, memory.len(), state.kind) {
         return refuse(10, bodies[1].0);
     }
     check_events(events, state.count, base, memory.len()).map_err(|r| Refusal { number: 11, place: bodies[2].0 + r.place })?;

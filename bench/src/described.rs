@@ -5,16 +5,16 @@ use crate::word::{Alu, Atomic, AtomicOp, Instr};
 /// In the order of FIELDS; 0 where the instruction holds no such thing.
 pub type Described = [u64; 8];
 
-/// The kind is the number of the variant of the proved decoder, and so is the operation; width is 0 for words and 1 for doublewords; aq and rl are 2
-/// and 1.
+/// The kind is the number of the variant of the proved decoder, and so is the operation; width is 0 for words and 1 for doublewords, that of each half
+/// of a pair; aq and rl are 2 and 1.
 pub const FIELDS: [&str; 8] = ["kind", "operation", "width", "aq-rl", "rd", "rs1", "rs2", "imm"];
 
 pub const ILLEGAL: u64 = 0;
 pub const FENCE: u64 = 12;
 
-/// The fields of a FENCE are not among what this crate's decoder tells.
+/// Of an instruction for registers of `xlen` bits. The fields of a FENCE are not among what this crate's decoder tells.
 #[inline(always)]
-pub fn described(instr: Option<Instr>) -> Described {
+pub fn described(instr: Option<Instr>, xlen: u32) -> Described {
     let Some(instr) = instr else {
         return [0; 8];
     };
@@ -34,7 +34,7 @@ pub fn described(instr: Option<Instr>) -> Described {
         Instr::Fence => numbers(FENCE, 0, 0, 0, 0, 0),
         Instr::Ecall => numbers(13, 0, 0, 0, 0, 0),
         Instr::Ebreak => numbers(14, 0, 0, 0, 0, 0),
-        Instr::Atomic(a) => atomic(a),
+        Instr::Atomic(a) => atomic(a, xlen),
     }
 }
 
@@ -54,12 +54,12 @@ fn operand(op: Alu, imm: u64, most: u64) -> u64 {
     }
 }
 
-/// AMOCAS.Q has an operation of its own, on doublewords.
-fn atomic(a: Atomic) -> Described {
+/// AMOCAS of pairs has an operation of its own, on doublewords in RV64 and on words in RV32.
+fn atomic(a: Atomic, xlen: u32) -> Described {
     let operation = match a.op {
         AtomicOp::Lr => 0,
         AtomicOp::Sc => 1,
-        AtomicOp::Cas if a.width < 16 => 2,
+        AtomicOp::Cas if !a.is_pair(xlen) => 2,
         AtomicOp::Cas => 3,
         AtomicOp::Swap => 4,
         AtomicOp::Add => 5,
@@ -72,7 +72,7 @@ fn atomic(a: Atomic) -> Described {
         AtomicOp::Maxu => 12,
     };
     let mut all = numbers(15, operation, a.rd, a.rs1, a.rs2, 0);
-    all[2] = (a.width > 4).into();
+    all[2] = (a.width > 4 && xlen > 32).into();
     all[3] = 2 * a.aq as u64 + a.rl as u64;
     all
 }
@@ -80,12 +80,12 @@ fn atomic(a: Atomic) -> Described {
 #[cfg(test)]
 mod tests {
     use super::*;
-    use crate::generate::words::{atomic, i_type, CAS, Q};
-    use crate::word::decode;
+    use crate::generate::words::{atomic, i_type, CAS, D, Q};
+    use crate::word::{decode, RV32, RV64};
 
     #[test]
     fn examples() {
-        let of = |word| described(decode(word));
+        let of = |word| described(decode(word, RV64), RV64);
         assert_eq!(of(0), [0; 8]);
         // LWU x7, -1(x9).
         assert_eq!(of(i_type(0x03, 6, 7, 9, -1)), [6, 6, 0, 0, 7, 9, 0, u64::MAX]);
@@ -95,5 +95,17 @@ mod tests {
         // AMOCAS.Q.aq x4, x6, (x5).
         assert_eq!(of(atomic(CAS, Q, 2, 4, 5, 6)), [15, 3, 1, 2, 4, 5, 6, 0]);
         assert_eq!(of(0x8330_000F), [FENCE, 0, 0, 0, 0, 0, 0, 0]);
+    }
+
+    /// Immediates are those of RV64; AMOCAS.D is a pair of words.
+    #[test]
+    fn examples_of_rv32() {
+        let of = |word| described(decode(word, RV32), RV32);
+        assert_eq!(of(i_type(0x03, 2, 7, 9, -1)), [6, 2, 0, 0, 7, 9, 0, u64::MAX]);
+        assert_eq!(of(i_type(0x13, 5, 1, 2, 0x41F)), [8, 7, 0, 0, 1, 2, 0, 31]);
+        assert_eq!(of(atomic(CAS, D, 1, 4, 5, 6)), [15, 3, 0, 1, 4, 5, 6, 0]);
+        for word in [i_type(0x03, 6, 7, 9, -1), i_type(0x13, 5, 1, 2, 0x43F), atomic(CAS, D, 1, 4, 5, 7), atomic(CAS, Q, 2, 4, 5, 6)] {
+            assert_eq!(of(word), [0; 8]);
+        }
     }
 }

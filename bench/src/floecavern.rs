@@ -37,7 +37,7 @@ pub fn check_loop(words: &[u8]) -> u64 {
     unsafe { floecavern_check_loop(words.as_ptr(), words.len()) }
 }
 
-pub fn check_loop_for(version: u64, words: &[u8]) -> u64 {
+pub fn check_loop_for(version: u64, kind: u64, words: &[u8]) -> u64 {
     // SAFETY: as above.
-    unsafe { floecavern_check_loop_for(version, words.as_ptr(), words.len()) }
+    unsafe { floecavern_check_loop_for(version, kind, words.as_ptr(), words.len()) }
 }

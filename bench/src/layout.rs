@@ -1,15 +1,17 @@
 //! A state kept as bytes, as C and Rust callers of the library keep it: the count, x of every hart, pc of every hart, the reservation of
-//! every hart (held: 0 for none, any other number for one; address; width), the set size, the version of the A extension. Every number has
-//! 8 bytes, the lowest first.
+//! every hart (held: 0 for none, any other number for one; address; width), the set size, the version of the A extension, the kind of core.
+//! Every number has 8 bytes, the lowest first.
 
 use crate::machine::{Reservation, State, MAX_HARTS};
 
-pub const SIZE: usize = 2328;
+pub const SIZE: usize = 2336;
 pub const COUNT: usize = 0;
 /// What stands before it is all of a state as it was before request 5.
 pub const SET_SIZE: usize = 2312;
 /// What stands before it is all of a state as it was before request 7.
 pub const VERSION: usize = 2320;
+/// What stands before it is all of a state as it was before request 10.
+pub const KIND: usize = 2328;
 
 pub fn x(hart: usize, register: usize) -> usize {
     8 + 8 * (32 * hart + register)
@@ -44,8 +46,8 @@ pub fn read(bytes: &[u8]) -> Option<State> {
     if bytes.len() != SIZE {
         return None;
     }
-    let (count, set_size, version) = (get(bytes, COUNT) as usize, get(bytes, SET_SIZE), get(bytes, VERSION));
-    let mut state = State { count, set_size, version, ..State::default() };
+    let [count, set_size, version, kind] = [COUNT, SET_SIZE, VERSION, KIND].map(|place| get(bytes, place));
+    let mut state = State { count: count as usize, set_size, version, kind, ..State::default() };
     for (h, hart) in state.harts.iter_mut().enumerate() {
         hart.x = std::array::from_fn(|r| get(bytes, x(h, r)));
         hart.pc = get(bytes, pc(h));
@@ -54,7 +56,7 @@ pub fn read(bytes: &[u8]) -> Option<State> {
     Some(state)
 }
 
-/// Writes registers and pc of all harts and the reservations of those below the count: no call changes the count, the set size or the version.
+/// Writes registers and pc of all harts and the reservations of those below the count: no call changes the count or a setting.
 pub fn write(state: &State, bytes: &mut [u8]) {
     for (h, hart) in state.harts.iter().enumerate() {
         for (r, &value) in hart.x.iter().enumerate() {
@@ -73,9 +75,9 @@ pub fn write(state: &State, bytes: &mut [u8]) {
 /// The bytes of a state; zero where `write` leaves them.
 pub fn bytes(state: &State) -> Vec<u8> {
     let mut bytes = vec![0; SIZE];
-    put(&mut bytes, COUNT, state.count as u64);
-    put(&mut bytes, SET_SIZE, state.set_size);
-    put(&mut bytes, VERSION, state.version);
+    for (place, number) in [(COUNT, state.count as u64), (SET_SIZE, state.set_size), (VERSION, state.version), (KIND, state.kind)] {
+        put(&mut bytes, place, number);
+    }
     write(state, &mut bytes);
     bytes
 }

@@ -1,11 +1,11 @@
-//! A second implementation of document 01 and of requests 1, 2, 3, 5 and 7 of document 02, written from the papers alone, to compare the
+//! A second implementation of document 01 and of requests 1, 2, 3, 5, 7 and 10 of document 02, written from the papers alone, to compare the
 //! proved one with and to measure it against.
 //!
 //! The implementation is `word`, `machine`, `case`, `log` and `loops`; `layout` and `calls` put it behind the calls of include/floecavern.h.
 //! `floecavern` is the proved library itself. `generate` and `work` make inputs for both; `described` says all that an instruction holds;
 //! `reached` counts what generated logs reach, `broken` what the writes of generated events break, `sizes` what calls reach with each set
-//! size, `versions` what calls, events and blocks reach under each version of the A extension. `shared` opens two versions of the library or
-//! of a crate side by side, and times them.
+//! size, `versions` what calls, events and blocks reach under each version of the A extension, `kinds` what calls, events and case files reach of
+//! each kind of core. `shared` opens two versions of the library or of a crate side by side, and times them.
 
 pub mod broken;
 pub mod calls;
@@ -14,6 +14,7 @@ pub mod clock;
 pub mod described;
 pub mod floecavern;
 pub mod generate;
+pub mod kinds;
 pub mod layout;
 pub mod log;
 pub mod loops;

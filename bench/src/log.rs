@@ -111,8 +111,8 @@ pub fn write_row(row: &Row) -> [u8; ROW] {
 
 /// "rd is 00 .. where the word has no rd, as FENCE": nor has a branch, a store, a word that is no instruction, ECALL or EBREAK. Of a pair
 /// it is the first, as "The second register of a pair isn't in the row".
-pub fn rd_of(word: u32) -> u8 {
-    match decode(word) {
+pub fn rd_of(word: u32, xlen: u32) -> u8 {
+    match decode(word, xlen) {
         Some(
             Instr::Lui { rd, .. }
             | Instr::Auipc { rd, .. }
@@ -140,7 +140,7 @@ pub fn step_row(state: &mut State, memory: &mut Memory, hart: usize) -> Result<R
         return Err(trap);
     }
     let word = word.expect("else the step traps");
-    let rd = rd_of(word);
+    let rd = rd_of(word, state.xlen());
     Ok(Row { hart, pc, word, rd, value: state.harts[hart].x[rd as usize] })
 }
 

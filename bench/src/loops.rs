@@ -1,6 +1,6 @@
-//! The checker of retry loops, by the version of the A extension: document 01's rules, and request 7 of document 02.
+//! The checker of retry loops, by the version of the A extension and the kind of core: document 01's rules, and requests 7 and 10 of document 02.
 
-use crate::machine::{version_allowed, A_2_0};
+use crate::machine::{kind_allowed, version_allowed, xlen, A_2_0};
 use crate::word::{decode, Atomic, AtomicOp, Instr};
 
 #[derive(Clone, Copy, PartialEq, Eq, Debug)]
@@ -31,11 +31,13 @@ fn destination(instr: Instr) -> Option<u8> {
     }
 }
 
-/// Err is refusal 2, "any other version", or after it refusal 6.
-pub fn check_loop(version: u64, block: &[u32]) -> Result<Verdict, u8> {
-    if !version_allowed(version) {
+/// Err is refusal 2, "any other version" or another kind, or after it refusal 6. "loop words are read as RV32I" for the 32-bit kind: so an LR.D is
+/// no LR, an SC.D no SC, and a word of OP-32 isn't permitted.
+pub fn check_loop(version: u64, kind: u64, block: &[u32]) -> Result<Verdict, u8> {
+    if !version_allowed(version) || !kind_allowed(kind) {
         return Err(2);
     }
+    let decode = |word| decode(word, xlen(kind));
     if !(2..=16).contains(&block.len()) {
         return Err(6);
     }
@@ -99,7 +101,8 @@ mod tests {
     use super::*;
     use crate::generate::words::{i_type, NOP};
     use crate::generate::{loop_block, Rng};
-    use crate::machine::A_2_1;
+    use crate::machine::{A_2_1, KIND_32, KIND_64};
+    use crate::word::RV64;
 
     const LR: u32 = 0x1002A32F;
     const SC: u32 = 0x1882A3AF;
@@ -112,15 +115,15 @@ mod tests {
     fn edge_12() {
         for version in [A_2_0, A_2_1] {
             let block = [LR, 0x00731663, SC, 0xFE039AE3];
-            assert_eq!(check_loop(version, &block), Ok(Verdict::Accepted));
+            assert_eq!(check_loop(version, KIND_64, &block), Ok(Verdict::Accepted));
             let mut other = block;
             other[0] = 0x1002A2AF;
-            assert_eq!(check_loop(version, &other), rejected(0, 4));
-            assert_eq!(check_loop(version, &block[..2]), rejected(2, 6));
-            assert_eq!(check_loop(version, &block[..1]), Err(6));
+            assert_eq!(check_loop(version, KIND_64, &other), rejected(0, 4));
+            assert_eq!(check_loop(version, KIND_64, &block[..2]), rejected(2, 6));
+            assert_eq!(check_loop(version, KIND_64, &block[..1]), Err(6));
             other = block;
             other[3] = 0xFE039CE3;
-            assert_eq!(check_loop(version, &other), rejected(3, 3));
+            assert_eq!(check_loop(version, KIND_64, &other), rejected(3, 3));
         }
     }
 
@@ -136,12 +139,12 @@ mod tests {
                         block[place] = i_type(0x67, 0, rd, rs1, imm);
                         // x5 is the LR's rs1.
                         let under_2_0 = if place < sc && rd == 5 { rejected(place, 4) } else { Ok(Verdict::Accepted) };
-                        assert_eq!(check_loop(A_2_0, &block), under_2_0);
-                        assert_eq!(check_loop(A_2_1, &block), rejected(place, 2));
+                        assert_eq!(check_loop(A_2_0, KIND_64, &block), under_2_0);
+                        assert_eq!(check_loop(A_2_1, KIND_64, &block), rejected(place, 2));
                     }
                     // Another funct3 is no JALR.
                     block[place] = i_type(0x67, 1 + place as u32 % 7, 1, 1, 0);
-                    assert_eq!(check_loop(A_2_0, &block), rejected(place, 2));
+                    assert_eq!(check_loop(A_2_0, KIND_64, &block), rejected(place, 2));
                 }
             }
         }
@@ -152,18 +155,18 @@ mod tests {
     fn jalr_at_the_edges() {
         let (ret, to_x0, to_x5) = (i_type(0x67, 0, 0, 1, 0), i_type(0x67, 0, 0, 0, 0), i_type(0x67, 0, 5, 1, 0));
         for version in [A_2_0, A_2_1] {
-            assert_eq!(check_loop(version, &[ret, SC]), rejected(0, 1));
+            assert_eq!(check_loop(version, KIND_64, &[ret, SC]), rejected(0, 1));
         }
-        assert_eq!(check_loop(A_2_0, &[LR, ret]), rejected(2, 6));
-        assert_eq!(check_loop(A_2_0, &[LR, ret, to_x5, SC]), rejected(2, 4));
-        assert_eq!(check_loop(A_2_0, &[LR, ret, to_x5]), rejected(2, 4));
-        assert_eq!(check_loop(A_2_0, &[0x1000232F, to_x0, 0x188023AF]), Ok(Verdict::Accepted));
+        assert_eq!(check_loop(A_2_0, KIND_64, &[LR, ret]), rejected(2, 6));
+        assert_eq!(check_loop(A_2_0, KIND_64, &[LR, ret, to_x5, SC]), rejected(2, 4));
+        assert_eq!(check_loop(A_2_0, KIND_64, &[LR, ret, to_x5]), rejected(2, 4));
+        assert_eq!(check_loop(A_2_0, KIND_64, &[0x1000232F, to_x0, 0x188023AF]), Ok(Verdict::Accepted));
         let mut block = vec![LR];
         block.extend([ret; 14]);
         block.push(SC);
-        assert_eq!(check_loop(A_2_0, &block), Ok(Verdict::Accepted));
+        assert_eq!(check_loop(A_2_0, KIND_64, &block), Ok(Verdict::Accepted));
         block.insert(1, ret);
-        assert_eq!(check_loop(A_2_0, &block), Err(6));
+        assert_eq!(check_loop(A_2_0, KIND_64, &block), Err(6));
     }
 
     /// "for 2.0 only for loops with no JALR; show that these are exactly the loops that 2.1 accepts".
@@ -172,8 +175,8 @@ mod tests {
         let (rng, mut met) = (&mut Rng::new(7), [[0; 2]; 2]);
         for _ in 0..20_000 {
             let block = loop_block(rng);
-            let has_jalr = block.iter().any(|&word| matches!(decode(word), Some(Instr::Jalr { .. })));
-            let [under_2_0, under_2_1] = [A_2_0, A_2_1].map(|version| check_loop(version, &block));
+            let has_jalr = block.iter().any(|&word| matches!(decode(word, RV64), Some(Instr::Jalr { .. })));
+            let [under_2_0, under_2_1] = [A_2_0, A_2_1].map(|version| check_loop(version, KIND_64, &block));
             let accepted = under_2_0 == Ok(Verdict::Accepted);
             assert_eq!(under_2_1 == Ok(Verdict::Accepted), accepted && !has_jalr);
             assert!(has_jalr || under_2_0 == under_2_1);
@@ -182,12 +185,57 @@ mod tests {
         assert!(met.iter().flatten().all(|&times| times > 1000), "{met:?}");
     }
 
+    /// "loop words are read as RV32I": LR.D, SC.D, a word of OP-32 or of OP-IMM-32, a shift by 32 and all else that RV32I hasn't.
+    #[test]
+    fn of_rv32() {
+        let both = |block: &[u32]| [KIND_64, KIND_32].map(|kind| check_loop(A_2_1, kind, block));
+        let (lr_d, sc_d) = (LR | 1 << 12, SC | 1 << 12);
+        assert_eq!(both(&[LR, NOP, SC]), [Ok(Verdict::Accepted); 2]);
+        assert_eq!(both(&[lr_d, NOP, sc_d]), [Ok(Verdict::Accepted), rejected(0, 1)]);
+        // An SC.D is the first SC of RV64 and of another width; it is no SC of RV32.
+        assert_eq!(both(&[LR, sc_d]), [rejected(1, 5), rejected(1, 2)]);
+        assert_eq!(both(&[LR, SC, sc_d]), [rejected(2, 2); 2]);
+        let alone = [0x1B, 0x1B | 5 << 12, 0x3B, 0x3B | 5 << 12 | 0x20 << 25, i_type(0x13, 1, 6, 6, 32), i_type(0x13, 5, 6, 6, 0x43F)];
+        for word in alone {
+            assert_eq!(both(&[LR, word, SC]), [Ok(Verdict::Accepted), rejected(1, 2)], "{word:08x}");
+            assert_eq!(both(&[LR, SC, word]), [Ok(Verdict::Accepted), rejected(2, 2)], "{word:08x}");
+        }
+        for word in [i_type(0x13, 1, 6, 6, 31), i_type(0x13, 5, 6, 6, 0x41F)] {
+            assert_eq!(both(&[LR, word, SC]), [Ok(Verdict::Accepted); 2], "{word:08x}");
+        }
+        // 2.0's JALR, of both kinds.
+        assert_eq!(check_loop(A_2_0, KIND_32, &[LR, i_type(0x67, 0, 0, 1, 0), SC]), Ok(Verdict::Accepted));
+    }
+
+    /// What the 32-bit kind accepts the 64-bit kind accepts.
+    #[test]
+    fn accepted_by_both_kinds() {
+        let (rng, mut met) = (&mut Rng::new(3), [[0; 2]; 2]);
+        for _ in 0..10_000 {
+            let (block, version) = (loop_block(rng), rng.pick(&[A_2_0, A_2_1]));
+            let [wide, narrow] = [KIND_64, KIND_32].map(|kind| check_loop(version, kind, &block) == Ok(Verdict::Accepted));
+            met[wide as usize][narrow as usize] += 1;
+        }
+        assert_eq!(met[0][1], 0);
+        assert!(met[1].iter().all(|&times| times > 500), "{met:?}");
+    }
+
+    /// A kind that is neither is 2 as well, under every version, and before 6.
+    #[test]
+    fn kinds() {
+        for kind in [2, 3, 32, 64, 255, 256, 257, (1 << 32) + 1, 1 << 63, u64::MAX] {
+            for (version, block) in [(A_2_0, &[][..]), (A_2_1, &[LR]), (A_2_1, &[LR, SC]), (A_2_0, &[SC, LR]), (22, &[LR; 17])] {
+                assert_eq!(check_loop(version, kind, block), Err(2), "{kind}");
+            }
+        }
+    }
+
     /// "Refusals: any other version is 2", and before 6.
     #[test]
     fn versions() {
         for version in [0, 1, 2, 19, 22, 200, 210, 255, 256 + 20, 256 + 21, (1 << 32) + 20, (1 << 32) + 21, (1 << 63) + 20, u64::MAX] {
             for block in [&[][..], &[LR], &[LR, SC], &[SC, LR], &[LR; 17]] {
-                assert_eq!(check_loop(version, block), Err(2), "{version}");
+                assert_eq!(check_loop(version, KIND_64, block), Err(2), "{version}");
             }
         }
     }

@@ -1,7 +1,11 @@
 //! Harts, memory, steps, device writes and yields. What breaks a reservation is quoted from document 01, who is told of it from request 3 of
-//! document 02, the size of the sets from request 5, what the two versions of the A extension differ in from request 7.
+//! document 02, the size of the sets from request 5, what the two versions of the A extension differ in from request 7, what the two kinds of
+//! core differ in from request 10.
+//!
+//! It is one machine over the width of its registers, `xlen` bits. Registers, pc and addresses of 32 bits are kept as 64-bit numbers whose upper
+//! half is zero, and sums of them are taken modulo 2^32.
 
-use crate::word::{decode, Alu, Atomic, AtomicOp, Cond, Instr};
+use crate::word::{decode, Alu, Atomic, AtomicOp, Cond, Instr, RV32, RV64};
 
 pub const MAX_HARTS: usize = 8;
 /// "a power of two from 8 to 4,096, the same for all harts, default 64".
@@ -11,6 +15,11 @@ pub const DEFAULT_SET: u64 = 64;
 /// The versions of the A extension, ten times their number: "Keep both versions, chosen in the state, 2.1 the default".
 pub const A_2_0: u64 = 20;
 pub const A_2_1: u64 = 21;
+/// The kinds of core: "0 is 64-bit, 1 is 32-bit".
+pub const KIND_64: u64 = 0;
+pub const KIND_32: u64 = 1;
+/// "Base plus length is at most 2^32 for this kind".
+pub const ADDRESSES_32: u64 = 1 << 32;
 
 #[derive(Clone, Copy, PartialEq, Eq, Debug)]
 pub struct Reservation {
@@ -33,6 +42,8 @@ pub struct State {
     pub set_size: u64,
     /// That of the A extension. Any number may be given; what is performed has an allowed one.
     pub version: u64,
+    /// That of the core. Any number may be given; what is performed has an allowed one.
+    pub kind: u64,
 }
 
 /// The lent memory.
@@ -106,6 +117,20 @@ pub fn version_allowed(version: u64) -> bool {
     version == A_2_0 || version == A_2_1
 }
 
+pub fn kind_allowed(kind: u64) -> bool {
+    kind == KIND_64 || kind == KIND_32
+}
+
+/// The width of the registers of an allowed kind.
+#[inline]
+pub fn xlen(kind: u64) -> u32 {
+    if kind == KIND_32 {
+        RV32
+    } else {
+        RV64
+    }
+}
+
 /// "Memory base and length are now multiples of the larger of 64 and the size."
 pub fn memory_unit(set_size: u64) -> u64 {
     set_size.max(64)
@@ -118,6 +143,24 @@ pub fn base_allowed(base: u64, set_size: u64) -> bool {
 
 pub fn length_allowed(len: usize, set_size: u64) -> bool {
     (64..=1 << 20).contains(&len) && aligned(len as u64, memory_unit(set_size))
+}
+
+/// For a base and a length that are allowed. Another kind than the two has no such limit: it is refused by 2.
+pub fn end_allowed(base: u64, len: usize, kind: u64) -> bool {
+    kind != KIND_32 || base + len as u64 <= ADDRESSES_32
+}
+
+/// The lowest `xlen` bits: what a register holds of a number.
+#[inline(always)]
+pub fn low(value: u64, xlen: u32) -> u64 {
+    value & (u64::MAX >> (64 - xlen))
+}
+
+/// The signed meaning of the lowest `xlen` bits.
+#[inline(always)]
+fn signed(value: u64, xlen: u32) -> i64 {
+    let shift = 64 - xlen;
+    (value << shift) as i64 >> shift
 }
 
 /// `width` is a power of two.
@@ -152,12 +195,12 @@ impl Memory<'_> {
     }
 
     #[inline(always)]
-    fn fetch<W: Watch>(&self, pc: u64, watch: &mut W) -> Result<Instr, W::Stop> {
+    fn fetch<W: Watch>(&self, pc: u64, xlen: u32, watch: &mut W) -> Result<Instr, W::Stop> {
         let Some(word) = self.word(pc) else {
             return trap(1, pc);
         };
         watch.fetched(word)?;
-        match decode(word) {
+        match decode(word, xlen) {
             Some(instr) => Ok(instr),
             None => trap(2, word as u64),
         }
@@ -186,9 +229,11 @@ impl Memory<'_> {
         }
     }
 
-    /// "a size not allowed is 1, tried before base and length".
-    fn check(&self, set_size: u64) -> Result<(), u8> {
-        if set_size_allowed(set_size) && base_allowed(self.base, set_size) && length_allowed(self.bytes.len(), set_size) {
+    /// "a size not allowed is 1, tried before base and length"; and "Base plus length is at most 2^32 for this kind, refusal 1 in the library".
+    fn check(&self, set_size: u64, kind: u64) -> Result<(), u8> {
+        let length = self.bytes.len();
+        let allowed = set_size_allowed(set_size) && base_allowed(self.base, set_size) && length_allowed(length, set_size);
+        if allowed && end_allowed(self.base, length, kind) {
             Ok(())
         } else {
             Err(1)
@@ -222,39 +267,39 @@ fn sign_extend(value: u64, width: u8) -> u64 {
     ((value << shift) as i64 >> shift) as u64
 }
 
-fn alu(op: Alu, a: u64, b: u64) -> u64 {
-    match op {
+/// An operation on numbers of `bits` bits, of which a and b may have more; a shift is by as many of b's bits as number the bits.
+#[inline(always)]
+fn alu(op: Alu, a: u64, b: u64, bits: u32) -> u64 {
+    let amount = b & (bits - 1) as u64;
+    let result = match op {
         Alu::Add => a.wrapping_add(b),
         Alu::Sub => a.wrapping_sub(b),
-        Alu::Sll => a << (b & 63),
-        Alu::Slt => ((a as i64) < b as i64) as u64,
-        Alu::Sltu => (a < b) as u64,
+        Alu::Sll => a << amount,
+        Alu::Slt => (signed(a, bits) < signed(b, bits)) as u64,
+        Alu::Sltu => (low(a, bits) < low(b, bits)) as u64,
         Alu::Xor => a ^ b,
-        Alu::Srl => a >> (b & 63),
-        Alu::Sra => (a as i64 >> (b & 63)) as u64,
+        Alu::Srl => low(a, bits) >> amount,
+        Alu::Sra => (signed(a, bits) >> amount) as u64,
         Alu::Or => a | b,
         Alu::And => a & b,
-    }
-}
-
-fn alu32(op: Alu, a: u64, b: u64) -> u64 {
-    let (a, b) = (a as u32, b as u32);
-    let r = match op {
-        Alu::Sub => a.wrapping_sub(b),
-        Alu::Sll => a << (b & 31),
-        Alu::Srl => a >> (b & 31),
-        Alu::Sra => (a as i32 >> (b & 31)) as u32,
-        _ => a.wrapping_add(b),
     };
-    r as i32 as i64 as u64
+    low(result, bits)
 }
 
-fn taken(cond: Cond, a: u64, b: u64) -> bool {
+/// OP-32 and OP-IMM-32, which RV64 alone has: rd gets the 32 bits sign-extended.
+#[inline(always)]
+fn alu32(op: Alu, a: u64, b: u64) -> u64 {
+    sign_extend(alu(op, a, b, 32), 4)
+}
+
+/// Of registers of `xlen` bits.
+#[inline(always)]
+fn taken(cond: Cond, a: u64, b: u64, xlen: u32) -> bool {
     match cond {
         Cond::Eq => a == b,
         Cond::Ne => a != b,
-        Cond::Lt => (a as i64) < b as i64,
-        Cond::Ge => a as i64 >= b as i64,
+        Cond::Lt => signed(a, xlen) < signed(b, xlen),
+        Cond::Ge => signed(a, xlen) >= signed(b, xlen),
         Cond::Ltu => a < b,
         Cond::Geu => a >= b,
     }
@@ -277,6 +322,16 @@ fn amo(op: AtomicOp, old: u64, arg: u64) -> u64 {
 }
 
 impl Hart {
+    /// What refusal 2 asks of a used hart: also that registers and pc have no more than `xlen` bits, and "A reservation 8 wide is refusal 2 here".
+    fn sound(&self, memory: &Memory, xlen: u32) -> bool {
+        let reservable =
+            |r: Reservation| (r.width == 4 || r.width == 8 && xlen == RV64) && aligned(r.addr, r.width) && memory.contains(r.addr, r.width);
+        self.x[0] == 0
+            && self.pc.is_multiple_of(4)
+            && self.x.iter().chain([&self.pc]).all(|&value| value == low(value, xlen))
+            && self.reservation.is_none_or(reservable)
+    }
+
     #[inline]
     fn get(&self, r: u8) -> u64 {
         self.x[r as usize]
@@ -289,6 +344,18 @@ impl Hart {
         }
     }
 
+    /// The sum of a register and an immediate, as an address of `xlen` bits.
+    #[inline(always)]
+    fn address(&self, rs1: u8, imm: u64, xlen: u32) -> u64 {
+        low(self.get(rs1).wrapping_add(imm), xlen)
+    }
+
+    /// The sum of pc and an offset.
+    #[inline(always)]
+    fn beyond(&self, offset: u64, xlen: u32) -> u64 {
+        low(self.pc.wrapping_add(offset), xlen)
+    }
+
     /// Retires a word that changes nothing but rd and pc.
     #[inline(always)]
     fn retire<W: Watch>(&mut self, watch: &mut W, rd: u8, value: u64) -> Result<(), W::Stop> {
@@ -297,12 +364,22 @@ impl Hart {
         Ok(())
     }
 
-    /// A jump that leaves the address after it in rd.
+    /// A jump that leaves the address after it, `next`, in rd.
     #[inline(always)]
-    fn link<W: Watch>(&mut self, watch: &mut W, rd: u8, target: u64) -> Result<u64, W::Stop> {
+    fn link<W: Watch>(&mut self, watch: &mut W, rd: u8, next: u64, target: u64) -> Result<u64, W::Stop> {
         let target = jump(target)?;
-        self.retire(watch, rd, self.pc.wrapping_add(4))?;
+        self.retire(watch, rd, next)?;
         Ok(target)
+    }
+
+    /// The numbers of a register pair: 001's "When the first register of a source register pair is `x0`, then both halves of the pair read as
+    /// zero".
+    #[inline(always)]
+    fn pair(&self, first: u8) -> (u64, u64) {
+        match first as usize {
+            0 => (0, 0),
+            r => (self.x[r], self.x[r + 1]),
+        }
     }
 }
 
@@ -323,29 +400,26 @@ fn trap<T, E: From<Trap>>(cause: u8, value: u64) -> Result<T, E> {
 
 impl Default for State {
     fn default() -> Self {
-        State { count: 1, harts: [Hart::default(); MAX_HARTS], set_size: DEFAULT_SET, version: A_2_1 }
+        State { count: 1, harts: [Hart::default(); MAX_HARTS], set_size: DEFAULT_SET, version: A_2_1, kind: KIND_64 }
     }
 }
 
 impl State {
-    /// "any other version is 2", as all that is wrong with a state: so after 1 and before 3.
+    /// "any other version is 2", as all that is wrong with a state: so after 1 and before 3. The same of a kind that is neither.
     fn check(&self, memory: &Memory) -> Result<(), u8> {
-        memory.check(self.set_size)?;
-        if !version_allowed(self.version) || !(1..=MAX_HARTS).contains(&self.count) {
-            return Err(2);
-        }
-        let sound = |hart: &Hart| {
-            hart.x[0] == 0
-                && hart.pc.is_multiple_of(4)
-                && hart
-                    .reservation
-                    .is_none_or(|r| (r.width == 4 || r.width == 8) && aligned(r.addr, r.width) && memory.contains(r.addr, r.width))
-        };
-        if self.harts[..self.count].iter().all(sound) {
+        memory.check(self.set_size, self.kind)?;
+        let numbers = version_allowed(self.version) && kind_allowed(self.kind) && (1..=MAX_HARTS).contains(&self.count);
+        if numbers && self.harts[..self.count].iter().all(|hart| hart.sound(memory, self.xlen())) {
             Ok(())
         } else {
             Err(2)
         }
+    }
+
+    /// The width of its registers.
+    #[inline]
+    pub fn xlen(&self) -> u32 {
+        xlen(self.kind)
     }
 
     fn check_hart(&self, hart: usize) -> Result<(), u8> {
@@ -432,60 +506,68 @@ impl State {
 
     #[inline]
     pub(crate) fn perform_step(&mut self, memory: &mut Memory, number: usize) -> Outcome {
-        match self.execute(memory, number, &mut Unwatched) {
+        match self.watched_step(memory, number, &mut Unwatched) {
             Ok(outcome) => outcome,
             Err(trap) => Outcome::Trap(trap),
         }
     }
 
-    /// A step of a hart below the count while `watch` looks on. Err leaves state and memory as they were.
+    /// A step of a hart below the count while `watch` looks on. Err leaves state and memory as they were. Each width has a step compiled for it.
     #[inline]
     pub(crate) fn watched_step<W: Watch>(&mut self, memory: &mut Memory, number: usize, watch: &mut W) -> Result<Outcome, W::Stop> {
-        self.execute(memory, number, watch)
+        match self.xlen() {
+            RV32 => self.execute::<RV32, W>(memory, number, watch),
+            _ => self.execute::<RV64, W>(memory, number, watch),
+        }
     }
 
-    fn execute<W: Watch>(&mut self, memory: &mut Memory, number: usize, watch: &mut W) -> Result<Outcome, W::Stop> {
+    fn execute<const XLEN: u32, W: Watch>(&mut self, memory: &mut Memory, number: usize, watch: &mut W) -> Result<Outcome, W::Stop> {
         let hart = &mut self.harts[number];
-        let pc = hart.pc;
-        let instr = memory.fetch(pc, watch)?;
-        let mut next = pc.wrapping_add(4);
+        let instr = memory.fetch(hart.pc, XLEN, watch)?;
+        let mut next = hart.beyond(4, XLEN);
         let mut outcome = Outcome::Retired { broke: 0 };
         match instr {
-            Instr::Lui { rd, imm } => hart.retire(watch, rd, imm)?,
-            Instr::Auipc { rd, imm } => hart.retire(watch, rd, pc.wrapping_add(imm))?,
-            Instr::Jal { rd, offset } => next = hart.link(watch, rd, pc.wrapping_add(offset))?,
-            Instr::Jalr { rd, rs1, imm } => next = hart.link(watch, rd, hart.get(rs1).wrapping_add(imm) & !1)?,
+            Instr::Lui { rd, imm } => hart.retire(watch, rd, low(imm, XLEN))?,
+            Instr::Auipc { rd, imm } => hart.retire(watch, rd, hart.beyond(imm, XLEN))?,
+            Instr::Jal { rd, offset } => next = hart.link(watch, rd, next, hart.beyond(offset, XLEN))?,
+            Instr::Jalr { rd, rs1, imm } => next = hart.link(watch, rd, next, hart.address(rs1, imm, XLEN) & !1)?,
             Instr::Branch { cond, rs1, rs2, offset } => {
-                if taken(cond, hart.get(rs1), hart.get(rs2)) {
-                    next = jump(pc.wrapping_add(offset))?;
+                if taken(cond, hart.get(rs1), hart.get(rs2), XLEN) {
+                    next = jump(hart.beyond(offset, XLEN))?;
                 }
                 watch.retires(0, 0)?;
             }
             Instr::Load { width, signed, rd, rs1, imm } => {
-                let value = memory.load(hart.get(rs1).wrapping_add(imm), width)?;
-                hart.retire(watch, rd, if signed { sign_extend(value, width) } else { value })?;
+                let value = memory.load(hart.address(rs1, imm, XLEN), width)?;
+                hart.retire(watch, rd, if signed { low(sign_extend(value, width), XLEN) } else { value })?;
             }
             Instr::Store { width, rs1, rs2, imm } => {
-                let addr = hart.get(rs1).wrapping_add(imm);
+                let addr = hart.address(rs1, imm, XLEN);
                 let target = memory.target(addr, width)?;
                 watch.retires(0, 0)?;
                 write(target, width, hart.get(rs2));
                 outcome = Outcome::Retired { broke: self.break_others(number, addr, width) };
             }
-            Instr::OpImm { op, rd, rs1, imm } => hart.retire(watch, rd, alu(op, hart.get(rs1), imm))?,
-            Instr::Op { op, rd, rs1, rs2 } => hart.retire(watch, rd, alu(op, hart.get(rs1), hart.get(rs2)))?,
+            Instr::OpImm { op, rd, rs1, imm } => hart.retire(watch, rd, alu(op, hart.get(rs1), imm, XLEN))?,
+            Instr::Op { op, rd, rs1, rs2 } => hart.retire(watch, rd, alu(op, hart.get(rs1), hart.get(rs2), XLEN))?,
             Instr::OpImm32 { op, rd, rs1, imm } => hart.retire(watch, rd, alu32(op, hart.get(rs1), imm))?,
             Instr::Op32 { op, rd, rs1, rs2 } => hart.retire(watch, rd, alu32(op, hart.get(rs1), hart.get(rs2)))?,
             Instr::Fence => watch.retires(0, 0)?,
             Instr::Ecall => return trap(8, 0),
             Instr::Ebreak => return trap(3, 0),
-            Instr::Atomic(a) => outcome = self.atomic(memory, number, a, watch)?,
+            Instr::Atomic(a) => outcome = self.atomic::<XLEN, W>(memory, number, a, watch)?,
         }
         self.harts[number].pc = next;
         Ok(outcome)
     }
 
-    fn atomic<W: Watch>(&mut self, memory: &mut Memory, number: usize, a: Atomic, watch: &mut W) -> Result<Outcome, W::Stop> {
+    fn atomic<const XLEN: u32, W: Watch>(
+        &mut self,
+        memory: &mut Memory,
+        number: usize,
+        a: Atomic,
+        watch: &mut W,
+    ) -> Result<Outcome, W::Stop> {
         let hart = &mut self.harts[number];
         let width = a.width as u64;
         let addr = hart.get(a.rs1);
@@ -500,20 +582,22 @@ impl State {
         if a.op == AtomicOp::Sc {
             return self.store_conditional(bytes, number, a, watch);
         }
-        let wrote = if a.width == 16 {
-            watch.retires(a.rd, read(bytes, 8))?;
-            cas_quad(hart, bytes, a)
+        let wrote = if a.is_pair(XLEN) {
+            watch.retires(a.rd, read(bytes, a.width / 2))?;
+            cas_pair(hart, bytes, a)
         } else {
             let old = sign_extend(read(bytes, a.width), a.width);
-            watch.retires(a.rd, old)?;
+            watch.retires(a.rd, low(old, XLEN))?;
             let wrote = read_modify_write(hart, bytes, a, addr, old);
-            hart.set(a.rd, old);
+            hart.set(a.rd, low(old, XLEN));
             wrote
         };
         Ok(Outcome::Retired { broke: if wrote { self.break_others(number, addr, a.width) } else { 0 } })
     }
 
     /// An SC on its bytes, which are aligned and in memory. They are 4 or 8 and so in one set, the one around its address.
+    /// Inlined, since an outcome that is handed on in memory costs a tenth of a report.
+    #[inline(always)]
     fn store_conditional<W: Watch>(&mut self, bytes: &mut [u8], number: usize, a: Atomic, watch: &mut W) -> Result<Outcome, W::Stop> {
         let set_size = self.set_size;
         let hart = &mut self.harts[number];
@@ -532,7 +616,7 @@ impl State {
     }
 }
 
-/// LR, AMO, AMOCAS.W and AMOCAS.D on their bytes, which hold `old`, before rd is written; whether they wrote them.
+/// LR, AMO and AMOCAS of one register on their bytes, which hold `old`, before rd is written; whether they wrote them.
 #[inline(always)]
 fn read_modify_write(hart: &mut Hart, bytes: &mut [u8], a: Atomic, addr: u64, old: u64) -> bool {
     let arg = sign_extend(hart.get(a.rs2), a.width);
@@ -550,20 +634,19 @@ fn read_modify_write(hart: &mut Hart, bytes: &mut [u8], a: Atomic, addr: u64, ol
     new.is_some()
 }
 
-/// AMOCAS.Q on its 16 bytes; whether it wrote them.
+/// AMOCAS of register pairs on its bytes, a half for each register; whether it wrote them.
 #[inline(always)]
-fn cas_quad(hart: &mut Hart, bytes: &mut [u8], a: Atomic) -> bool {
-    let pair = |r: u8| match r {
-        0 => (0, 0),
-        r => (hart.x[r as usize], hart.x[r as usize + 1]),
-    };
-    let old = (read(bytes, 8), read(&bytes[8..], 8));
-    let new = pair(a.rs2);
-    let equal = old == pair(a.rd);
+fn cas_pair(hart: &mut Hart, bytes: &mut [u8], a: Atomic) -> bool {
+    let half = a.width / 2;
+    let (first, second) = bytes.split_at_mut(half as usize);
+    let old = (read(first, half), read(second, half));
+    let new = hart.pair(a.rs2);
+    let equal = old == hart.pair(a.rd);
     if equal {
-        write(bytes, 8, new.0);
-        write(&mut bytes[8..], 8, new.1);
+        write(first, half, new.0);
+        write(second, half, new.1);
     }
+    // "then the entire register result is discarded and neither destination register is written".
     if a.rd != 0 {
         hart.x[a.rd as usize] = old.0;
         hart.x[a.rd as usize + 1] = old.1;

@@ -7,9 +7,9 @@ use crate::word::{decode, Atomic, AtomicOp, Instr};
 use std::collections::BTreeMap;
 
 /// A kind of instruction: the causes by which it can trap, and what a retired one can have done.
-struct Kind {
-    name: &'static str,
-    causes: &'static [u8],
+pub(crate) struct Kind {
+    pub(crate) name: &'static str,
+    pub(crate) causes: &'static [u8],
     done: &'static [&'static str],
     has_rd: bool,
 }
@@ -20,10 +20,10 @@ const fn kind(name: &'static str, causes: &'static [u8], done: &'static [&'stati
 
 const SC: &[&str] = &["failed", "stored"];
 const CAS: &[&str] = &["unequal", "equal"];
-const OUTSIDE: &str = "outside memory";
-const NO_INSTRUCTION: &str = "no instruction";
+pub(crate) const OUTSIDE: &str = "outside memory";
+pub(crate) const NO_INSTRUCTION: &str = "no instruction";
 
-const KINDS: [Kind; 25] = [
+pub(crate) const KINDS: [Kind; 25] = [
     kind("lui", &[], &[""], true),
     kind("auipc", &[], &[""], true),
     kind("jal", &[0], &[""], true),
@@ -51,7 +51,7 @@ const KINDS: [Kind; 25] = [
     kind(OUTSIDE, &[1], &[], false),
 ];
 
-fn name(instr: Instr) -> &'static str {
+pub(crate) fn name(instr: Instr) -> &'static str {
     match instr {
         Instr::Lui { .. } => "lui",
         Instr::Auipc { .. } => "auipc",
@@ -93,12 +93,12 @@ impl Met {
         let Some(word) = memory.word(hart.pc) else {
             return Met { kind: OUTSIDE, done: false };
         };
-        let Some(instr) = decode(word) else {
+        let Some(instr) = decode(word, state.xlen()) else {
             return Met { kind: NO_INSTRUCTION, done: false };
         };
         let done = match instr {
             Instr::Atomic(a) if a.op == AtomicOp::Sc => stores(state, memory, number),
-            Instr::Atomic(a) if a.op == AtomicOp::Cas => equal(hart, memory, a),
+            Instr::Atomic(a) if a.op == AtomicOp::Cas => equal(hart, memory, a, state.xlen()),
             _ => false,
         };
         Met { kind: name(instr), done }
@@ -112,14 +112,15 @@ fn stores(state: &State, memory: &Memory, hart: usize) -> bool {
     matches!(outcome, Outcome::Sc { success: true, .. })
 }
 
-/// Whether an AMOCAS finds what it compares with.
-pub(crate) fn equal(hart: &Hart, memory: &Memory, a: Atomic) -> bool {
+/// Whether an AMOCAS of registers of `xlen` bits finds what it compares with.
+pub(crate) fn equal(hart: &Hart, memory: &Memory, a: Atomic, xlen: u32) -> bool {
     let addr = hart.x[a.rs1 as usize];
     if !memory.contains(addr, a.width as u64) {
         return false;
     }
     let second = if a.rd == 0 { 0 } else { hart.x[(a.rd as usize + 1) % 32] };
-    let pair = [hart.x[a.rd as usize], second].map(u64::to_le_bytes).concat();
+    let pair: Vec<u8> =
+        [hart.x[a.rd as usize], second].iter().flat_map(|value| value.to_le_bytes().into_iter().take(xlen as usize / 8)).collect();
     memory.bytes[(addr - memory.base) as usize..].starts_with(&pair[..a.width as usize])
 }
 

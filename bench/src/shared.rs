@@ -26,11 +26,15 @@ pub fn open(path: &str) -> Shared<'_> {
 impl Shared<'_> {
     /// The address of a function, whose type the caller knows.
     pub fn symbol(&self, name: &str) -> *mut c_void {
+        self.find(name).unwrap_or_else(|| panic!("{} has no {name}", self.path))
+    }
+
+    /// The same, if it has that function.
+    pub fn find(&self, name: &str) -> Option<*mut c_void> {
         let text = CString::new(name).expect("no zero byte");
         // SAFETY: the library is loaded, and the name is a C string.
         let found = unsafe { dlsym(self.opened, text.as_ptr()) };
-        assert!(!found.is_null(), "{} has no {name}", self.path);
-        found
+        (!found.is_null()).then_some(found)
     }
 }
 

@@ -101,7 +101,9 @@ impl Sizes {
             *match (length_allowed(length, size), base_allowed(base, size)) {
                 (false, true) => &mut refused.length,
                 (true, false) => &mut refused.base,
-                _ => &mut refused.both,
+                (false, false) => &mut refused.both,
+                // Their sum is too high for the 32-bit kind, which `kinds` counts.
+                (true, true) => return,
             } += 1;
             refused.by_size += by_itself as u64;
         }

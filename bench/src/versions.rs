@@ -29,7 +29,7 @@ fn kind(version: u64) -> usize {
 }
 
 /// The refusals of calls.
-const REFUSALS: [u64; 8] = [1, 2, 3, 4, 5, 11, 12, 13];
+pub(crate) const REFUSALS: [u64; 8] = [1, 2, 3, 4, 5, 11, 12, 13];
 
 /// Single events under an allowed version.
 #[derive(Default)]
@@ -112,15 +112,15 @@ fn under_2_1(machine: &Machine, call: &Call) -> u64 {
 }
 
 /// What can't be reached and wasn't is a dot.
-fn shown(possible: bool, count: &u64) -> String {
+pub(crate) fn shown(possible: bool, count: &u64) -> String {
     cell(possible, Some(count).filter(|&&count| count > 0))
 }
 
-fn print_heading(columns: &[&str]) {
+pub(crate) fn print_heading(columns: &[&str]) {
     print_row("", columns.iter().map(|column| column.to_string()));
 }
 
-fn print_row(name: &str, cells: impl Iterator<Item = String>) {
+pub(crate) fn print_row(name: &str, cells: impl Iterator<Item = String>) {
     println!("    {name:<26}{}", cells.map(|cell| format!(" {cell:>9}")).collect::<String>());
 }
 
@@ -181,8 +181,8 @@ fn rejected(answer: u64) -> Option<(usize, u64)> {
 }
 
 impl Blocks {
-    /// Counts a block's answers under 2.0, under 2.1 and under no version.
-    pub fn count(&mut self, words: &[u8], answers: [u64; 3]) {
+    /// Counts the answers for a block of words for registers of `xlen` bits under 2.0, under 2.1 and under no version.
+    pub fn count(&mut self, words: &[u8], xlen: u32, answers: [u64; 3]) {
         for (counts, answer) in self.answers.iter_mut().zip(answers) {
             counts[match (answer, rejected(answer)) {
                 (0, _) => 0,
@@ -194,7 +194,7 @@ impl Blocks {
         }
         self.only_2_0 += (answers[0] == 0 && rejected(answers[1]).is_some()) as u64;
         self.only_2_1 += (answers[1] == 0 && rejected(answers[0]).is_some()) as u64;
-        let block: Vec<_> = words.chunks_exact(4).map(|word| decode(u32::from_le_bytes(word.try_into().unwrap()))).collect();
+        let block: Vec<_> = words.chunks_exact(4).map(|word| decode(u32::from_le_bytes(word.try_into().unwrap()), xlen)).collect();
         if answers[0] == 0 || rejected(answers[0]).is_some() {
             self.count_jalrs(&block, [answers[0], answers[1]].map(rejected));
         }

@@ -58,6 +58,7 @@ numbered! {
     InstructionAddressMisaligned = 0, "instruction address misaligned";
     /// The word at pc isn't wholly in memory.
     InstructionAccessFault = 1, "instruction access fault";
+    /// The word is no instruction of the core: one of the 64-bit kind may be none of the 32-bit kind.
     IllegalInstruction = 2, "illegal instruction";
     Breakpoint = 3, "breakpoint";
     LoadAddressMisaligned = 4, "load address misaligned";
@@ -78,11 +79,13 @@ numbered! {
     #[must_use = "a refused call did nothing"]
     Refusal, "refusal",
     /// The set size isn't a power of two from 8 to 4,096; or the memory's length isn't 64 to 1,048,576, its base is above
-    /// 2^40, or one of them isn't a multiple of the larger of 64 and the set size.
+    /// 2^40, or one of them isn't a multiple of the larger of 64 and the set size; or, of the 32-bit kind, their sum is above
+    /// 2^32.
     Memory = 1, "the set size or the memory's length or base is wrong";
-    /// The version of A is neither 2.0 nor 2.1, of a state or of a check of a loop; the count isn't 1 to 8; or, of a used
-    /// hart, x0, the pc or the reservation is wrong.
-    State = 2, "the version of A or the state is wrong";
+    /// The version of A is neither 2.0 nor 2.1, or the kind of core neither the 64-bit nor the 32-bit one, of a state or of a
+    /// check of a loop; the count isn't 1 to 8; or, of a used hart, x0, the pc or the reservation is wrong, or, of the 32-bit
+    /// kind, a register has an upper half that isn't zero.
+    State = 2, "the version of A, the kind of core or the state is wrong";
     Hart = 3, "the hart is not below the count";
     DeviceSize = 4, "a device write of 0 or more than 8 bytes";
     DeviceAddress = 5, "a device write not wholly in memory";
@@ -90,7 +93,7 @@ numbered! {
     FileLength = 7, "the file's length is not 40 to 65536";
     Table = 8, "the table of contents is wrong";
     HartsBody = 9, "the harts body is wrong";
-    MemoryBody = 10, "the memory body's length is wrong";
+    MemoryBody = 10, "the memory body's length, or base plus length, is wrong";
     Events = 11, "an event or the length of the events is wrong";
     LogLength = 12, "the log's length is not a multiple of 48";
     LogEmpty = 13, "the log has no rows";
@@ -128,7 +131,7 @@ impl Error for RefusedAt {
     }
 }
 
-/// What a step that traps gives. State and memory are as they were.
+/// What a step that traps gives. State and memory are as they were. Of the 32-bit kind the value's upper half is zero.
 #[derive(Clone, Copy, Debug, PartialEq, Eq)]
 pub struct Trap {
     pub cause: Cause,

@@ -3,7 +3,7 @@
 use crate::raw::*;
 use crate::{
     Answer, Cause, Event, Harts, Outcome, Reason, Refusal, RefusedAt, Replayed, State, Stop, Trap, Verdict, A_2_1,
-    STATE_SIZE,
+    KIND_64, STATE_SIZE,
 };
 
 /// The room that a report needs, in bytes.
@@ -19,6 +19,19 @@ const REFUSED: u64 = 512;
 /// The sizes are right by type. So the library is of another version, in which a state has another size.
 fn bad_size() -> ! {
     panic!("libcapi.a takes no state of {STATE_SIZE} bytes: it is of another version; run `rt staticlib capi`")
+}
+
+/// A library of another version may take other arguments, which a function without a state doesn't tell: this asks by one that
+/// has a state. The memory of no bytes is refused, so that nothing is done.
+fn ask_for_its_version() {
+    let (mut state, mut value) = (State::new(1), [0; 8]);
+    // SAFETY: the pointers come from a state of this size and from slices of these lengths; none overlap.
+    let r = unsafe {
+        floecavern_yield(state.pointer(), STATE_SIZE, 0, [].as_mut_ptr(), 0, 0, value.as_mut_ptr(), value.len())
+    };
+    if r == BAD_SIZE {
+        bad_size()
+    }
 }
 
 fn refusal(number: u64) -> Refusal {
@@ -56,8 +69,8 @@ pub fn report(file: &[u8]) -> Result<String, RefusedAt> {
     Err(RefusedAt { refusal: refusal(number), place: place.parse().expect("a decimal number") })
 }
 
-/// Whether a block of instruction words is a retry loop that is accepted under A 2.1. Refused by 6 if it has fewer than 2
-/// or more than 16 words.
+/// Whether a block of instruction words is a retry loop that is accepted under A 2.1, read as the 64-bit core reads them.
+/// Refused by 6 if it has fewer than 2 or more than 16 words.
 ///
 /// ```
 /// use floecavern::{check_loop, Reason, Refusal, Verdict};
@@ -67,27 +80,39 @@ pub fn report(file: &[u8]) -> Result<String, RefusedAt> {
 /// assert_eq!(check_loop(&[]), Err(Refusal::Block));
 /// ```
 pub fn check_loop(words: &[u32]) -> Result<Verdict, Refusal> {
-    check_loop_for(A_2_1, words)
+    check_loop_for(A_2_1, KIND_64, words)
 }
 
-/// The same under a version of A: under [`A_2_0`](crate::A_2_0) a later word may be a JALR too. Refused by 2 if the version
-/// is neither of the two, and then by 6. That an accepted loop finishes if it is left alone is claimed of the blocks that
-/// are accepted under [`A_2_1`]: these are exactly those that are accepted under 2.0 and have no JALR. A later version of
-/// this crate may add arguments to this function.
+/// The same under a version of A, and read as a kind of core reads them. Under [`A_2_0`](crate::A_2_0) a later word may be a
+/// JALR too. As [`KIND_32`](crate::KIND_32) the words are those of RV32I, LR.W and SC.W. Refused by 2 if the version or the
+/// kind is neither of the two, and then by 6. That an accepted loop finishes if it is left alone is claimed of the blocks that
+/// are accepted under [`A_2_1`], on a machine of the kind that they were read as: of each kind these are exactly those that
+/// are accepted under 2.0 and have no JALR. A later version of this crate may add arguments to this function.
 ///
 /// ```
-/// use floecavern::{check_loop_for, Reason, Refusal, Verdict, A_2_0, A_2_1};
+/// use floecavern::{check_loop_for, Reason, Refusal, Verdict, A_2_0, A_2_1, KIND_32, KIND_64};
 /// // lr.w x6,(x5); jalr x0,0(x1); sc.w x7,x8,(x5)
 /// let block = [0x1002_a32f, 0x0000_8067, 0x1882_a3af];
-/// assert_eq!(check_loop_for(A_2_0, &block), Ok(Verdict::Accepted));
-/// assert_eq!(check_loop_for(A_2_1, &block), Ok(Verdict::Rejected { place: 1, reason: Reason::NotPermitted }));
-/// assert_eq!(check_loop_for(22, &block), Err(Refusal::State));
+/// let rejected = |place, reason| Ok(Verdict::Rejected { place, reason });
+/// assert_eq!(check_loop_for(A_2_0, KIND_64, &block), Ok(Verdict::Accepted));
+/// assert_eq!(check_loop_for(A_2_1, KIND_64, &block), rejected(1, Reason::NotPermitted));
+/// assert_eq!(check_loop_for(22, KIND_64, &block), Err(Refusal::State));
+/// // lr.d x6,(x5); sc.d x7,x8,(x5)
+/// let block = [0x1002_b32f, 0x1882_b3af];
+/// assert_eq!(check_loop_for(A_2_1, KIND_64, &block), Ok(Verdict::Accepted));
+/// assert_eq!(check_loop_for(A_2_1, KIND_32, &block), rejected(0, Reason::NoLr));
+/// assert_eq!(check_loop_for(A_2_1, 32, &block), Err(Refusal::State));
 /// ```
-pub fn check_loop_for(version: u64, words: &[u32]) -> Result<Verdict, Refusal> {
+///
+/// # Panics
+///
+/// If the library is of another version, as every other call but a report.
+pub fn check_loop_for(version: u64, kind: u64, words: &[u32]) -> Result<Verdict, Refusal> {
+    ask_for_its_version();
     // A block of 17 or more words is refused whatever the words are, so that 17 of them say it.
     let bytes: Vec<u8> = words.iter().take(17).flat_map(|w| w.to_le_bytes()).collect();
     // SAFETY: the pointer comes from a slice of this length.
-    match unsafe { floecavern_check_loop_for(version, bytes.as_ptr(), bytes.len()) } {
+    match unsafe { floecavern_check_loop_for(version, kind, bytes.as_ptr(), bytes.len()) } {
         0 => Ok(Verdict::Accepted),
         2 => Err(Refusal::State),
         6 => Err(Refusal::Block),

@@ -40,7 +40,8 @@
 //! ```
 //!
 //! The set of a reservation has 64 bytes, [`SET_SIZE`], or as many as [`Machine::with_set_size`] says. The machine follows
-//! A 2.1, [`A_2_1`], or the version that [`Machine::with_version`] says. [`State`] has an example of each.
+//! A 2.1, [`A_2_1`], or the version that [`Machine::with_version`] says. Its core is the 64-bit one, [`KIND_64`], or of the
+//! kind that [`Machine::with_kind`] says, such as [`KIND_32`]. [`State`] has an example of each.
 //!
 //! A refusal can't be passed over by mistake:
 //!
@@ -66,7 +67,7 @@ pub use calls::{
 pub use event::Event;
 pub use harts::Harts;
 pub use machine::{Machine, MAX_MEMORY};
-pub use state::{Reservation, State, A_2_0, A_2_1, MAX_HARTS, SET_SIZE, STATE_SIZE};
+pub use state::{Reservation, State, A_2_0, A_2_1, KIND_32, KIND_64, MAX_HARTS, SET_SIZE, STATE_SIZE};
 
 /// The version of this interface, which is also that of `include/floecavern.h`. Those of the extension A are [`A_2_0`] and
 /// [`A_2_1`].

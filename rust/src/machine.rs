@@ -16,7 +16,8 @@ pub struct Machine {
 
 impl Machine {
     /// `harts` harts with their pc at `base`, registers 0 and no reservations; `len` bytes of memory, all 0; the set size
-    /// [`SET_SIZE`](crate::SET_SIZE) and the version [`A_2_1`](crate::A_2_1). Refusals 1 and 2.
+    /// [`SET_SIZE`](crate::SET_SIZE), the version [`A_2_1`](crate::A_2_1) and the kind [`KIND_64`](crate::KIND_64). Refusals
+    /// 1 and 2.
     ///
     /// ```
     /// use floecavern::{Machine, Refusal};
@@ -69,6 +70,22 @@ impl Machine {
     /// ```
     pub fn with_version(mut self, version: u64) -> Result<Machine, Refusal> {
         self.state.version = version;
+        Machine::from_parts(self.state, self.base, self.mem)
+    }
+
+    /// The machine with a core of another kind: [`KIND_64`](crate::KIND_64) or [`KIND_32`](crate::KIND_32). Refusals 1 and 2:
+    /// 1 if a 32-bit machine's memory would end above 2^32; 2 if the kind is neither of the two, or if a used hart has what no
+    /// 32-bit one can have, an upper half of a register or a pc or a reservation 8 wide.
+    ///
+    /// ```
+    /// use floecavern::{Machine, Refusal, KIND_32};
+    /// assert_eq!(Machine::new(1, 0xffff_ffc0, 64)?.with_kind(KIND_32)?.state.kind, 1);
+    /// assert_eq!(Machine::new(1, 0xffff_ffc0, 128)?.with_kind(KIND_32), Err(Refusal::Memory));
+    /// assert_eq!(Machine::new(1, 0, 64)?.with_kind(32), Err(Refusal::State));
+    /// # Ok::<(), Refusal>(())
+    /// ```
+    pub fn with_kind(mut self, kind: u64) -> Result<Machine, Refusal> {
+        self.state.kind = kind;
         Machine::from_parts(self.state, self.base, self.mem)
     }
 

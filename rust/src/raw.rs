@@ -4,7 +4,7 @@
 extern "C" {
     pub fn floecavern_report(file: *const u8, file_len: usize, out: *mut u8, out_len: usize) -> u64;
     pub fn floecavern_check_loop(words: *const u8, words_len: usize) -> u64;
-    pub fn floecavern_check_loop_for(version: u64, words: *const u8, words_len: usize) -> u64;
+    pub fn floecavern_check_loop_for(version: u64, kind: u64, words: *const u8, words_len: usize) -> u64;
     pub fn floecavern_step(
         state: *mut u8,
         state_len: usize,

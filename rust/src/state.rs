@@ -6,7 +6,7 @@ use std::array::from_fn;
 pub const MAX_HARTS: usize = 8;
 
 /// The bytes of a state.
-pub const STATE_SIZE: usize = 2328;
+pub const STATE_SIZE: usize = 2336;
 
 /// The set size that a state has by default, and that the machine of a case file always has.
 pub const SET_SIZE: u64 = 64;
@@ -17,7 +17,14 @@ pub const A_2_0: u64 = 20;
 /// Version 2.1 of the extension A, which a state has by default, and the machine of a case file always.
 pub const A_2_1: u64 = 21;
 
-/// What an LR made: the `width` bytes, 4 or 8, at `addr`.
+/// The kind of the 64-bit core, which a state has by default.
+pub const KIND_64: u64 = 0;
+
+/// The kind of the 32-bit core: RV32I, LR.W, SC.W, the W AMOs, AMOCAS.W, and AMOCAS.D on pairs of registers. [`State`] says
+/// what it asks of a state.
+pub const KIND_32: u64 = 1;
+
+/// What an LR made: the `width` bytes, 4 or 8, at `addr`; of the 32-bit kind 4.
 #[derive(Clone, Copy, Debug, PartialEq, Eq)]
 pub struct Reservation {
     pub addr: u64,
@@ -34,9 +41,12 @@ struct Slot {
 }
 
 /// The state: of harts 0 to `count - 1`, 1 to 8 of them, the registers `x[hart][register]`, the pc and the reservation; and
-/// for all of them `set_size`, how many bytes the set of a reservation has, a power of two from 8 to 4,096, and `version`,
-/// that of A which the machine follows, [`A_2_0`] or [`A_2_1`]. A set lies at a multiple of its size, around the LR's
-/// address. No call changes the size or the version.
+/// for all of them `set_size`, how many bytes the set of a reservation has, a power of two from 8 to 4,096, `version`, that of
+/// A which the machine follows, [`A_2_0`] or [`A_2_1`], and `kind`, that of the core, [`KIND_64`] or [`KIND_32`]. A set lies
+/// at a multiple of its size, around the LR's address. No call changes the size, the version or the kind.
+///
+/// The registers and pcs of a 32-bit core have 32 bits, and an upper half that is zero: in a used hart any other is refused by
+/// 2, and so is a reservation 8 wide. Every event keeps the upper halves zero.
 ///
 /// Two states are equal if all of this is, of unused harts too. How a reservation is written down in bytes doesn't count.
 ///
@@ -87,6 +97,24 @@ struct Slot {
 /// assert_eq!(old.step(0)?.outcome, Outcome::ScStored);
 /// # Ok::<(), Refusal>(())
 /// ```
+///
+/// A 32-bit core, where AMOCAS.D compares and swaps pairs of registers:
+///
+/// ```
+/// use floecavern::{Machine, Refusal, KIND_32};
+/// let mut machine = Machine::new(1, 0, 128)?.with_kind(KIND_32)?;
+/// machine.put_words(0, &[0x28a2_b42f])?; // amocas.d x8,x10,(x5)
+/// machine.put_words(64, &[1, 2])?;
+/// machine.state.x[0][5] = 64;
+/// machine.state.x[0][8..12].copy_from_slice(&[1, 2, u32::MAX.into(), 7]);
+/// machine.step(0)?;
+/// assert_eq!(machine.bytes(64, 8), Some(&[0xff, 0xff, 0xff, 0xff, 7, 0, 0, 0][..]));
+///
+/// // A register of 32 bits has no upper half: -1 is u32::MAX.
+/// machine.state.x[0][8] = u64::MAX;
+/// assert_eq!(machine.step(0), Err(Refusal::State));
+/// # Ok::<(), Refusal>(())
+/// ```
 #[repr(C)]
 #[derive(Clone, Copy, Debug)]
 pub struct State {
@@ -96,6 +124,7 @@ pub struct State {
     slots: [Slot; MAX_HARTS],
     pub set_size: u64,
     pub version: u64,
+    pub kind: u64,
 }
 
 const _: () = assert!(std::mem::size_of::<State>() == STATE_SIZE);
@@ -104,10 +133,11 @@ const _: () = assert!(std::mem::offset_of!(State, pc) == 2056);
 const _: () = assert!(std::mem::offset_of!(State, slots) == 2120);
 const _: () = assert!(std::mem::offset_of!(State, set_size) == 2312);
 const _: () = assert!(std::mem::offset_of!(State, version) == 2320);
+const _: () = assert!(std::mem::offset_of!(State, kind) == 2328);
 const _: () = assert!(cfg!(all(target_arch = "x86_64", target_os = "linux")), "libcapi.a is for x86-64 Linux");
 
-/// No harts, all registers and pcs 0, no reservations, the set size [`SET_SIZE`], the version [`A_2_1`]. A state of zeros is
-/// another one: its set size is 0, which is refused by 1.
+/// No harts, all registers and pcs 0, no reservations, the set size [`SET_SIZE`], the version [`A_2_1`], the kind [`KIND_64`].
+/// A state of zeros is another one: its set size is 0, which is refused by 1.
 impl Default for State {
     fn default() -> State {
         State {
@@ -117,13 +147,14 @@ impl Default for State {
             slots: [Slot::default(); MAX_HARTS],
             set_size: SET_SIZE,
             version: A_2_1,
+            kind: KIND_64,
         }
     }
 }
 
 impl State {
-    /// `count` harts, all registers and pcs 0, no reservations, the set size [`SET_SIZE`], the version [`A_2_1`]. A count
-    /// that isn't 1 to 8 is refused by 2 when it is used.
+    /// `count` harts, all registers and pcs 0, no reservations, the set size [`SET_SIZE`], the version [`A_2_1`], the kind
+    /// [`KIND_64`]. A count that isn't 1 to 8 is refused by 2 when it is used.
     pub fn new(count: u64) -> State {
         State { count, ..State::default() }
     }
@@ -151,7 +182,7 @@ impl State {
     pub fn to_bytes(&self) -> [u8; STATE_SIZE] {
         let slots = self.slots.iter().flat_map(|s| [s.held, s.addr, s.width]);
         let harts = self.x.into_iter().flatten().chain(self.pc).chain(slots);
-        let numbers = [self.count].into_iter().chain(harts).chain([self.set_size, self.version]);
+        let numbers = [self.count].into_iter().chain(harts).chain([self.set_size, self.version, self.kind]);
         let mut bytes = [0; STATE_SIZE];
         for (place, number) in bytes.chunks_exact_mut(8).zip(numbers) {
             place.copy_from_slice(&number.to_le_bytes());
@@ -170,6 +201,7 @@ impl State {
             slots: from_fn(|h| slot(2120 + 24 * h)),
             set_size: number(2312),
             version: number(2320),
+            kind: number(2328),
         }
     }
 
@@ -188,6 +220,7 @@ impl PartialEq for State {
             && reservations(self) == reservations(other)
             && self.set_size == other.set_size
             && self.version == other.version
+            && self.kind == other.kind
     }
 }
 

@@ -5,7 +5,7 @@ mod common;
 use common::{answer, held};
 use floecavern::{
     check_loop, check_loop_for, device_write, raw, replay, run, step, yield_hart, Event, Machine, Outcome, Reason,
-    Refusal, RefusedAt, Replayed, Reservation, State, Stop, Verdict, A_2_0, A_2_1, STATE_SIZE,
+    Refusal, RefusedAt, Replayed, Reservation, State, Stop, Verdict, A_2_0, A_2_1, KIND_64, STATE_SIZE,
 };
 
 const LR: u32 = 0x1002_a32f; // lr.w x6,(x5)
@@ -63,7 +63,7 @@ fn other_versions() {
         state.set_size = 24;
         assert_eq!(Machine::from_parts(state, 0, vec![0; 64]), Err(Refusal::Memory));
     }
-    assert_eq!(Refusal::State.to_string(), "refusal 2: the version of A or the state is wrong");
+    assert_eq!(Refusal::State.to_string(), "refusal 2: the version of A, the kind of core or the state is wrong");
 }
 
 /// A state that is wrong in another way is refused all the same, and one setting doesn't stand in for the other.
@@ -158,14 +158,14 @@ fn runs_and_replays() {
     }
 }
 
-/// The version is the last number of the bytes, and part of what a state is.
+/// The version is a number of the bytes, and part of what a state is.
 #[test]
 fn bytes() {
     for version in WRONG.into_iter().chain([A_2_0, A_2_1]) {
         let mut state = State::new(3);
         state.version = version;
         let bytes = state.to_bytes();
-        assert_eq!(bytes[2320..], version.to_le_bytes());
+        assert_eq!(bytes[2320..2328], version.to_le_bytes());
         assert_eq!((State::from_bytes(&bytes), State::from_bytes(&bytes).version), (state, version));
         assert_eq!(state == State::new(3), version == A_2_1);
     }
@@ -190,11 +190,11 @@ fn loops() {
         (&[RET; 17], Err(Refusal::Block), Err(Refusal::Block)),
         (&[], Err(Refusal::Block), Err(Refusal::Block)),
     ] {
-        assert_eq!(check_loop_for(A_2_0, block), old, "{block:x?}");
-        assert_eq!(check_loop_for(A_2_1, block), new, "{block:x?}");
+        assert_eq!(check_loop_for(A_2_0, KIND_64, block), old, "{block:x?}");
+        assert_eq!(check_loop_for(A_2_1, KIND_64, block), new, "{block:x?}");
         assert_eq!(check_loop(block), new, "{block:x?}");
         for version in WRONG {
-            assert_eq!(check_loop_for(version, block), Err(Refusal::State), "{version} {block:x?}");
+            assert_eq!(check_loop_for(version, KIND_64, block), Err(Refusal::State), "{version} {block:x?}");
         }
     }
 }
@@ -204,8 +204,9 @@ fn loops() {
 fn raw_loops() {
     let bytes: Vec<u8> = [LR, RET, SC].iter().flat_map(|w| w.to_le_bytes()).collect();
     let check = |len: usize| unsafe { raw::floecavern_check_loop(bytes[..len].as_ptr(), len) };
-    let check_for =
-        |version: u64, len: usize| unsafe { raw::floecavern_check_loop_for(version, bytes[..len].as_ptr(), len) };
+    let check_for = |version: u64, len: usize| unsafe {
+        raw::floecavern_check_loop_for(version, KIND_64, bytes[..len].as_ptr(), len)
+    };
     assert_eq!((check(12), check_for(A_2_1, 12), check_for(A_2_0, 12)), (256 * 2 + 2, 256 * 2 + 2, 0));
     assert_eq!((check(4), check_for(A_2_1, 4), check_for(A_2_0, 4), check_for(22, 4)), (6, 6, 6, 2));
     for version in WRONG.into_iter().chain([A_2_0, A_2_1]) {

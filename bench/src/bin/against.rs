@@ -3,13 +3,14 @@
 //! least counts. A ratio is the new version's time by the old one's.
 //!
 //! A version of the library from before request 5 takes states without the set size: it is given the bytes before that, and sets of 64 bytes
-//! alone. One from before request 7 takes states without the version of the A extension: it is given the bytes before that, and 2.1 alone.
+//! alone. One from before request 7 takes states without the version of the A extension: it is given the bytes before that, and 2.1 alone. One from
+//! before request 10 takes states without the kind of core: it is given the bytes before that, and the 64-bit kind alone.
 
 use bench::calls::BAD_SIZE;
 use bench::case::EVENT;
 use bench::clock::now;
 use bench::layout;
-use bench::machine::{State, A_2_1, DEFAULT_SET};
+use bench::machine::{State, A_2_1, DEFAULT_SET, KIND_64};
 use bench::shared::{arguments, Shared};
 use bench::work::{self, Work, BASE};
 use std::ffi::c_void;
@@ -21,8 +22,8 @@ type Run = unsafe extern "C" fn(*mut u8, usize, u64, *mut u8, usize, *const u8, 
 type OfHart = unsafe extern "C" fn(*mut u8, usize, u64, *mut u8, usize, usize, *mut u8, usize) -> u64;
 type Device = unsafe extern "C" fn(*mut u8, usize, u64, *mut u8, usize, u64, usize, u64, *mut u8, usize) -> u64;
 
-/// The lengths of a state: without the set size, with that and without the version of the A extension, with both.
-const STATE_LENGTHS: [usize; 3] = [layout::SET_SIZE, layout::VERSION, layout::SIZE];
+/// The lengths of a state: without the settings, and with one more of them each time.
+const STATE_LENGTHS: [usize; 4] = [layout::SET_SIZE, layout::VERSION, layout::KIND, layout::SIZE];
 
 /// The functions of one version.
 #[derive(Clone, Copy)]
@@ -52,7 +53,7 @@ fn library(shared: Shared) -> Library {
 /// How many bytes of a state a version takes: asked by a run of no events.
 fn state_len(run: Run) -> usize {
     let accepts = |&length: &usize| {
-        let (mut kept, mut ran) = (Kept::of(&work::idle()), [0; 16]);
+        let (mut kept, mut ran) = (Kept::of(&work::idle(KIND_64)), [0; 16]);
         let (state, memory) = (kept.state.as_mut_ptr(), kept.memory.as_mut_ptr());
         // SAFETY: every pointer comes from a slice that has at least the length beside it, and no two of the slices overlap.
         let answer = unsafe { run(state, length, BASE, memory, kept.memory.len(), [].as_ptr(), 0, 0, ran.as_mut_ptr(), ran.len()) };
@@ -127,26 +128,40 @@ fn left_out(state: &State, shortest: usize) -> Option<&'static str> {
     match state {
         state if state.set_size != DEFAULT_SET && shortest <= layout::SET_SIZE => Some("sets of 64 bytes alone"),
         state if state.version != A_2_1 && shortest <= layout::VERSION => Some("A 2.1 alone"),
+        state if state.kind != KIND_64 && shortest <= layout::KIND => Some("the 64-bit kind alone"),
         _ => None,
+    }
+}
+
+fn long_runs(batches: usize, places: &[[Library; 2]], shortest: usize) {
+    println!("Long runs: one call of {LONG} events; million events a second");
+    println!("{:<36} {:>9} {:>9} {:>7}", "", "old", "new", "ratio");
+    for (name, work) in work::long_runs(LONG) {
+        if let Some(alone) = left_out(&work.state, shortest) {
+            println!("{name:<36} skipped: a library has {alone}");
+            continue;
+        }
+        let [old, new] = in_turns(batches, &work, places, |library, machine| run(library, machine, &work.events));
+        println!("{name:<36} {:>9.1} {:>9.1} {:>7.3}", 1e3 * LONG as f64 / old, 1e3 * LONG as f64 / new, new / old);
+    }
+}
+
+fn single_calls(batches: usize, places: &[[Library; 2]], of: &str, idle: Work) {
+    for call in ["step", "device_write", "yield"] {
+        let [old, new] = in_turns(batches, &idle, places, |library, machine| single(library, machine, call));
+        println!("{:<36} {:>9.1} {:>9.1} {:>7.3}", work::named(call, of), old / CALLS as f64, new / CALLS as f64, new / old);
     }
 }
 
 fn main() {
     let (batches, places) = arguments(library);
     let shortest = places.iter().flatten().map(|library| library.state_len).min().expect("two libraries at least");
-    println!("Long runs: one call of {LONG} events; million events a second");
-    println!("{:<28} {:>9} {:>9} {:>7}", "", "old", "new", "ratio");
-    for (name, work) in work::long_runs(LONG) {
-        if let Some(alone) = left_out(&work.state, shortest) {
-            println!("{name:<28} skipped: a library has {alone}");
-            continue;
-        }
-        let [old, new] = in_turns(batches, &work, &places, |library, machine| run(library, machine, &work.events));
-        println!("{name:<28} {:>9.1} {:>9.1} {:>7.3}", 1e3 * LONG as f64 / old, 1e3 * LONG as f64 / new, new / old);
-    }
+    long_runs(batches, &places, shortest);
     println!("\nOne call, 8 harts, 4096 bytes: nanoseconds");
-    for kind in ["step", "device_write", "yield"] {
-        let [old, new] = in_turns(10 * batches, &work::idle(), &places, |library, machine| single(library, machine, kind));
-        println!("{kind:<28} {:>9.1} {:>9.1} {:>7.3}", old / CALLS as f64, new / CALLS as f64, new / old);
+    for (of, kind) in work::KINDS {
+        let idle = work::idle(kind);
+        if left_out(&idle.state, shortest).is_none() {
+            single_calls(10 * batches, &places, of, idle);
+        }
     }
 }

@@ -4,6 +4,7 @@
 
 use bench::broken::Broken;
 use bench::case::read_case;
+use bench::kinds::{Files, Kinds};
 use std::collections::BTreeMap;
 use std::fs::{self, File};
 use std::process::{Command, Stdio};
@@ -13,6 +14,8 @@ struct Tally {
     events: u64,
     lines: BTreeMap<String, u64>,
     broken: Broken,
+    files: Files,
+    kinds: Kinds,
 }
 
 /// The kind of a line: its words without the numbers that vary.
@@ -54,8 +57,10 @@ fn compare(program: &str, keep: &str, name: &str, case: &[u8], tally: &mut Tally
         *tally.lines.entry(kind(line)).or_default() += 1;
         tally.events += 1;
     }
+    tally.files.count(case);
     if let Ok(case) = read_case(case) {
         tally.broken.count(&case.state, case.base, case.memory, case.events);
+        tally.kinds.count_events(&case.state, case.base, case.memory, case.events);
     }
     Ok(())
 }
@@ -68,7 +73,8 @@ fn main() -> std::io::Result<()> {
     }
     let (program, keep) = (&arguments[1], &arguments[2]);
     fs::create_dir_all(keep)?;
-    let mut tally = Tally { cases: 0, events: 0, lines: BTreeMap::new(), broken: Broken::default() };
+    let mut tally =
+        Tally { cases: 0, events: 0, lines: BTreeMap::new(), broken: Broken::default(), files: Files::default(), kinds: Kinds::default() };
     match (arguments[3].parse::<u64>(), arguments.get(4).map(|n| n.parse::<u64>())) {
         (Ok(first), Some(Ok(count))) => {
             println!("seeds {first} to {}", first + count - 1);
@@ -87,5 +93,7 @@ fn main() -> std::io::Result<()> {
         println!("  {kind}: {count}");
     }
     tally.broken.print(true);
+    tally.files.print();
+    tally.kinds.print_events();
     Ok(())
 }

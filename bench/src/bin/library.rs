@@ -8,9 +8,10 @@ use bench::broken::Broken;
 use bench::calls::{self, Call, Machine, BAD_SIZE, REFUSED, TRAP};
 use bench::case::EVENT;
 use bench::generate::builder::low_bytes;
-use bench::generate::{case, log, loop_block, no_version, refused_call, run_call, scenario, Rng, Scenario};
+use bench::generate::{case, log, loop_block, no_kind, no_version, refused_call, run_call, scenario, Rng, Scenario};
+use bench::kinds::{Files, Kinds};
 use bench::log::ROW;
-use bench::machine::{State, A_2_0, A_2_1, MAX_HARTS};
+use bench::machine::{xlen, State, A_2_0, A_2_1, KIND_32, KIND_64, MAX_HARTS};
 use bench::reached::Reached;
 use bench::sizes::Sizes;
 use bench::versions::{Blocks, Versions};
@@ -34,6 +35,7 @@ struct Tally {
     broken: Broken,
     sizes: Sizes,
     versions: Versions,
+    kinds: Kinds,
     replays: Reached,
     /// Logs cut in two parts, both replayed as the whole.
     cut: u64,
@@ -74,6 +76,7 @@ impl<'a> Pair<'a> {
         tally.count(&call, ours, &a);
         tally.sizes.count_call(&self.ours, ours);
         tally.versions.count_call(&self.ours, &call, ours);
+        tally.kinds.count_call(&self.ours, &call, ours);
         self.calls.push(call);
         self.told = a;
         Ok(ours)
@@ -104,9 +107,10 @@ impl<'a> Pair<'a> {
     }
 }
 
-/// The set size and the version, if it is a state.
+/// The settings, if it is a state.
 fn shown_settings(state: &[u8]) -> String {
-    layout::read(state).map_or(String::new(), |state| format!("sets of {} bytes, version {}, ", state.set_size, state.version))
+    let shown = |state: State| format!("sets of {} bytes, version {}, kind {}, ", state.set_size, state.version, state.kind);
+    layout::read(state).map_or(String::new(), shown)
 }
 
 /// A call and its arguments, without a run's events and a replay's rows.
@@ -128,6 +132,7 @@ impl Tally {
             broken: Broken::default(),
             sizes: Sizes::default(),
             versions: Versions::default(),
+            kinds: Kinds::default(),
             replays: Reached::new(&[1, 2, 12, 13]),
             cut: 0,
         }
@@ -156,6 +161,7 @@ impl Tally {
             self.broken.count(&state, machine.base, &machine.memory, &given.events);
             self.sizes.count_events(&state, machine.base, &machine.memory, &given.events);
             self.versions.count_events(&state, machine.base, &machine.memory, &given.events);
+            self.kinds.count_events(&state, machine.base, &machine.memory, &given.events);
         }
     }
 
@@ -167,6 +173,7 @@ impl Tally {
         self.broken.print(false);
         self.sizes.print();
         self.versions.print();
+        self.kinds.print();
         println!("  answers:");
         for ((call, answer), number) in &self.answers {
             // Those of replays come below.
@@ -262,8 +269,9 @@ fn with_rubbish(rng: &mut Rng, call: Call) -> Call {
     }
 }
 
-fn compare_report(seed: u64, out: &mut [u8]) -> Result<(), Difference> {
+fn compare_report(seed: u64, out: &mut [u8], files: &mut Files) -> Result<(), Difference> {
     let file = case(seed);
+    files.count(&file);
     let expected = bench::report(&file);
     let guard = floecavern::REPORT_ROOM;
     out[guard..].fill(UNTOUCHED);
@@ -278,25 +286,35 @@ fn compare_report(seed: u64, out: &mut [u8]) -> Result<(), Difference> {
     Ok(())
 }
 
-/// A block under both versions and under a number that is none, and by the call that takes no version.
-fn compare_block(seed: u64, blocks: &mut Blocks) -> Result<(), Difference> {
+/// A block of both kinds, under both versions and under a number that is none; of a number that is no kind; and by the call that takes neither.
+/// `blocks` are the counts of each kind.
+fn compare_block(seed: u64, blocks: &mut [Blocks; 2]) -> Result<(), Difference> {
     let rng = &mut Rng::new(seed);
     let mut words: Vec<u8> = loop_block(rng).iter().flat_map(|w| w.to_le_bytes()).collect();
     if rng.percent(2) {
         words.push(0);
     }
     let versions = [A_2_0, A_2_1, no_version(rng)];
-    let answers = versions.map(|version| (calls::check_loop_for(version, &words), floecavern::check_loop_for(version, &words)));
-    let without = (calls::check_loop(&words), floecavern::check_loop(&words));
-    let names = versions.map(|version| format!("check_loop_for version {version}")).into_iter().chain(["check_loop".into()]);
-    for (name, (ours, theirs)) in names.zip(answers.into_iter().chain([without])) {
-        if ours != theirs {
-            let what = format!("{name}: library {theirs:#x}, bench {ours:#x}\n");
-            return Err(Difference { what, files: vec![("words", words)] });
-        }
+    let check = |version, kind| {
+        let (ours, theirs) = (calls::check_loop_for(version, kind, &words), floecavern::check_loop_for(version, kind, &words));
+        same_answer(&format!("check_loop_for version {version} kind {kind}"), &words, ours, theirs)
+    };
+    for (kind, counts) in [KIND_64, KIND_32].into_iter().zip(blocks) {
+        let [under_2_0, under_2_1, under_none] = versions.map(|version| check(version, kind));
+        counts.count(&words, xlen(kind), [under_2_0?, under_2_1?, under_none?]);
     }
-    blocks.count(&words, answers.map(|(ours, _)| ours));
+    check(rng.pick(&versions), no_kind(rng))?;
+    same_answer("check_loop", &words, calls::check_loop(&words), floecavern::check_loop(&words))?;
     Ok(())
+}
+
+/// The answer of both sides for a block.
+fn same_answer(name: &str, words: &[u8], ours: u64, theirs: u64) -> Result<u64, Difference> {
+    if ours == theirs {
+        return Ok(ours);
+    }
+    let what = format!("{name}: library {theirs:#x}, bench {ours:#x}\n");
+    Err(Difference { what, files: vec![("words", words.to_vec())] })
 }
 
 /// Compares on every seed, and ends the process at a difference.
@@ -335,11 +353,16 @@ fn main() -> std::io::Result<()> {
     println!("{count} machines, {} calls, all the same", tally.calls);
     tally.print();
     let mut out = vec![0; floecavern::REPORT_ROOM + 16];
-    each_seed(keep, "case", seeds.clone(), |seed| compare_report(seed, &mut out));
+    let mut files = Files::default();
+    each_seed(keep, "case", seeds.clone(), |seed| compare_report(seed, &mut out, &mut files));
     println!("{count} case files, all the same");
-    let mut blocks = Blocks::default();
+    files.print();
+    let mut blocks = <[Blocks; 2]>::default();
     each_seed(keep, "block", seeds, |seed| compare_block(seed, &mut blocks));
-    println!("{count} blocks, each under both versions and under no version, all the same");
-    blocks.print();
+    println!("{count} blocks, each of both kinds, under both versions and under no version, and of no kind, all the same");
+    for (kind, counts) in ["64-bit", "32-bit"].into_iter().zip(&blocks) {
+        println!("  {kind}:");
+        counts.print();
+    }
     Ok(())
 }

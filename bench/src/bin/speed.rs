@@ -1,5 +1,6 @@
 //! speed BATCHES FILE..: measures the calls of libcapi.a against this crate in one process and prints tables: long runs, long replays,
-//! `report` of the files, growth with harts, memory and events, single calls. A ratio is the library's time by this crate's.
+//! `report` of the files and of case files of the long runs' work, growth with harts, memory and events, single calls, all but the files for both kinds
+//! of core. A ratio is the library's time by this crate's.
 //!
 //! Times are processor time, the least of BATCHES batches, both sides in turns so that other work on the machine meets both alike.
 
@@ -119,11 +120,11 @@ fn heading(title: &str) {
 
 fn long_runs(batches: usize) {
     heading(&format!("Long runs: one call of {LONG} events; million events a second"));
-    println!("{:<28} {:>9} {:>9} {:>7}", "", "library", "bench", "ratio");
+    println!("{:<36} {:>9} {:>9} {:>7}", "", "library", "bench", "ratio");
     let mut worst: f64 = 0.0;
     for (name, work) in work::long_runs(LONG) {
         let times = run(batches, work).each(LONG);
-        println!("{name:<28} {:>9.1} {:>9.1} {:>7.2}", 1e3 / times.theirs, 1e3 / times.ours, times.ratio());
+        println!("{name:<36} {:>9.1} {:>9.1} {:>7.2}", 1e3 / times.theirs, 1e3 / times.ours, times.ratio());
         worst = worst.max(times.ratio());
     }
     println!("highest ratio {worst:.2}, target 2.0");
@@ -131,18 +132,21 @@ fn long_runs(batches: usize) {
 
 fn long_replays(batches: usize) {
     heading(&format!("Long replays: one call of {BATCH} rows; million rows a second, and a row by an event of a run of the same steps"));
-    println!("{:<28} {:>9} {:>9} {:>7} {:>11}", "", "library", "bench", "ratio", "row / event");
-    let works: [(&str, Work); 4] = [
-        ("compute, 4 harts", work::compute(4, BATCH)),
-        ("memory, 4 harts, 64 KiB", work::memory(4, 65_536, BATCH)),
-        ("LR/SC on one line, 8 harts", work::contention(8, BATCH)),
-        ("AMO and AMOCAS, 4 harts", work::amos(4, BATCH)),
-    ];
+    println!("{:<36} {:>9} {:>9} {:>7} {:>11}", "", "library", "bench", "ratio", "row / event");
+    let works = work::KINDS.into_iter().flat_map(|(of, kind)| {
+        [
+            ("compute, 4 harts", work::compute(kind, 4, BATCH)),
+            ("memory, 4 harts, 64 KiB", work::memory(kind, 4, 65_536, BATCH)),
+            ("LR/SC on one line, 8 harts", work::contention(kind, 8, BATCH)),
+            ("AMO and AMOCAS, 4 harts", work::amos(kind, 4, BATCH)),
+        ]
+        .map(|(name, work)| (work::named(name, of), work))
+    });
     let (mut worst, mut most): (f64, f64) = (0.0, 0.0);
     for (name, work) in works {
         let (times, run) = replayed(batches, &work);
         let (rows, by_event) = (times.each(BATCH), times.theirs / run);
-        println!("{name:<28} {:>9.1} {:>9.1} {:>7.2} {by_event:>11.2}", 1e3 / rows.theirs, 1e3 / rows.ours, rows.ratio());
+        println!("{name:<36} {:>9.1} {:>9.1} {:>7.2} {by_event:>11.2}", 1e3 / rows.theirs, 1e3 / rows.ours, rows.ratio());
         (worst, most) = (worst.max(rows.ratio()), most.max(by_event));
     }
     println!("highest ratio {worst:.2}, target 1.5; a row is at most {most:.2} events, target 4.0");
@@ -150,21 +154,22 @@ fn long_replays(batches: usize) {
 
 fn reports(batches: usize, files: &[String]) -> std::io::Result<()> {
     heading("report: one call; microseconds");
-    println!("{:<16} {:>7} {:>9} {:>9} {:>7}", "case", "events", "library", "bench", "ratio");
+    println!("{:<36} {:>7} {:>9} {:>9} {:>7}", "case", "events", "library", "bench", "ratio");
     let mut out = vec![0; floecavern::REPORT_ROOM];
     let mut worst: f64 = 0.0;
-    for path in files {
-        let file = std::fs::read(path)?;
+    let named =
+        |path: &String| std::fs::read(path).map(|file| (path.rsplit('/').next().unwrap().trim_end_matches(".case").to_string(), file));
+    let given: Vec<(String, Vec<u8>)> = files.iter().map(named).collect::<Result<_, _>>()?;
+    for (name, file) in given.into_iter().chain(work::case_files()) {
         let events = u32::from_le_bytes(file[36..40].try_into().unwrap()) as usize / EVENT;
         let expected = bench::report(&file);
         let length = floecavern::report(&file, &mut out) as usize;
-        assert!(out[..length] == expected, "{path}: the reports differ");
+        assert!(out[..length] == expected, "{name}: the reports differ");
         let runs = 1 + BATCH / (20 * events.max(100));
         let theirs = || (0..runs).for_each(|_| assert_eq!(floecavern::report(&file, &mut out), expected.len() as u64));
         let ours = || (0..runs).for_each(|_| drop(black_box(bench::report(black_box(&file)))));
         let times = in_turns(4 * batches, theirs, ours).each(1000 * runs);
-        let name = path.rsplit('/').next().unwrap().trim_end_matches(".case");
-        println!("{name:<16} {events:>7} {:>9.1} {:>9.1} {:>7.2}", times.theirs, times.ours, times.ratio());
+        println!("{name:<36} {events:>7} {:>9.1} {:>9.1} {:>7.2}", times.theirs, times.ours, times.ratio());
         worst = worst.max(times.ratio());
     }
     println!("highest ratio {worst:.2}, target 1.5");
@@ -185,25 +190,25 @@ fn growth<T: std::fmt::Display + Copy>(title: &str, columns: [&str; 2], values: 
     }
 }
 
-fn growths(batches: usize) {
+fn growths(batches: usize, of: &str, kind: u64) {
     let events = BATCH;
-    growth("Growth with harts: nanoseconds an event", ["compute", "LR/SC on one line"], &[1, 2, 4, 8], |harts| {
-        [run(batches, work::compute(harts, events)).each(events), run(batches, work::contention(harts, events)).each(events)]
+    growth(&work::named("Growth with harts: nanoseconds an event", of), ["compute", "LR/SC on one line"], &[1, 2, 4, 8], |harts| {
+        [run(batches, work::compute(kind, harts, events)).each(events), run(batches, work::contention(kind, harts, events)).each(events)]
     });
     let lengths = [64, 256, 1024, 4096, 16_384, 65_536, 262_144, 1_048_576];
     let columns = ["an event, of 200000", "a call of one event"];
-    growth("Growth with bytes of memory: nanoseconds", columns, &lengths, |length| {
-        [run(batches, work::memory(1, length, events)).each(events), run(batches, work::memory(1, length, 1))]
+    growth(&work::named("Growth with bytes of memory: nanoseconds", of), columns, &lengths, |length| {
+        [run(batches, work::memory(kind, 1, length, events)).each(events), run(batches, work::memory(kind, 1, length, 1))]
     });
     let numbers = [1, 10, 100, 1_000, 10_000, 100_000, 1_000_000];
-    growth("Growth with events in a call: nanoseconds an event", ["compute", "LR/SC on one line"], &numbers, |n| {
-        [run(batches, work::compute(8, n)).each(n), run(batches, work::contention(8, n)).each(n)]
+    growth(&work::named("Growth with events in a call: nanoseconds an event", of), ["compute", "LR/SC on one line"], &numbers, |n| {
+        [run(batches, work::compute(kind, 8, n)).each(n), run(batches, work::contention(kind, 8, n)).each(n)]
     });
 }
 
 /// Single calls: the library's on a state kept as bytes, this crate's on its own state.
-fn single_calls(batches: usize) {
-    heading("One call, 8 harts, 4096 bytes; the library on a state kept as bytes, bench on its own: nanoseconds");
+fn single_calls(batches: usize, of: &str, kind: u64) {
+    heading(&work::named("One call, 8 harts, 4096 bytes; the library on a state kept as bytes, bench on its own: nanoseconds", of));
     println!("{:<28} {:>9} {:>9} {:>7}", "", "library", "bench", "ratio");
     type Ours = fn(&mut State, &mut Memory);
     let rows: [(&str, Call, Ours); 5] = [
@@ -214,7 +219,7 @@ fn single_calls(batches: usize) {
         ("replay of two rows", Call::Replay { log: TWO_ROWS.to_vec() }, |s, m| _ = black_box(replay(s, m, TWO_ROWS))),
     ];
     for (name, call, perform) in rows {
-        let Work { mut state, mut memory, .. } = work::idle();
+        let Work { mut state, mut memory, .. } = work::idle(kind);
         let mut machine = Machine { state: layout::bytes(&state), base: BASE, memory: memory.clone() };
         let runs = 5_000;
         let theirs = || (0..runs).for_each(|_| assert_eq!(floecavern::perform(&mut machine, &call, &mut [0; 24][..call.told()]), 0));
@@ -234,7 +239,9 @@ fn main() -> std::io::Result<()> {
     long_runs(batches);
     long_replays(batches);
     reports(batches, &arguments[2..])?;
-    growths(batches);
-    single_calls(batches);
+    for (of, kind) in work::KINDS {
+        growths(batches, of, kind);
+        single_calls(batches, of, kind);
+    }
     Ok(())
 }

@@ -1,9 +1,10 @@
 //! words OLD NEW: every word by two versions of the decoder, given as shared objects, and by this crate's own, all that they say of it compared. It
-//! prints how many words each finds illegal, how many differ, and the first of these.
+//! prints how many words each finds illegal, how many differ, and the first of these. The same for RV32, if the new version has a decoder of it; an
+//! old one that has none is left out of that.
 
 use bench::described::{described, Described, FENCE, FIELDS, ILLEGAL};
 use bench::shared::{open, Shared};
-use bench::word::decode;
+use bench::word::{decode, RV32, RV64};
 use std::ffi::c_void;
 use std::ops::Range;
 use std::sync::atomic::{AtomicU64, Ordering};
@@ -16,9 +17,11 @@ const SHOWN: usize = 8;
 
 type Describe = unsafe extern "C" fn(*const u32, usize, *mut u64, usize);
 
-fn describer(shared: Shared) -> Describe {
-    // SAFETY: the function has this type in every version: bench/words.
-    unsafe { std::mem::transmute::<*mut c_void, Describe>(shared.symbol("bench_words")) }
+/// What says all of words for registers of so many bits, if the version has it.
+fn describer(shared: &Shared, xlen: u32) -> Option<Describe> {
+    let found = if xlen == RV32 { shared.find("bench_words_32") } else { Some(shared.symbol("bench_words")) };
+    // SAFETY: both functions have this type in every version: bench/words.
+    found.map(|found| unsafe { std::mem::transmute::<*mut c_void, Describe>(found) })
 }
 
 /// The immediate in hex, all others in decimal.
@@ -71,8 +74,8 @@ struct Compared {
 }
 
 impl Compared {
-    fn count(&mut self, word: u32, old: Described, new: Described) {
-        let own = described(decode(word));
+    fn count(&mut self, word: u32, xlen: u32, old: Described, new: Described) {
+        let own = described(decode(word, xlen), xlen);
         for (count, answer) in self.illegal.iter_mut().zip([old, new, own]) {
             *count += (answer[0] == ILLEGAL) as u64;
         }
@@ -102,7 +105,7 @@ impl Compared {
 }
 
 /// Takes blocks of words until none is left. Each has higher numbers than the one before, so the first differences are the least.
-fn compare_blocks(versions: [Describe; 2], words: &Range<u64>, next: &AtomicU64) -> Compared {
+fn compare_blocks(versions: [Describe; 2], xlen: u32, words: &Range<u64>, next: &AtomicU64) -> Compared {
     let mut compared = Compared::default();
     let mut answers = [(); 2].map(|()| vec![[0; 8]; BLOCK as usize]);
     loop {
@@ -116,17 +119,17 @@ fn compare_blocks(versions: [Describe; 2], words: &Range<u64>, next: &AtomicU64)
             unsafe { describe(block.as_ptr(), block.len(), out.as_flattened_mut().as_mut_ptr(), 8 * out.len()) };
         }
         for (n, &word) in block.iter().enumerate() {
-            compared.count(word, answers[0][n], answers[1][n]);
+            compared.count(word, xlen, answers[0][n], answers[1][n]);
         }
     }
 }
 
 /// On all cores.
-fn compare(versions: [Describe; 2], words: Range<u64>) -> Compared {
+fn compare(versions: [Describe; 2], xlen: u32, words: Range<u64>) -> Compared {
     let next = AtomicU64::new(words.start);
     let threads = thread::available_parallelism().map_or(1, usize::from);
     thread::scope(|scope| {
-        let started: Vec<_> = (0..threads).map(|_| scope.spawn(|| compare_blocks(versions, &words, &next))).collect();
+        let started: Vec<_> = (0..threads).map(|_| scope.spawn(|| compare_blocks(versions, xlen, &words, &next))).collect();
         started.into_iter().map(|thread| thread.join().expect("no panic")).fold(Compared::default(), Compared::join)
     })
 }
@@ -137,11 +140,27 @@ fn main() {
         eprintln!("usage: words OLD NEW");
         std::process::exit(2);
     };
-    let compared = compare([old, new].map(|path| describer(open(path))), ALL);
-    compared.print();
-    if compared.versions.number + compared.own.number > 0 {
+    let opened = [old, new].map(|path| open(path));
+    let mut differ = 0;
+    for xlen in [RV64, RV32] {
+        let [Some(old), Some(new)] = described_by(&opened, xlen) else {
+            println!("RV{xlen}: not compared");
+            continue;
+        };
+        println!("RV{xlen}");
+        let compared = compare([old, new], xlen, ALL);
+        compared.print();
+        differ += compared.versions.number + compared.own.number;
+    }
+    if differ > 0 {
         std::process::exit(1);
     }
+}
+
+/// Of both versions; of the new one twice, if the old one has none.
+fn described_by(versions: &[Shared; 2], xlen: u32) -> [Option<Describe>; 2] {
+    let [old, new] = [0, 1].map(|n| describer(&versions[n], xlen));
+    [old.or(new), new]
 }
 
 #[cfg(test)]
@@ -149,8 +168,8 @@ mod tests {
     use super::*;
 
     /// Stands for a version of the decoder: this crate's, with FENCE's fields.
-    fn version(word: u32) -> Described {
-        match described(decode(word)) {
+    fn version(word: u32, xlen: u32) -> Described {
+        match described(decode(word, xlen), xlen) {
             [FENCE, ..] => [FENCE, 0, 0, 0, (word >> 7 & 31).into(), (word >> 15 & 31).into(), 0, (word >> 20).into()],
             other => other,
         }
@@ -164,12 +183,16 @@ mod tests {
     }
 
     unsafe extern "C" fn right(words: *const u32, number: usize, out: *mut u64, room: usize) {
-        write(words, number, out, room, version);
+        write(words, number, out, room, |word| version(word, RV64));
+    }
+
+    unsafe extern "C" fn right_32(words: *const u32, number: usize, out: *mut u64, room: usize) {
+        write(words, number, out, room, |word| version(word, RV32));
     }
 
     /// Says nothing of FENCE's rd.
     unsafe extern "C" fn without_rd(words: *const u32, number: usize, out: *mut u64, room: usize) {
-        write(words, number, out, room, |word| match version(word) {
+        write(words, number, out, room, |word| match version(word, RV64) {
             [FENCE, a, b, c, _, d, e, f] => [FENCE, a, b, c, 0, d, e, f],
             other => other,
         });
@@ -177,7 +200,7 @@ mod tests {
 
     /// Takes LUI for AUIPC, and EBREAK for an illegal word.
     unsafe extern "C" fn wrong(words: *const u32, number: usize, out: *mut u64, room: usize) {
-        write(words, number, out, room, |word| match version(word) {
+        write(words, number, out, room, |word| match version(word, RV64) {
             [1, rest @ ..] => [&[2][..], &rest].concat().try_into().unwrap(),
             [14, ..] => [0; 8],
             other => other,
@@ -189,7 +212,7 @@ mod tests {
     fn differences() {
         let words = 0..(1 << 21) + 500;
         let numbers = |versions| {
-            let c = compare(versions, words.clone());
+            let c = compare(versions, RV64, words.clone());
             assert_eq!(c.words, words.end);
             (c.versions.number, c.own.number, c.illegal[0] as i64 - c.illegal[2] as i64, c.illegal[1] as i64 - c.illegal[2] as i64)
         };
@@ -203,10 +226,22 @@ mod tests {
         assert_eq!(numbers([wrong, wrong]), (0, luis + 1, 1, 1));
     }
 
+    /// The decoder of RV64 given for that of RV32 differs in just the words that RV64 alone has, here LD, LWU, SD, OP-IMM-32 and OP-32.
+    #[test]
+    fn widths() {
+        let words = 0..1 << 20;
+        let compared = compare([right_32, right_32], RV32, words.clone());
+        assert_eq!((compared.versions.number, compared.own.number), (0, 0));
+        let compared = compare([right_32, right], RV32, words.clone());
+        let alone = words.filter(|&word| decode(word as u32, RV64).is_some() && decode(word as u32, RV32).is_none()).count() as u64;
+        assert_eq!((compared.versions.number, compared.own.number), (alone, alone));
+        assert!(alone > 1000);
+    }
+
     /// Those shown are the lowest words, in order, whichever thread found them.
     #[test]
     fn first() {
-        let compared = compare([right, without_rd], 0..1 << 21);
+        let compared = compare([right, without_rd], RV64, 0..1 << 21);
         assert_eq!(
             compared.versions.first.iter().map(|(word, _)| *word).collect::<Vec<_>>(),
             (1..9).map(|rd| rd << 7 | 0x0F).collect::<Vec<_>>()

@@ -2,10 +2,15 @@
 //!
 //! The events are performed as they are made, so every pc is known and the next word can be put there by a device write.
 
-use super::words::{atomic, i_type, r_type, s_type, AMOS, CAS, D, LR, NOP, Q, SC, W};
+use super::words::{
+    atomic, cas_width, full_width, i_type, is_pair, r_type, register_mask, s_type, some_width, store_width, AMOS, CAS, LR, NOP, SC, W,
+};
 use super::Rng;
 use crate::case::{EVENT, MAX_FILE, TABLE};
-use crate::machine::{memory_unit, Memory, Outcome, Reservation, State, A_2_0, A_2_1, DEFAULT_SET, SMALLEST_SET};
+use crate::machine::{
+    low, memory_unit, Memory, Outcome, Reservation, State, ADDRESSES_32, A_2_0, A_2_1, DEFAULT_SET, KIND_32, KIND_64, SMALLEST_SET,
+};
+use crate::word::RV32;
 
 pub const STEP: u8 = 1;
 pub const DEVICE: u8 = 2;
@@ -44,22 +49,30 @@ pub struct Builder {
 
 impl Builder {
     pub fn for_case(rng: &mut Rng) -> Self {
-        let base = match rng.below(8) {
-            0 => 0,
-            1 => 1 << 40,
-            2 => 64 * rng.below(4),
-            _ => rng.below(1 << 34) * 64,
-        };
+        let kind = rng.pick(&[KIND_64, KIND_32]);
         let count = if rng.percent(30) { 1 } else { 1 + rng.below(8) as usize };
         let lines = if rng.percent(90) { 1 + rng.below(8) } else { 1 + rng.below(64) } as usize;
-        Builder {
-            base,
+        let mut b = Builder {
+            base: some_base(rng, kind),
             first: State::default(),
             memory: vec![0; 64 * lines],
             events: Vec::new(),
-            state: State { count, ..State::default() },
+            state: State { count, kind, ..State::default() },
             bytes: Vec::new(),
             case_file: true,
+        };
+        b.fit_below_top();
+        b
+    }
+
+    pub fn xlen(&self) -> u32 {
+        self.state.xlen()
+    }
+
+    /// "Base plus length is at most 2^32" for the 32-bit kind: a lower base, if it has to be. It keeps all addresses that were in memory.
+    fn fit_below_top(&mut self) {
+        if self.xlen() == RV32 {
+            self.base = self.base.min(ADDRESSES_32 - self.memory.len() as u64);
         }
     }
 
@@ -79,6 +92,7 @@ impl Builder {
             let units = if rng.percent(50) { most } else { 1 + rng.below(most) };
             b.memory.resize((unit * units) as usize, 0);
         }
+        b.fit_below_top();
         b
     }
 
@@ -86,6 +100,7 @@ impl Builder {
     pub fn enlarge(&mut self) {
         let least = (3 * memory_unit(self.state.set_size)).max(256);
         self.memory.resize(self.memory.len().max(least as usize), 0);
+        self.fit_below_top();
     }
 
     /// The end of one set and the start of the next, both in memory and mostly behind the first line. Case files have it at few places.
@@ -153,8 +168,13 @@ impl Builder {
         }
     }
 
-    /// Fixes the start; events come after it.
+    /// Fixes the start; events come after it. Registers and pc keep what fits into them.
     pub fn start(&mut self, rng: &mut Rng) {
+        let xlen = self.xlen();
+        for hart in &mut self.state.harts[..self.state.count] {
+            hart.x = hart.x.map(|value| low(value, xlen));
+            hart.pc = low(hart.pc, xlen);
+        }
         if !self.case_file {
             self.reserve(rng);
         }
@@ -171,7 +191,7 @@ impl Builder {
             if !rng.percent(some) {
                 continue;
             }
-            let width = rng.pick(&[4, 8]);
+            let width = if self.xlen() == RV32 { 4 } else { rng.pick(&[4, 8]) };
             let pointer = self.state.harts[h].x[self.pointer(rng, h, 4) as usize];
             let any = self.base + rng.below(self.memory.len() as u64);
             let near = if self.inside(pointer, 1) && rng.percent(80) { pointer } else { any };
@@ -296,21 +316,23 @@ impl Builder {
 
     /// AMOCAS, half of the time over equal bytes.
     pub fn compare_and_swap(&mut self, rng: &mut Rng, hart: usize) {
-        let funct3 = rng.pick(&[W, D, Q]);
-        let even = if funct3 == Q { !1 } else { !0 };
+        let xlen = self.xlen();
+        let funct3 = cas_width(rng, xlen);
+        let even = if rng.percent(95) { register_mask(funct3, xlen) } else { !0 };
         let rd = if rng.percent(10) { 0 } else { rng.reg() & even };
         let rs2 = if rng.percent(10) { rd } else { rng.reg() & even };
         let rs1 = self.pointer(rng, hart, 16);
         let x = &self.state.harts[hart].x;
         let addr = x[rs1 as usize];
-        let (low, high) = match rd {
+        let (first, second) = match rd {
             0 => (0, 0),
             r => (x[r as usize], x[(r as usize + 1) & 31]),
         };
         if rng.percent(60) {
-            self.device(addr, if funct3 == W { 4 } else { 8 }, low);
-            if funct3 == Q && rng.percent(90) {
-                self.device(addr.wrapping_add(8), 8, high);
+            let (pair, half) = (is_pair(funct3, xlen), xlen as usize / 8);
+            self.device(addr, if funct3 == W { 4 } else { half }, first);
+            if pair && rng.percent(90) {
+                self.device(addr.wrapping_add(half as u64), half, second);
             }
         }
         let order = rng.reg() & 3;
@@ -320,12 +342,12 @@ impl Builder {
     /// LR, SC, a store or an AMO.
     pub fn reserve_or_store(&mut self, rng: &mut Rng, hart: usize) {
         let order = rng.reg() & 3;
-        let funct3 = rng.pick(&[W, D]);
+        let funct3 = some_width(rng, self.xlen());
         let address = self.pointer(rng, hart, 8);
         let (rd, rs2) = (if rng.percent(30) { 0 } else { rng.reg() }, rng.reg());
         let w = match rng.below(8) {
             0..=2 => atomic(LR, funct3, order, rd, address, 0),
-            3 => s_type(rng.reg() & 3, address, rs2, rng.below(16) as i64 * 8 - 64),
+            3 => s_type(store_width(rng, self.xlen()), address, rs2, rng.below(16) as i64 * 8 - 64),
             4 => atomic(rng.pick(&AMOS), funct3, order, rd, address, rs2),
             _ => {
                 // Outside memory it traps and keeps the reservation, which a later SC shows.
@@ -348,7 +370,7 @@ impl Builder {
         }
         for hart in 0..self.state.count {
             let address = self.reserved_pointer(hart, 8).unwrap_or_else(|| self.pointer(rng, hart, 8));
-            self.perform(hart, atomic(SC, D, 0, 0, address, 1));
+            self.perform(hart, atomic(SC, full_width(self.xlen()), 0, 0, address, 1));
         }
         if registers {
             self.show_registers();
@@ -378,7 +400,7 @@ impl Builder {
             let span = (self.memory.len() as u64).min(1024);
             let offset = (rng.below(span / 8) * 8).wrapping_add(self.base).wrapping_sub(pc) as i64;
             if (-2048..2048).contains(&offset) {
-                self.perform(hart, i_type(0x03, 3, 2, 1, offset));
+                self.perform(hart, i_type(0x03, full_width(self.xlen()), 2, 1, offset));
                 self.perform(hart, i_type(0x03, 0, 0, 2, 0));
                 // Past it, if it trapped.
                 self.perform(hart, NOP);
@@ -389,19 +411,35 @@ impl Builder {
     /// Another memory in place of the first; before any event.
     pub fn resize(&mut self, length: usize) {
         self.memory.resize(length, 0);
+        self.fit_below_top();
         self.bytes = self.memory.clone();
     }
 
     pub fn file(&self) -> Vec<u8> {
-        let count = self.first.count;
-        let mut harts = self.base.to_le_bytes().to_vec();
-        harts.extend_from_slice(&(count as u64).to_le_bytes());
-        for hart in &self.first.harts[..count] {
-            for value in hart.x[1..].iter().chain([&hart.pc]) {
-                harts.extend_from_slice(&value.to_le_bytes());
-            }
-        }
-        file(&harts, &self.memory, &self.events)
+        file(&harts_body(self.base, &self.first), &self.memory, &self.events)
+    }
+}
+
+/// The harts body of a case file. The kind stands in the zero field.
+pub fn harts_body(base: u64, state: &State) -> Vec<u8> {
+    let head = [base, state.count as u64 | state.kind << 32];
+    let harts = state.harts[..state.count].iter().flat_map(|hart| hart.x[1..].iter().copied().chain([hart.pc]));
+    head.into_iter().chain(harts).flat_map(u64::to_le_bytes).collect()
+}
+
+/// A base that is allowed for sets of 64 bytes; for the 32-bit kind more often than by chance near 0 or near the top, where the length may ask for
+/// a lower one.
+fn some_base(rng: &mut Rng, kind: u64) -> u64 {
+    let lines = |rng: &mut Rng, n| 64 * rng.below(n);
+    match (kind, rng.below(8)) {
+        (_, 0) => 0,
+        (_, 1) => lines(rng, 4),
+        (KIND_32, 2..=4) => ADDRESSES_32 - lines(rng, 12),
+        (KIND_32, _) => lines(rng, ADDRESSES_32 / 64),
+        (_, 2) => 1 << 40,
+        // About where the 32-bit kind has its end.
+        (_, 3) => ADDRESSES_32 - 256 + lines(rng, 8),
+        _ => lines(rng, 1 << 34),
     }
 }
 

@@ -68,14 +68,14 @@ fn amo(rng: &mut Rng) -> u32 {
 mod tests {
     use super::*;
     use crate::described::described;
-    use crate::word::decode;
+    use crate::word::{decode, RV64};
     use std::collections::BTreeSet;
 
     const OPCODES: [u32; 14] = [0x03, 0x0F, 0x13, 0x17, 0x1B, 0x23, 0x2F, 0x33, 0x37, 0x3B, 0x63, 0x67, 0x6F, 0x73];
 
     /// What can be told apart without registers and immediate: kind, operation, width, aq and rl.
     fn operation(word: u32) -> Option<[u64; 4]> {
-        decode(word).map(|instr| described(Some(instr))[..4].try_into().unwrap())
+        decode(word, RV64).map(|instr| described(Some(instr), RV64)[..4].try_into().unwrap())
     }
 
     /// All operations of the words of an opcode: those that any funct3 and any 12 bits above rs1 make.

@@ -5,9 +5,14 @@ use super::makers::{contention, guided, program};
 use super::words::{i_type, word};
 use super::Rng;
 use crate::case::{EVENT, MAX_FILE, TABLE};
+use crate::machine::ADDRESSES_32;
 
 fn put_u32(file: &mut [u8], place: usize, value: u32) {
     file[place..place + 4].copy_from_slice(&value.to_le_bytes());
+}
+
+fn put_u64(file: &mut [u8], place: usize, value: u64) {
+    file[place..place + 8].copy_from_slice(&value.to_le_bytes());
 }
 
 fn get_u32(file: &[u8], place: usize) -> u32 {
@@ -43,7 +48,7 @@ pub fn damaged_file(rng: &mut Rng) -> Vec<u8> {
 }
 
 fn change_file(rng: &mut Rng, f: &mut Vec<u8>) {
-    match rng.below(14) {
+    match rng.below(20) {
         0 => {
             let n = rng.below(f.len() as u64 + 1) as usize;
             f.truncate(n);
@@ -72,11 +77,41 @@ fn change_file(rng: &mut Rng, f: &mut Vec<u8>) {
         7..=10 => change_file_event(rng, f),
         11 => wrap_table(rng, f),
         12 if f.len() >= 48 => {
-            let base: u64 = rng.pick(&[1 << 40, (1 << 40) + 64, (1 << 40) - 64, 32, 1, 63, 1 << 63, 0]);
-            f[40..48].copy_from_slice(&base.to_le_bytes());
+            let base = some_base(rng, get_u32(f, 24));
+            put_u64(f, 40, base);
         }
+        13 | 14 if f.len() >= 56 => put_u32(f, 52, some_kind(rng)),
+        15..=17 if f.len() >= 312 => upper_half(rng, f),
         _ => resize_body(rng, f),
     }
+}
+
+/// A base at a limit or wrong, for a memory of so many bytes.
+fn some_base(rng: &mut Rng, length: u32) -> u64 {
+    // What just fits for the 32-bit kind.
+    let top = ADDRESSES_32 - length.min(1 << 20) as u64;
+    rng.pick(&[1 << 40, (1 << 40) + 64, (1 << 40) - 64, 32, 1, 63, 1 << 63, 0, top, top + 64, ADDRESSES_32, ADDRESSES_32 - 64])
+}
+
+/// What the zero field of the harts body may hold: mostly a kind that is none, else one of the two, which may be the other one.
+fn some_kind(rng: &mut Rng) -> u32 {
+    match rng.below(8) {
+        0 => 0,
+        1..=3 => 1,
+        4 => 2 + rng.below(254) as u32,
+        5 => rng.pick(&[32, 64, 0x100, 0x101, 0x0100_0000, 0x8000_0000, 0x8000_0001]),
+        6 => 1 << rng.below(32),
+        _ => rng.next() as u32,
+    }
+}
+
+/// Something in the upper half of a register or of the pc of some hart, which the 32-bit kind refuses.
+fn upper_half(rng: &mut Rng, f: &mut [u8]) {
+    let harts = (get_u32(f, 48) as usize).clamp(1, (f.len() - 56) / 256);
+    let (hart, any) = (rng.below(harts as u64) as usize, rng.below(32) as usize);
+    // x1, x31 and pc more often than by chance.
+    let place = 56 + 256 * hart + 8 * rng.pick(&[0, 30, 31, 31, any]);
+    f[place + 4 + rng.below(4) as usize] |= 1 << rng.below(8);
 }
 
 fn change_file_event(rng: &mut Rng, f: &mut [u8]) {
@@ -131,7 +166,7 @@ pub fn change_event(rng: &mut Rng, event: &mut [u8], count: u8, base: u64, lengt
         }
         2 => {
             // A device write about an edge of memory.
-            let edge = rng.pick(&[base, base.wrapping_add(length), 0, u64::MAX]);
+            let edge = rng.pick(&[base, base.wrapping_add(length), 0, ADDRESSES_32, u64::MAX]);
             let size = rng.below(10) as usize;
             let addr = edge.wrapping_add(rng.below(18)).wrapping_sub(9);
             let data = if rng.percent(80) { low_bytes(rng.next(), size) } else { rng.next() };
@@ -192,8 +227,9 @@ fn short_of_bodies(rng: &mut Rng) -> Vec<u8> {
 fn one_body_fills(rng: &mut Rng) -> Vec<u8> {
     let mut b = Builder::for_case(rng);
     b.fill_registers(rng);
+    let xlen = b.xlen();
     for place in b.memory.chunks_exact_mut(4) {
-        let w = if rng.percent(30) { word(rng, 5) } else { i_type(0x13, 0, 5, 5, 4) };
+        let w = if rng.percent(30) { word(rng, xlen, 5) } else { i_type(0x13, 0, 5, 5, 4) };
         place.copy_from_slice(&w.to_le_bytes());
     }
     b.start(rng);

@@ -1,6 +1,8 @@
 //! Logs: those that a machine writes, and damaged ones.
 
-use super::words::{atomic, b_type, i_type, j_type, r_type, s_type, u_type, word, AMOS, CAS, D, LR, Q, SC, W};
+use super::words::{
+    atomic, b_type, cas_width, for_width, i_type, j_type, r_type, register_mask, s_type, some_width, u_type, word, AMOS, CAS, LR, Q, SC, W,
+};
 use super::Rng;
 use crate::log::{fits, rd_of, step_row, write_row, Row, FORM, PC, RD, ROW, VALUE, WORD};
 use crate::machine::{Hart, Memory, Outcome, State};
@@ -129,9 +131,14 @@ fn register(rng: &mut Rng, hart: &Hart, wanted: impl Fn(u64) -> bool) -> u32 {
 
 /// A word of any kind that mostly retires; x0 is its rd more often than by chance.
 fn fresh_word(rng: &mut Rng, state: &State, hart: &Hart, memory: &Memory) -> u32 {
+    for_width(rng, state.xlen(), |rng| any_fresh_word(rng, state, hart, memory))
+}
+
+fn any_fresh_word(rng: &mut Rng, state: &State, hart: &Hart, memory: &Memory) -> u32 {
+    let xlen = state.xlen();
     let address = register(rng, hart, |x| x.is_multiple_of(16) && memory.contains(x, 16));
     let (rd, rs1, rs2) = (if rng.percent(30) { 0 } else { rng.reg() }, rng.reg(), rng.reg());
-    let (width, order) = (rng.pick(&[W, D]), rng.reg() & 3);
+    let (width, order) = (some_width(rng, xlen), rng.reg() & 3);
     match rng.below(16) {
         0 => u_type(rng.pick(&[0x37, 0x17]), rd, rng.next() as u32 >> 12),
         1 => j_type(rd, rng.pick(&[4, 8, 12, -4, -16])),
@@ -147,16 +154,16 @@ fn fresh_word(rng: &mut Rng, state: &State, hart: &Hart, memory: &Memory) -> u32
             atomic(SC, width, order, rd, near, rs2)
         }
         9 => atomic(rng.pick(&AMOS), width, order, rd, address, rs2),
-        10 | 11 => compare_and_swap(rng, hart, memory, address),
+        10 | 11 => compare_and_swap(rng, xlen, hart, memory, address),
         12 => (rng.next() as u32 & !0x707F) | 0x0F,
-        _ => word(rng, address),
+        _ => word(rng, xlen, address),
     }
 }
 
 /// AMOCAS, of a register that holds what it compares with if one is found.
-fn compare_and_swap(rng: &mut Rng, hart: &Hart, memory: &Memory, address: u32) -> u32 {
-    let (width, order) = (rng.pick(&[W, D, Q]), rng.reg() & 3);
-    let even = if width == Q { !1 } else { !0 };
+fn compare_and_swap(rng: &mut Rng, xlen: u32, hart: &Hart, memory: &Memory, address: u32) -> u32 {
+    let (width, order) = (cas_width(rng, xlen), rng.reg() & 3);
+    let even = register_mask(width, xlen);
     let rs2 = if rng.percent(20) { 0 } else { rng.reg() & even };
     let old = |x: u64| memory.contains(x, 16).then(|| &memory.bytes[(x - memory.base) as usize..][..16]);
     if rng.percent(40) {
@@ -164,18 +171,19 @@ fn compare_and_swap(rng: &mut Rng, hart: &Hart, memory: &Memory, address: u32) -
         let zeros = register(rng, hart, |x| x.is_multiple_of(16) && old(x) == Some(&[0; 16]));
         return atomic(CAS, width, order, 0, rng.pick(&[zeros, zeros, address]), rs2);
     }
-    let compared = if width == W { 4 } else { 8 };
+    let compared = if width == W { 4 } else { xlen as usize / 8 };
     let holds = |x: u64| old(hart.x[address as usize]).is_some_and(|old| old[..compared] == x.to_le_bytes()[..compared]);
     let rd = if rng.percent(60) { register(rng, hart, holds) } else { rng.reg() };
     atomic(CAS, width, order, rd & even, address, rs2)
 }
 
 /// A word that mostly traps.
-fn trapping_word(rng: &mut Rng, _: &State, hart: &Hart, memory: &Memory) -> u32 {
+fn trapping_word(rng: &mut Rng, state: &State, hart: &Hart, memory: &Memory) -> u32 {
+    let xlen = state.xlen();
     let misaligned = rng.percent(50);
     let bad = register(rng, hart, |x| if misaligned { !x.is_multiple_of(4) } else { x.is_multiple_of(16) && !memory.contains(x, 16) });
     let (rd, rs2) = (if rng.percent(20) { 0 } else { rng.reg() }, rng.reg());
-    let width = rng.pick(&[W, D]);
+    let width = some_width(rng, xlen);
     match rng.below(16) {
         0 | 14 => 0x0000_0073,
         1 | 15 => 0x0010_0073,
@@ -188,7 +196,7 @@ fn trapping_word(rng: &mut Rng, _: &State, hart: &Hart, memory: &Memory) -> u32 
         8 => atomic(LR, width, 0, rd, bad, 0),
         9 => atomic(SC, width, 0, rd, bad, rs2),
         10 => atomic(rng.pick(&AMOS), width, 0, rd, bad, rs2),
-        _ => atomic(CAS, rng.pick(&[W, D, Q]), 0, rd & !1, bad, rs2 & !1),
+        _ => atomic(CAS, cas_width(rng, xlen), 0, rd & !1, bad, rs2 & !1),
     }
 }
 
@@ -205,7 +213,7 @@ fn written(rng: &mut Rng, mut state: State, base: u64, memory: &[u8], harts: &[u
             Err(_) if n + 1 < harts.len() && rng.percent(95) => {}
             Err(_) => {
                 let word = word.unwrap_or(rng.next() as u32);
-                log.extend(write_row(&Row { hart, pc, word, rd: rd_of(word), value: rng.pick(&[0, pc]) }));
+                log.extend(write_row(&Row { hart, pc, word, rd: rd_of(word, state.xlen()), value: rng.pick(&[0, pc]) }));
             }
         }
     }

@@ -3,10 +3,10 @@
 use super::builder::Builder;
 use super::damage::damaged_body;
 use super::makers::{contention, crowded, edges, gathered, guided, program};
-use super::{no_version, Rng};
+use super::{no_kind, no_version, Rng};
 use crate::calls::{Call, Machine};
 use crate::layout;
-use crate::machine::{memory_unit, A_2_0, A_2_1, DEFAULT_SET, MAX_HARTS, SMALLEST_SET};
+use crate::machine::{memory_unit, ADDRESSES_32, A_2_0, A_2_1, DEFAULT_SET, KIND_32, KIND_64, MAX_HARTS, SMALLEST_SET};
 
 /// A machine with an events body. The body isn't refused unless the machine is.
 pub struct Scenario {
@@ -32,6 +32,8 @@ pub fn scenario(rng: &mut Rng) -> Scenario {
         8..=13 => damage_fit(rng, &mut machine, b.state.set_size),
         14..=27 => damage(rng, &mut machine),
         28..=33 => damage_version(rng, &mut machine),
+        34..=37 => damage_kind(rng, &mut machine),
+        38..=45 if b.state.kind == KIND_32 => damage_32(rng, &mut machine, b.state.count),
         _ => return Scenario { machine, events },
     }
     if rng.percent(40) {
@@ -72,6 +74,39 @@ fn damage_version(rng: &mut Rng, m: &mut Machine) {
         1 => damage_memory(rng, m),
         _ => {}
     }
+}
+
+/// A number that is no kind, now and then beside something that 1 refuses, or that 1 would refuse of the 32-bit kind.
+fn damage_kind(rng: &mut Rng, m: &mut Machine) {
+    layout::put(&mut m.state, layout::KIND, no_kind(rng));
+    match rng.below(10) {
+        0 => damage_set_size(rng, m),
+        1 => damage_memory(rng, m),
+        2 => m.base = (1 << 40) - (1 << 20),
+        _ => {}
+    }
+}
+
+/// What the 32-bit kind alone refuses: something in the upper half of a register or a pc, a reservation 8 wide, an end above 2^32. Or the same of an
+/// unused hart, which isn't looked at.
+fn damage_32(rng: &mut Rng, m: &mut Machine, count: usize) {
+    let hart = if rng.percent(80) { rng.below(count as u64) } else { rng.below(MAX_HARTS as u64) } as usize;
+    let upper = 4 + rng.below(4) as usize;
+    let any = 1 + rng.below(31) as usize;
+    let register = rng.pick(&[1, 5, 31, any]);
+    match rng.below(8) {
+        0..=2 => m.state[layout::x(hart, register) + upper] |= 1 << rng.below(8),
+        3 | 4 => m.state[layout::pc(hart) + upper] |= 1 << rng.below(8),
+        5 => put_reservation(&mut m.state, hart, m.base + 8 * rng.below(m.memory.len() as u64 / 8), 8),
+        _ => move_up(rng, m),
+    }
+}
+
+/// A base that makes the end of memory 2^32, or higher by a little or by much.
+fn move_up(rng: &mut Rng, m: &mut Machine) {
+    let unit = memory_unit(layout::get(&m.state, layout::SET_SIZE));
+    let top = ADDRESSES_32 - m.memory.len() as u64;
+    m.base = rng.pick(&[top, top + unit, top + unit, ADDRESSES_32, ADDRESSES_32 + unit, 1 << 40, 1 << 33]);
 }
 
 /// A length and a base that are multiples of 64 and of the size, if it is one that has any in a small memory.
@@ -164,6 +199,10 @@ fn put_reservation(bytes: &mut [u8], hart: usize, addr: u64, width: u64) {
     }
 }
 
+/// Lengths that a state doesn't have: those of earlier versions of the library, and others about them.
+const STATE_LENGTHS: [usize; 13] =
+    [0, 8, layout::SET_SIZE, 2319, layout::VERSION, 2321, 2327, layout::KIND, 2329, 2335, 2337, 2344, 2 * layout::SIZE];
+
 /// Makes something wrong that refusals 1 and 2 or the sizes are about, or right by luck.
 fn damage(rng: &mut Rng, m: &mut Machine) {
     match rng.below(12) {
@@ -184,7 +223,7 @@ fn damage(rng: &mut Rng, m: &mut Machine) {
             m.memory.resize(length, 0);
         }
         2 if rng.percent(20) => m.memory.resize(rng.pick(&[(1 << 20) + 1, (1 << 20) + 64, 1 << 21]), 0),
-        3 if rng.percent(50) => m.state.resize(rng.pick(&[0, 8, layout::SET_SIZE, 2319, layout::VERSION, 2321, 2327, 2329, 2336, 4656]), 0),
+        3 if rng.percent(50) => m.state.resize(rng.pick(&STATE_LENGTHS), 0),
         _ if m.state.len() == layout::SIZE => damage_state(rng, m),
         _ => {}
     }
@@ -195,7 +234,7 @@ fn damage_state(rng: &mut Rng, m: &mut Machine) {
     // Seldom an unused hart: then nothing is wrong.
     let hart = if rng.percent(80) { rng.below(count.clamp(1, 8)) } else { rng.below(8) } as usize;
     let state = &mut m.state;
-    match rng.below(10) {
+    match rng.below(11) {
         0 => layout::put(state, layout::COUNT, rng.pick(&[0, 0, 9, 10, 256, (1 << 32) + 1, 1 << 32, 1 << 63, u64::MAX])),
         1 => layout::put(state, layout::COUNT, 1 + rng.below(8)),
         2 => layout::put(state, layout::x(hart, 0), 1 << rng.below(64)),
@@ -205,6 +244,8 @@ fn damage_state(rng: &mut Rng, m: &mut Machine) {
         7 => layout::put(state, layout::SET_SIZE, SMALLEST_SET << rng.below(10)),
         // Right.
         8 => layout::put(state, layout::VERSION, rng.pick(&[A_2_0, A_2_1])),
+        // Right, if all fits.
+        9 => layout::put(state, layout::KIND, rng.pick(&[KIND_64, KIND_32])),
         _ => {
             let place = rng.below(layout::SIZE as u64) as usize;
             state[place] ^= 1 << rng.below(8);
@@ -222,7 +263,7 @@ fn damage_reservation(rng: &mut Rng, m: &mut Machine, hart: usize) {
     let addr = match rng.below(4) {
         0 => m.base.wrapping_add(rng.below(m.memory.len().max(1) as u64)),
         1 => rng.pick(&[m.base, end]).wrapping_add(4 * rng.below(8)).wrapping_sub(16),
-        2 => rng.pick(&[0, 4, 1 << 40, 1 << 63, u64::MAX - 3, u64::MAX - 7]),
+        2 => rng.pick(&[0, 4, ADDRESSES_32 - 4, ADDRESSES_32, end.wrapping_add(ADDRESSES_32 - 8), 1 << 63, u64::MAX - 3, u64::MAX - 7]),
         _ => rng.next() & !7,
     };
     put_reservation(&mut m.state, hart, addr, width);

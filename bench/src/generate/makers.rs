@@ -1,9 +1,13 @@
 //! Machines and events of several kinds.
 
 use super::builder::Builder;
-use super::words::{atomic, b_type, i_type, j_type, s_type, word, AMOS, ATOMICS, CAS, D, LR, NOP, Q, SC, W};
+use super::words::{
+    atomic, b_type, cas_width, full_width, i_type, is_pair, j_type, register_mask, s_type, some_width, store_width, word, AMOS, ATOMICS,
+    CAS, D, LR, NOP, Q, SC, W,
+};
 use super::Rng;
 use crate::machine::{memory_unit, Outcome, MAX_HARTS};
+use crate::word::RV32;
 
 /// Random words, one after another, at the pc of random harts.
 pub fn guided(rng: &mut Rng, mut b: Builder) -> Builder {
@@ -29,7 +33,7 @@ pub fn guided(rng: &mut Rng, mut b: Builder) -> Builder {
             _ => {
                 let align = rng.pick(&[1, 4, 8, 16, 16]);
                 let address = b.pointer(rng, hart, align);
-                let w = word(rng, address);
+                let w = word(rng, b.xlen(), address);
                 b.perform(hart, w);
             }
         }
@@ -42,7 +46,7 @@ pub fn guided(rng: &mut Rng, mut b: Builder) -> Builder {
 /// A memory full of random words; now and then the word of a hart that trapped is mended.
 pub fn program(rng: &mut Rng, mut b: Builder) -> Builder {
     b.fill_registers(rng);
-    let address = rng.reg();
+    let (xlen, address) = (b.xlen(), rng.reg());
     for h in 0..b.state.count {
         if address != 0 {
             b.state.harts[h].x[address as usize] = b.base + rng.below(b.memory.len() as u64 / 16) * 16;
@@ -50,7 +54,7 @@ pub fn program(rng: &mut Rng, mut b: Builder) -> Builder {
     }
     for place in b.memory.chunks_exact_mut(4) {
         let a = if rng.percent(80) { address } else { rng.reg() };
-        place.copy_from_slice(&word(rng, a).to_le_bytes());
+        place.copy_from_slice(&word(rng, xlen, a).to_le_bytes());
     }
     b.start(rng);
     let steps = b.steps(rng, 150, 2600);
@@ -61,7 +65,7 @@ pub fn program(rng: &mut Rng, mut b: Builder) -> Builder {
             1 => b.yield_hart(hart),
             _ => {
                 let address = b.pointer(rng, hart, 16);
-                step_and_mend(rng, &mut b, hart, 60, |rng| word(rng, address));
+                step_and_mend(rng, &mut b, hart, 60, |rng| word(rng, xlen, address));
             }
         }
     }
@@ -89,7 +93,7 @@ fn step_and_mend(rng: &mut Rng, b: &mut Builder, hart: usize, percent: u64, anot
 pub fn contention(rng: &mut Rng, mut b: Builder) -> Builder {
     b.enlarge();
     b.fill_registers(rng);
-    let code = retry_loop(rng);
+    let code = retry_loop(rng, b.xlen());
     b.put_words(&code);
     let size = b.state.set_size;
     let set = b.base + memory_unit(size) * (1 + rng.below(2));
@@ -110,9 +114,11 @@ pub fn contention(rng: &mut Rng, mut b: Builder) -> Builder {
     b
 }
 
-fn retry_loop(rng: &mut Rng) -> [u32; 8] {
-    let funct3 = rng.pick(&[W, D]);
-    let other = if rng.percent(85) { funct3 } else { W + D - funct3 };
+fn retry_loop(rng: &mut Rng, xlen: u32) -> [u32; 8] {
+    // A word that RV32 hasn't keeps the harts where they are.
+    let (rv32, odd) = (xlen == RV32, if xlen == RV32 { 2 } else { 15 });
+    let funct3 = if rv32 && rng.percent(90) { W } else { some_width(rng, xlen) };
+    let other = if rng.percent(odd) { W + D - funct3 } else { funct3 };
     let order = rng.reg() & 3;
     [
         atomic(LR, funct3, order, 6, 5, 0),
@@ -120,7 +126,7 @@ fn retry_loop(rng: &mut Rng) -> [u32; 8] {
         if rng.percent(20) { b_type(1, 6, 9, 12) } else { NOP },
         atomic(SC, other, order, 7, 5, 8),
         b_type(1, 7, 0, -16),
-        if rng.percent(40) { s_type(rng.reg() & 3, 10, 8, 0) } else { NOP },
+        if rng.percent(40) { s_type(store_width(rng, xlen), 10, 8, 0) } else { NOP },
         if rng.percent(40) { atomic(rng.pick(&ATOMICS), funct3, 0, 12, 10, 0) } else { NOP },
         j_type(0, -28),
     ]
@@ -136,7 +142,10 @@ fn steps_in_bursts(rng: &mut Rng, b: &mut Builder, steps: u64, burst: u64, mende
         match rng.below(60) {
             0 => b.random_device(rng),
             1 => b.yield_hart(hart),
-            _ => step_and_mend(rng, b, hart, mended, crowded_word),
+            _ => {
+                let xlen = b.xlen();
+                step_and_mend(rng, b, hart, mended, |rng| crowded_word(rng, xlen));
+            }
         }
     }
 }
@@ -145,7 +154,7 @@ fn steps_in_bursts(rng: &mut Rng, b: &mut Builder, steps: u64, burst: u64, mende
 pub fn crowded(rng: &mut Rng, mut b: Builder) -> Builder {
     b.enlarge();
     b.fill_registers(rng);
-    let mut code: Vec<u32> = (0..31).map(|_| crowded_word(rng)).collect();
+    let mut code: Vec<u32> = (0..31).map(|_| crowded_word(rng, b.xlen())).collect();
     code.push(j_type(0, -124));
     b.put_words(&code);
     let (set, unit) = (b.state.set_size, memory_unit(b.state.set_size));
@@ -176,20 +185,20 @@ pub fn crowded(rng: &mut Rng, mut b: Builder) -> Builder {
 }
 
 /// An atomic or a store that leaves x8 to x31, the addresses, as they are.
-fn crowded_word(rng: &mut Rng) -> u32 {
+fn crowded_word(rng: &mut Rng, xlen: u32) -> u32 {
     let order = rng.reg() & 3;
-    let funct3 = rng.pick(&[W, D]);
+    let funct3 = some_width(rng, xlen);
     let (rd, address, rs2) = (rng.reg() & 7, 8 + rng.below(24) as u32, rng.reg());
     match rng.below(20) {
         0..=5 => atomic(LR, funct3, order, rd, address, 0),
         6..=10 => atomic(SC, funct3, order, rd, address, rs2),
         11..=14 => atomic(rng.pick(&AMOS), funct3, order, rd, address, rs2),
         15..=17 => {
-            let funct3 = rng.pick(&[W, D, Q]);
-            let even = if funct3 == Q { !1 } else { !0 };
+            let funct3 = cas_width(rng, xlen);
+            let even = register_mask(funct3, xlen);
             atomic(CAS, funct3, order, rd & even, address, rs2 & even)
         }
-        _ => s_type(rng.reg() & 3, address, rs2, rng.below(5) as i64 * 8 - 16),
+        _ => s_type(store_width(rng, xlen), address, rs2, rng.below(5) as i64 * 8 - 16),
     }
 }
 
@@ -231,7 +240,7 @@ fn gather(rng: &mut Rng, b: &mut Builder) {
     for hart in 0..b.state.count {
         if rng.percent(some) {
             let address = if rng.percent(same) { 8 } else { few_pointer(rng) };
-            let word = atomic(LR, rng.pick(&[W, D]), rng.reg() & 3, rng.reg() & 7, address, 0);
+            let word = atomic(LR, some_width(rng, b.xlen()), rng.reg() & 3, rng.reg() & 7, address, 0);
             perform_in_first_line(b, hart, word);
         }
     }
@@ -246,13 +255,13 @@ fn few_pointer(rng: &mut Rng) -> u32 {
 fn write_or_not(rng: &mut Rng, b: &mut Builder) {
     let hart = rng.below(b.state.count as u64) as usize;
     let (address, rs2, order) = (few_pointer(rng), rng.reg(), rng.reg() & 3);
-    let width = rng.pick(&[W, D]);
+    let width = some_width(rng, b.xlen());
     let word = match rng.below(20) {
-        0..=3 => s_type(rng.reg() & 3, address, rs2, rng.pick(&[0, 0, 8, -8, 64, -64])),
+        0..=3 => s_type(store_width(rng, b.xlen()), address, rs2, rng.pick(&[0, 0, 8, -8, 64, -64])),
         4..=7 => atomic(SC, width, order, rng.reg() & 7, address, rs2),
         8..=10 => atomic(rng.pick(&AMOS), width, order, rng.reg() & 7, address, rs2),
         11..=14 => {
-            let width = rng.pick(&[W, D, Q]);
+            let width = cas_width(rng, b.xlen());
             return compare_with_loaded(rng, b, hart, address, width);
         }
         15 => return b.yield_hart(hart),
@@ -264,11 +273,12 @@ fn write_or_not(rng: &mut Rng, b: &mut Builder) {
 /// AMOCAS of what the hart has loaded just before: a device write of equal bytes would break reservations itself. Unequal by chance or where
 /// the second half wasn't loaded.
 fn compare_with_loaded(rng: &mut Rng, b: &mut Builder, hart: usize, address: u32, width: u32) {
+    let (xlen, full) = (b.xlen(), full_width(b.xlen()));
     if rng.percent(80) {
-        perform_in_first_line(b, hart, i_type(0x03, if width == W { W } else { D }, 6, address, 0));
+        perform_in_first_line(b, hart, i_type(0x03, if width == W { W } else { full }, 6, address, 0));
     }
-    if width == Q && rng.percent(90) {
-        perform_in_first_line(b, hart, i_type(0x03, D, 7, address, 8));
+    if is_pair(width, xlen) && rng.percent(90) {
+        perform_in_first_line(b, hart, i_type(0x03, full, 7, address, xlen as i64 / 8));
     }
     perform_in_first_line(b, hart, atomic(CAS, width, rng.reg() & 3, 6, address, rng.reg() & !1));
 }
@@ -320,16 +330,16 @@ fn about_set(rng: &mut Rng, first: u64, set: u64) -> [u64; 8] {
 fn write_about_set(rng: &mut Rng, b: &mut Builder, first: u64) {
     let hart = rng.below(b.state.count as u64) as usize;
     let (rs2, order, set) = (rng.reg(), rng.reg() & 3, b.state.set_size);
-    let (rd, address, width) = (rng.reg() & 7, few_pointer(rng), rng.pick(&[W, D]));
+    let (rd, address, width) = (rng.reg() & 7, few_pointer(rng), some_width(rng, b.xlen()));
     let word = match rng.below(20) {
         0..=4 => {
             // Just below the set or above it, onto its first or its last bytes: x8 and x9 are its ends.
-            let funct3 = rng.reg() & 3;
+            let funct3 = store_width(rng, b.xlen());
             s_type(funct3, 8 + rng.reg() % 2, rs2, if rng.percent(50) { 0 } else { -(1 << funct3) })
         }
         5 | 6 => {
             // Anywhere inside, as far as an offset goes.
-            let funct3 = rng.reg() & 3;
+            let funct3 = store_width(rng, b.xlen());
             s_type(funct3, 8, rs2, (rng.below(set.min(2048) >> funct3) as i64) << funct3)
         }
         7..=10 => {
@@ -338,8 +348,8 @@ fn write_about_set(rng: &mut Rng, b: &mut Builder, first: u64) {
         }
         11..=13 => atomic(rng.pick(&AMOS), width, order, rd, address, rs2),
         14 => return compare_with_loaded(rng, b, hart, address, width),
-        // Two sets at once, if they have 8 bytes.
-        15 | 16 => return compare_with_loaded(rng, b, hart, 11, Q),
+        // Two sets at once, if they have 8 bytes and a register has as many.
+        15 | 16 => return compare_with_loaded(rng, b, hart, 11, if b.xlen() == RV32 { D } else { Q }),
         17 => return b.yield_hart(hart),
         _ => {
             let (size, edge) = (1 + rng.below(8), first + set * rng.below(2));

@@ -57,6 +57,19 @@ pub fn no_version(rng: &mut Rng) -> u64 {
     }
 }
 
+/// A number that is no kind of core: just above the two, or one of them in its lowest bits alone. It doesn't go by what the machine allows either.
+pub fn no_kind(rng: &mut Rng) -> u64 {
+    let kind = match rng.below(8) {
+        0 | 1 => 2,
+        2 => rng.pick(&[3, 32, 64, 255]),
+        3 | 4 => rng.below(2) + (1 << (8 + rng.below(56))),
+        5 => 1 << rng.below(64),
+        6 => rng.value(),
+        _ => rng.next(),
+    };
+    kind.max(2)
+}
+
 /// A case file with a log of it. The file is mostly one that isn't refused.
 pub fn case_with_log(seed: u64) -> (Vec<u8>, Vec<u8>) {
     let rng = &mut Rng::new(seed);

@@ -1,6 +1,7 @@
 //! Words: how they are encoded, and random ones of every class.
 
 use super::Rng;
+use crate::word::{decode, RV32, RV64};
 
 /// funct5 of the atomics.
 pub const LR: u32 = 2;
@@ -15,6 +16,69 @@ pub const D: u32 = 3;
 pub const Q: u32 = 4;
 
 pub const NOP: u32 = 0x13;
+
+/// funct3 of a load, a store or an atomic of a whole register.
+pub fn full_width(xlen: u32) -> u32 {
+    if xlen == RV32 {
+        W
+    } else {
+        D
+    }
+}
+
+/// funct3 of an atomic: in RV32 mostly W, since D is no word of it.
+pub fn some_width(rng: &mut Rng, xlen: u32) -> u32 {
+    if xlen == RV32 && rng.percent(80) {
+        W
+    } else {
+        rng.pick(&[W, D])
+    }
+}
+
+/// funct3 of an AMOCAS: in RV32 mostly one of its two.
+pub fn cas_width(rng: &mut Rng, xlen: u32) -> u32 {
+    if xlen == RV32 && rng.percent(85) {
+        rng.pick(&[W, D, D])
+    } else {
+        rng.pick(&[W, D, Q])
+    }
+}
+
+/// Whether an AMOCAS of this funct3 is one of register pairs.
+pub fn is_pair(funct3: u32, xlen: u32) -> bool {
+    funct3 == if xlen == RV32 { D } else { Q }
+}
+
+/// What to take of a register's number for an AMOCAS of this funct3: an even one, if it is one of pairs.
+pub fn register_mask(funct3: u32, xlen: u32) -> u32 {
+    if is_pair(funct3, xlen) || funct3 == Q {
+        !1
+    } else {
+        !0
+    }
+}
+
+/// funct3 of a store: in RV32 seldom SD, which is no word of it.
+pub fn store_width(rng: &mut Rng, xlen: u32) -> u32 {
+    if xlen == RV32 && rng.percent(85) {
+        rng.pick(&[0, 1, 2])
+    } else {
+        rng.reg() & 3
+    }
+}
+
+/// A word that `make` gives: for RV32 now and then one that RV64 alone has, mostly not.
+pub fn for_width(rng: &mut Rng, xlen: u32, make: impl Fn(&mut Rng) -> u32) -> u32 {
+    let mut w = make(rng);
+    for _ in 0..4 {
+        let foreign = decode(w, xlen).is_none() && decode(w, RV64).is_some();
+        if !foreign || rng.percent(15) {
+            break;
+        }
+        w = make(rng);
+    }
+    w
+}
 
 pub fn r_type(opcode: u32, funct3: u32, funct7: u32, rd: u32, rs1: u32, rs2: u32) -> u32 {
     opcode | rd << 7 | funct3 << 12 | rs1 << 15 | rs2 << 20 | funct7 << 25
@@ -49,7 +113,12 @@ pub fn atomic(funct5: u32, funct3: u32, order: u32, rd: u32, rs1: u32, rs2: u32)
 }
 
 /// A word of any class; `address` is the register that memory words use.
-pub fn word(rng: &mut Rng, address: u32) -> u32 {
+pub fn word(rng: &mut Rng, xlen: u32, address: u32) -> u32 {
+    for_width(rng, xlen, |rng| any_word(rng, address))
+}
+
+/// Those of RV64.
+fn any_word(rng: &mut Rng, address: u32) -> u32 {
     let (rd, rs1, rs2) = (rng.reg(), rng.reg(), rng.reg());
     let near = if rng.percent(85) { rng.below(9) as i64 * 8 - 32 } else { rng.below(4096) as i64 - 2048 };
     let jump = if rng.percent(85) { rng.below(33) as i64 * 4 - 64 } else { (rng.below(0x2000) as i64 - 0x1000) & !1 };
@@ -117,7 +186,8 @@ fn any_atomic(rng: &mut Rng, rd: u32, address: u32, rs2: u32) -> u32 {
     let order = rng.reg() & 3;
     let lr = funct5 == LR && rng.percent(97);
     let funct3 = if funct5 == CAS { rng.pick(&[W, D, Q, Q]) } else { rng.pick(&[W, D]) };
-    let even = if funct3 == Q && rng.percent(95) { !1 } else { !0 };
+    // A D is one of RV32 too, if both are even.
+    let even = if funct3 == Q && rng.percent(95) || funct3 == D && rng.percent(30) { !1 } else { !0 };
     let rd = if rng.percent(10) { rs2 } else { rd };
     atomic(funct5, funct3, order, rd & even, address, if lr { 0 } else { rs2 & even })
 }

@@ -1,5 +1,5 @@
 -- Two numbers of n bytes as one of twice as many, each law over n. Assumes nothing.
-use mathlib.Core.Path.{_≡_, refl, sym, ap, ap₂, _∙_}
+use mathlib.Core.Path.{_≡_, refl, sym, ap, ap₂, _∙_, subst}
 use mathlib.Core.List.{List, _∷_, _++_, append-nil}
 use Prim.Native.Nat.{ℕ, zero, suc, _+_, _*_, _/_, _%_, _^_, _≤_, _<_}
 use native.Mathlib.Nat.{pow-succ', mul-assoc, mul-comm, add-comm}
@@ -7,9 +7,12 @@ use native.Mathlib.Omega.{arith}
 use lib.Arith.{digits-div, digits-mod}
 use lib.ListN.{length, take, drop, length-drop, take-append-drop}
 use lib.Seq.{take-all, drop-length, take-at, length-take-le}
-use Rattle.word.specs.Bytes.{le, toLe}
+use Rattle.word.specs.Bytes.{le, toLe, IsBytes}
 use Rattle.word.specs.Memory.{part, splice}
-use Rattle.word.proofs.MemoryLaws.{length-splice}
+use Rattle.isa.specs.Width.{bitsOf, bytesOf, pairBytes}
+use Rattle.isa.specs.declared.Width.{Width}
+use Rattle.isa.specs.declared.Width.the-variants.{Word, Double}
+use Rattle.word.proofs.MemoryLaws.{length-splice, part-lt}
 use Rattle.word.proofs.BytesLaws.{le-append, toLe-append, length-toLe}
 
 -- the halves a and b of a number, a below m
@@ -66,3 +69,27 @@ splice-pair n bs a b l h =
     ap₂ (λ (x y : List ℕ). x ++ (toLe n b ++ y)) (take-at (toLe n a) (drop (0 + length (toLe n a)) bs) n la) (ap (λ (k : ℕ). drop k m) end ∙ drop-length m)
     ∙ ap (λ (y : List ℕ). toLe n a ++ y) (append-nil (toLe n b))
     ∙ sym (toLe-pair n a b h)
+
+-- ---- the same by the width of a half
+
+pub half-bytes : (w : Width) → pairBytes w ≡ bytesOf w + bytesOf w
+half-bytes Word = refl
+half-bytes Double = refl
+
+pub bytes-bits : (w : Width) → 256 ^ bytesOf w ≡ 2 ^ bitsOf w
+bytes-bits Word = refl
+bytes-bits Double = refl
+
+-- n bytes are a number of as many bits
+pub half-lt : (w : Width) (bs : List ℕ) → IsBytes bs → (i n v : ℕ) → n ≡ bytesOf w → v ≡ le (part bs i n) → v < 2 ^ bitsOf w
+half-lt w bs h i n v e f = subst (λ (m : ℕ). v < m) (ap (λ (k : ℕ). 256 ^ k) e ∙ bytes-bits w) (rw f (part-lt bs i n h))
+
+pub le-halves : (w : Width) (bs : List ℕ) → length bs ≡ pairBytes w
+    → le (part bs 0 (bytesOf w)) + 2 ^ bitsOf w * le (part bs (bytesOf w) (bytesOf w)) ≡ le bs
+le-halves Word bs l = le-pair 4 bs l
+le-halves Double bs l = le-pair 8 bs l
+
+pub splice-halves : (w : Width) (bs : List ℕ) (a b : ℕ) → length bs ≡ pairBytes w → a < 2 ^ bitsOf w
+    → splice (splice bs 0 (toLe (bytesOf w) a)) (bytesOf w) (toLe (bytesOf w) b) ≡ toLe (pairBytes w) (a + 2 ^ bitsOf w * b)
+splice-halves Word bs a b l h = splice-pair 4 bs a b l h
+splice-halves Double bs a b l h = splice-pair 8 bs a b l h

@@ -6,7 +6,7 @@ use word::num::wrap;
 ghost use mathlib.Core.Path.{_≡_};
 ghost use Prim.Native.Nat.{_+_, _*_, _-_, _%_, _≤_, _<_, _^_};
 ghost use lib.Signed.{ltZ, shrZ};
-ghost use Rattle.word.specs.Word.{toInt, ofInt};
+ghost use Rattle.word.specs.Word.{toInt, ofInt, Xlen};
 ghost use Rattle.alu.specs.Alu.{aluOf};
 
 // The sum, modulo 2 to the width.
@@ -25,12 +25,12 @@ fn subtract(a: u64, b: u64, bits: u32) -> u64
     wrap(std::num::wrapping_sub_u64(a, b), bits)
 }
 
-// How far a shift by b goes: at 32 and 64 bits, the 5 and 6 lowest bits of b.
+// How far a shift by b goes: at 32 and 64 bits, the 5 and 6 lowest bits of b. A mask each, and no division by a number that the compiler may not know.
 fn amount(b: u64, bits: u32) -> u64
-    requires { ⌜ 0 < bits ⌝ }
+    requires { ⌜ Xlen bits ⌝ }
     ensures { λ r. ⌜ (r ≡ b % bits) × (r < bits) ⌝ }
 {
-    b % (bits as u64)
+    if bits == 32 { b % 32 } else { b % 64 }
 }
 
 fn shift_left(a: u64, by: u64, bits: u32) -> u64
@@ -60,7 +60,7 @@ pub fn less(a: u64, b: u64, bits: u32) -> bool
 
 // The operation on two numbers of so many bits.
 pub fn operate(op: AluOp, bits: u32, a: u64, b: u64) -> u64
-    requires { ⌜ (0 < bits) × (bits ≤ 64) ⌝ }
+    requires { ⌜ Xlen bits ⌝ }
     requires { ⌜ (a < 2 ^ bits) × (b < 2 ^ bits) ⌝ }
     ensures { λ r. ⌜ r ≡ aluOf op bits a b ⌝ }
 {

@@ -1,4 +1,4 @@
--- What a hart fetches traps exactly by the table of traps. Assumes nothing.
+-- What a hart fetches traps exactly by the table of traps, at every register width. Assumes nothing.
 use Prim.Native.Nat.{ℕ, _%_, _≤_, _<_}
 use mathlib.Core.Path.{_≡_, refl, sym, _∙_, ap, subst}
 use mathlib.Core.Bool.{Bool, true, false, cond}
@@ -11,8 +11,8 @@ use Rattle.word.proofs.ChooseLaws.{cond-all}
 use Rattle.word.proofs.TestLaws.{bool-cases, contrary, never}
 use Rattle.reserve.specs.Range.{Inside, insideOf}
 use Rattle.reserve.proofs.RangeLaws.{inside-of, of-inside}
-use Rattle.isa.specs.Decode.{decodeOf}
 use Rattle.isa.specs.Width.{bytesOf}
+use Rattle.isa.specs.Narrow.{decodeAt}
 use Rattle.isa.specs.declared.AtomicOp.{AtomicOp}
 use Rattle.isa.specs.declared.AtomicOp.the-variants.{Lr, Sc, Cas, CasPair, Rmw}
 use Rattle.isa.specs.declared.Atomic.{Atomic}
@@ -104,10 +104,10 @@ Within base len (jumps t) = Unit {0}
 Within base len (reads a n) = Inside base len a n
 Within base len (writes a n) = Inside base len a n
 
-module _ (word : ℕ) (x : ℕ → ℕ) (pc base : ℕ) (mem : List ℕ) where
+module _ (xlen word : ℕ) (x : ℕ → ℕ) (pc base : ℕ) (mem : List ℕ) where
   none-below : (i : Instr) (p : ℕ) → (1 < p → Inside base (length mem) pc 4) → (2 < p → i ≡ Illegal → ⊥)
-      → (3 < p → (i ≡ Ecall → ⊥) × (i ≡ Ebreak → ⊥)) → (4 < p → Straight (reachOf i x pc)) → (5 < p → Aligned (reachOf i x pc))
-      → (6 < p → Within base (length mem) (reachOf i x pc)) → (k c v : ℕ) → k < p → TrapRow i word x pc base mem k c v → ⊥
+      → (3 < p → (i ≡ Ecall → ⊥) × (i ≡ Ebreak → ⊥)) → (4 < p → Straight (reachOf xlen i x pc)) → (5 < p → Aligned (reachOf xlen i x pc))
+      → (6 < p → Within base (length mem) (reachOf xlen i x pc)) → (k c v : ℕ) → k < p → TrapRow xlen i word x pc base mem k c v → ⊥
   unfolding Straight Aligned Within
   none-below i p a b d e f g k c v l (unfetched q r w z) = z (a (omega arith))
   none-below i p a b d e f g k c v l (unknown q r w z) = b (omega arith) z
@@ -123,12 +123,12 @@ module _ (word : ℕ) (x : ℕ → ℕ) (pc base : ℕ) (mem : List ℕ) where
   causeBy : Instr → ℕ → ℕ
   causeBy i k =
       cond (eqb k 3) (code i)
-      (cond (eqb k 4) 0 (cond (eqb k 5) (misalignedCause (reachOf i x pc)) (cond (eqb k 6) (outside (reachOf i x pc)) k)))
+      (cond (eqb k 4) 0 (cond (eqb k 5) (misalignedCause (reachOf xlen i x pc)) (cond (eqb k 6) (outside (reachOf xlen i x pc)) k)))
 
   valueBy : Instr → ℕ → ℕ
-  valueBy i k = cond (eqb k 1) pc (cond (eqb k 2) word (cond (eqb k 3) 0 (placeOf (reachOf i x pc))))
+  valueBy i k = cond (eqb k 1) pc (cond (eqb k 2) word (cond (eqb k 3) 0 (placeOf (reachOf xlen i x pc))))
 
-  placed : (i : Instr) (k c v : ℕ) → TrapRow i word x pc base mem k c v → (1 ≤ k) × (k ≤ 6) × (c ≤ 8) × (c ≡ causeBy i k) × (v ≡ valueBy i k)
+  placed : (i : Instr) (k c v : ℕ) → TrapRow xlen i word x pc base mem k c v → (1 ≤ k) × (k ≤ 6) × (c ≤ 8) × (c ≡ causeBy i k) × (v ≡ valueBy i k)
   unfolding causeBy valueBy code misalignedCause outside placeOf
   placed i k c v (unfetched q r w z) = (omega arith, omega arith, omega arith, rw q r, rw q w)
   placed i k c v (unknown q r w z) = (omega arith, omega arith, omega arith, rw q r, rw q w)
@@ -140,14 +140,14 @@ module _ (word : ℕ) (x : ℕ → ℕ) (pc base : ℕ) (mem : List ℕ) where
   placed i k c v (outsideRead q r n w z) = (omega arith, omega arith, omega arith, rw (q, w) r, rw (q, w) refl)
   placed i k c v (outsideWrite q r n w z) = (omega arith, omega arith, omega arith, rw (q, w) r, rw (q, w) refl)
 
-  pub cause-most : (i : Instr) (k c v : ℕ) → TrapRow i word x pc base mem k c v → c ≤ 8
+  pub cause-most : (i : Instr) (k c v : ℕ) → TrapRow xlen i word x pc base mem k c v → c ≤ 8
   cause-most i k c v r = placed i k c v r .2
 
   -- so there is one first row, with one cause and value
-  pub first-equal : (i : Instr) (c v d w : ℕ) → FirstTrap (TrapRow i word x pc base mem) c v → FirstTrap (TrapRow i word x pc base mem) d w
+  pub first-equal : (i : Instr) (c v d w : ℕ) → FirstTrap (TrapRow xlen i word x pc base mem) c v → FirstTrap (TrapRow xlen i word x pc base mem) d w
       → (c ≡ d) × (v ≡ w)
   first-equal i c v d w f g =
-      let R : ℕ → Type 0 = λ k. (c : ℕ) × (v : ℕ) × TrapRow i word x pc base mem k c v in
+      let R : ℕ → Type 0 = λ k. (c : ℕ) × (v : ℕ) × TrapRow xlen i word x pc base mem k c v in
       let q : f .place ≡ g .place =
       first-same R (f .place) (g .place) (c, v, f .applies) (λ k l r. f .first k (r .0) (r .1) l (r .2)) (d, w, g .applies)
       (λ k l r. g .first k (r .0) (r .1) l (r .2)) in
@@ -157,32 +157,32 @@ module _ (word : ℕ) (x : ℕ → ℕ) (pc base : ℕ) (mem : List ℕ) where
 
   -- the first row that applies is what it comes to, or no row applies and it comes to an effect
   pub data Decided (i : Instr) (e : Exec) : Type 0 where
-    traps : (c v : ℕ) → e ≡ trap c v → FirstTrap (TrapRow i word x pc base mem) c v → Decided i e
-    retires : (ws : Writes) (to : ℕ) (t : Access) → e ≡ effect ws to t → Untrapped (TrapRow i word x pc base mem) → Decided i e
+    traps : (c v : ℕ) → e ≡ trap c v → FirstTrap (TrapRow xlen i word x pc base mem) c v → Decided i e
+    retires : (ws : Writes) (to : ℕ) (t : Access) → e ≡ effect ws to t → Untrapped (TrapRow xlen i word x pc base mem) → Decided i e
 
   -- ---- a word that is in memory
   module _ (inside : Inside base (length mem) pc 4) where
     -- and none of the words of rows 2 and 3
     module _ (i : Instr) (plain : code i ≡ 0) where
-      clear : (p : ℕ) → (4 < p → Straight (reachOf i x pc)) → (5 < p → Aligned (reachOf i x pc))
-          → (6 < p → Within base (length mem) (reachOf i x pc)) → (k c v : ℕ) → k < p → TrapRow i word x pc base mem k c v → ⊥
+      clear : (p : ℕ) → (4 < p → Straight (reachOf xlen i x pc)) → (5 < p → Aligned (reachOf xlen i x pc))
+          → (6 < p → Within base (length mem) (reachOf xlen i x pc)) → (k c v : ℕ) → k < p → TrapRow xlen i word x pc base mem k c v → ⊥
       unfolding code
       clear p =
           none-below i p (λ l. inside) (λ l z. absurd (omega (arith, plain, ap code z)))
           (λ l. (λ z. absurd (omega (arith, plain, ap code z)), λ z. absurd (omega (arith, plain, ap code z))))
 
-      fine : Straight (reachOf i x pc) → Aligned (reachOf i x pc) → Within base (length mem) (reachOf i x pc) → (e : Exec) (ws : Writes) (to : ℕ) (t : Access)
-          → e ≡ effect ws to t → Decided i e
+      fine : Straight (reachOf xlen i x pc) → Aligned (reachOf xlen i x pc) → Within base (length mem) (reachOf xlen i x pc)
+          → (e : Exec) (ws : Writes) (to : ℕ) (t : Access) → e ≡ effect ws to t → Decided i e
       fine a b c e ws to t q =
           retires ws to t q
           (λ k d v r. let l = placed i k d v r in clear 7 (λ z. a) (λ z. b) (λ z. c) k d v (omega (arith, l .1)) r)
 
-      goes : (ws : Writes) (to : ℕ) (t : Access) → reachOf i x pc ≡ nowhere → Decided i (effect ws to t)
+      goes : (ws : Writes) (to : ℕ) (t : Access) → reachOf xlen i x pc ≡ nowhere → Decided i (effect ws to t)
       unfolding Straight Aligned Within
       goes ws to t q = fine (rw q tt) (rw q tt) (rw q tt) (effect ws to t) ws to t refl
 
       -- a jump or a taken branch
-      jump-decided : (to : ℕ) (ws : Writes) (e : Exec) → reachOf i x pc ≡ jumps to → ((to % 4 ≡ 0 → ⊥) → e ≡ trap 0 to)
+      jump-decided : (to : ℕ) (ws : Writes) (e : Exec) → reachOf xlen i x pc ≡ jumps to → ((to % 4 ≡ 0 → ⊥) → e ≡ trap 0 to)
           → (to % 4 ≡ 0 → e ≡ effect ws to nothing) → Decided i e
       unfolding Straight Aligned Within
       jump-decided to ws e q bad good =
@@ -194,10 +194,10 @@ module _ (word : ℕ) (x : ℕ → ℕ) (pc base : ℕ) (mem : List ℕ) where
           (record { place = 4; applies = misalignedTarget refl refl q skew; first = clear 4 (never refl) (never refl) (never refl) }))
 
       -- an access by row 5, misaligned, then row 6, outside
-      access-decided : (misaligned outside a n : ℕ) (ws : Writes) (to : ℕ) (t : Access) → 0 < misaligned → 0 < outside → Straight (reachOf i x pc)
-          → (a % n ≡ 0 → Aligned (reachOf i x pc)) → (Inside base (length mem) a n → Within base (length mem) (reachOf i x pc))
-          → ((a % n ≡ 0 → ⊥) → TrapRow i word x pc base mem 5 misaligned a)
-          → ((Inside base (length mem) a n → ⊥) → TrapRow i word x pc base mem 6 outside a)
+      access-decided : (misaligned outside a n : ℕ) (ws : Writes) (to : ℕ) (t : Access) → 0 < misaligned → 0 < outside → Straight (reachOf xlen i x pc)
+          → (a % n ≡ 0 → Aligned (reachOf xlen i x pc)) → (Inside base (length mem) a n → Within base (length mem) (reachOf xlen i x pc))
+          → ((a % n ≡ 0 → ⊥) → TrapRow xlen i word x pc base mem 5 misaligned a)
+          → ((Inside base (length mem) a n → ⊥) → TrapRow xlen i word x pc base mem 6 outside a)
           → Decided i (checked misaligned outside a n base (length mem) (effect ws to t))
       access-decided mis out a n ws to t some more straight aligned within row5 row6 =
           let e = effect ws to t in
@@ -218,7 +218,7 @@ module _ (word : ℕ) (x : ℕ → ℕ) (pc base : ℕ) (mem : List ℕ) where
           (record { place = 5; applies = row5 skew; first = clear 5 (λ l. straight) (never refl) (never refl) }))
 
       -- a load or LR
-      read-decided : (a n : ℕ) (ws : Writes) (to : ℕ) (t : Access) → reachOf i x pc ≡ reads a n
+      read-decided : (a n : ℕ) (ws : Writes) (to : ℕ) (t : Access) → reachOf xlen i x pc ≡ reads a n
           → Decided i (checked 4 5 a n base (length mem) (effect ws to t))
       unfolding Straight Aligned Within
       read-decided a n ws to t q =
@@ -226,7 +226,7 @@ module _ (word : ℕ) (x : ℕ → ℕ) (pc base : ℕ) (mem : List ℕ) where
           (λ z. misalignedRead refl refl n q z) (λ z. outsideRead refl refl n q z)
 
       -- a store, SC, AMO or AMOCAS
-      write-decided : (a n : ℕ) (ws : Writes) (to : ℕ) (t : Access) → reachOf i x pc ≡ writes a n
+      write-decided : (a n : ℕ) (ws : Writes) (to : ℕ) (t : Access) → reachOf xlen i x pc ≡ writes a n
           → Decided i (checked 6 7 a n base (length mem) (effect ws to t))
       unfolding Straight Aligned Within
       write-decided a n ws to t q =
@@ -234,25 +234,25 @@ module _ (word : ℕ) (x : ℕ → ℕ) (pc base : ℕ) (mem : List ℕ) where
           (λ z. misalignedWrite refl refl n q z) (λ z. outsideWrite refl refl n q z)
 
       -- an SC, as a store, whatever the reservation decides then
-      sc-decided : (w : Width) (rd a v : ℕ) (covered : ℕ → ℕ → Bool) → reachOf i x pc ≡ writes a (bytesOf w)
-          → Decided i (execSc 64 w rd a v pc base mem covered)
+      sc-decided : (w : Width) (rd a v : ℕ) (covered : ℕ → ℕ → Bool) → reachOf xlen i x pc ≡ writes a (bytesOf w)
+          → Decided i (execSc xlen w rd a v pc base mem covered)
       unfolding execSc
       sc-decided w rd a v covered q =
           cond-all (λ (e : Exec). Decided i (checked 6 7 a (bytesOf w) base (length mem) e)) (covered a (bytesOf w)) _ _
           (write-decided a (bytesOf w) _ _ _ q) (write-decided a (bytesOf w) _ _ _ q)
 
-    branch-decided : (op : BranchOp) (rs1 rs2 imm : ℕ) (b : Bool) → holdsOf 64 op (x rs1) (x rs2) ≡ b
-        → Decided (Branch op rs1 rs2 imm) (execBranch 64 b (offset 64 pc imm) pc)
+    branch-decided : (op : BranchOp) (rs1 rs2 imm : ℕ) (b : Bool) → holdsOf xlen op (x rs1) (x rs2) ≡ b
+        → Decided (Branch op rs1 rs2 imm) (execBranch xlen b (offset xlen pc imm) pc)
     unfolding code
     branch-decided op rs1 rs2 imm true h =
-        let to = offset 64 pc imm in
-        jump-decided (Branch op rs1 rs2 imm) refl to none _ (rw h) (branch-traps 64 pc to) (branch-taken 64 pc to)
+        let to = offset xlen pc imm in
+        jump-decided (Branch op rs1 rs2 imm) refl to none _ (rw h) (branch-traps xlen pc to) (branch-taken xlen pc to)
     branch-decided op rs1 rs2 imm false h =
-        let to = offset 64 pc imm in
-        subst (Decided (Branch op rs1 rs2 imm)) (sym (branch-passed 64 pc to))
-        (goes (Branch op rs1 rs2 imm) refl none (nextPc 64 pc) nothing (rw h))
+        let to = offset xlen pc imm in
+        subst (Decided (Branch op rs1 rs2 imm)) (sym (branch-passed xlen pc to))
+        (goes (Branch op rs1 rs2 imm) refl none (nextPc xlen pc) nothing (rw h))
 
-    atomic-decided : (m : Atomic) (covered : ℕ → ℕ → Bool) (op : AtomicOp) → m .op ≡ op → Decided (Amo m) (atomicBy 64 op m x pc base mem covered)
+    atomic-decided : (m : Atomic) (covered : ℕ → ℕ → Bool) (op : AtomicOp) → m .op ≡ op → Decided (Amo m) (atomicBy xlen op m x pc base mem covered)
     unfolding code execLr execCas execCasPair execAmo
     atomic-decided m covered Lr q = read-decided (Amo m) refl _ _ _ _ _ (rw q)
     atomic-decided m covered Sc q = sc-decided (Amo m) refl (m .width) (m .rd) (x (m .rs1)) (x (m .rs2)) covered (rw q)
@@ -260,7 +260,7 @@ module _ (word : ℕ) (x : ℕ → ℕ) (pc base : ℕ) (mem : List ℕ) where
     atomic-decided m covered CasPair q = write-decided (Amo m) refl _ _ _ _ _ (rw q)
     atomic-decided m covered (Rmw op) q = write-decided (Amo m) refl _ _ _ _ _ (rw q)
 
-    execute-decided : (covered : ℕ → ℕ → Bool) (i : Instr) → Decided i (execute 64 i word x pc base mem covered)
+    execute-decided : (covered : ℕ → ℕ → Bool) (i : Instr) → Decided i (execute xlen i word x pc base mem covered)
     unfolding execute execAtomic execLoad execStore code Straight Aligned Within
     execute-decided covered Illegal =
         traps 2 word refl
@@ -287,12 +287,12 @@ module _ (word : ℕ) (x : ℕ → ℕ) (pc base : ℕ) (mem : List ℕ) where
     execute-decided covered (Lui rd imm) = goes _ refl _ _ _ refl
     execute-decided covered (Auipc rd imm) = goes _ refl _ _ _ refl
     execute-decided covered (Jal rd imm) =
-        let to = offset 64 pc imm in
-        jump-decided (Jal rd imm) refl to (one rd (nextPc 64 pc)) _ refl (jump-traps 64 pc rd to) (jump-retires 64 pc rd to)
+        let to = offset xlen pc imm in
+        jump-decided (Jal rd imm) refl to (one rd (nextPc xlen pc)) _ refl (jump-traps xlen pc rd to) (jump-retires xlen pc rd to)
     execute-decided covered (Jalr rd rs1 imm) =
-        let to = clearBit0 (offset 64 (x rs1) imm) in
-        jump-decided (Jalr rd rs1 imm) refl to (one rd (nextPc 64 pc)) _ refl (jump-traps 64 pc rd to) (jump-retires 64 pc rd to)
-    execute-decided covered (Branch op rs1 rs2 imm) = branch-decided op rs1 rs2 imm (holdsOf 64 op (x rs1) (x rs2)) refl
+        let to = clearBit0 (offset xlen (x rs1) imm) in
+        jump-decided (Jalr rd rs1 imm) refl to (one rd (nextPc xlen pc)) _ refl (jump-traps xlen pc rd to) (jump-retires xlen pc rd to)
+    execute-decided covered (Branch op rs1 rs2 imm) = branch-decided op rs1 rs2 imm (holdsOf xlen op (x rs1) (x rs2)) refl
     execute-decided covered (Load op rd rs1 imm) = read-decided (Load op rd rs1 imm) refl _ _ _ _ _ refl
     execute-decided covered (Store op rs1 rs2 imm) = write-decided (Store op rs1 rs2 imm) refl _ _ _ _ _ refl
     execute-decided covered (OpImm op rd rs1 imm) = goes _ refl _ _ _ refl
@@ -303,19 +303,19 @@ module _ (word : ℕ) (x : ℕ → ℕ) (pc base : ℕ) (mem : List ℕ) where
 
 -- ---- the fetch, too
 
-module _ (x : ℕ → ℕ) (pc base : ℕ) (mem : List ℕ) (covered : ℕ → ℕ → Bool) where
-  pub decided : Decided (valueAt base mem pc 4) x pc base mem (decodeOf (valueAt base mem pc 4)) (fetchOf x pc base mem covered)
+module _ (xlen : ℕ) (x : ℕ → ℕ) (pc base : ℕ) (mem : List ℕ) (covered : ℕ → ℕ → Bool) where
+  pub decided : Decided xlen (valueAt base mem pc 4) x pc base mem (decodeAt xlen (valueAt base mem pc 4)) (fetchOf xlen x pc base mem covered)
   unfolding fetchOf executeWord
   decided =
       let word = valueAt base mem pc 4 in
-      let i = decodeOf word in
+      let i = decodeAt xlen word in
       bool-cases (insideOf base (length mem) pc 4)
-      (λ t. rw t (execute-decided word x pc base mem (inside-of base (length mem) pc 4 t) covered i))
+      (λ t. rw t (execute-decided xlen word x pc base mem (inside-of base (length mem) pc 4 t) covered i))
       (λ t.
       let away : Inside base (length mem) pc 4 → ⊥ = λ j. contrary (of-inside base (length mem) pc 4 j) t in
       traps 1 pc (rw t)
       (record {
         place = 1;
         applies = unfetched refl refl refl away;
-        first = none-below word x pc base mem i 1 (never refl) (never refl) (never refl) (never refl) (never refl) (never refl);
+        first = none-below xlen word x pc base mem i 1 (never refl) (never refl) (never refl) (never refl) (never refl) (never refl);
       }))

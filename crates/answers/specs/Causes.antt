@@ -6,13 +6,14 @@ use mathlib.Core.Bool.{cond}
 use mathlib.Core.List.{List}
 use lib.ListN.{length, getD}
 use Rattle.reserve.specs.Range.{Inside}
-use Rattle.isa.specs.Decode.{decodeOf}
-use Rattle.isa.specs.Width.{bytesOf}
+use Rattle.isa.specs.Width.{bytesOf, pairBytes}
+use Rattle.isa.specs.Narrow.{decodeAt}
 use Rattle.isa.specs.declared.AtomicOp.{AtomicOp}
 use Rattle.isa.specs.declared.AtomicOp.the-variants.{Lr, Sc, Cas, CasPair, Rmw}
 use Rattle.isa.specs.declared.Width.{Width}
 use Rattle.isa.specs.declared.Instr.{Instr}
 use Rattle.isa.specs.declared.Instr.the-variants.{Illegal, Lui, Auipc, Jal, Jalr, Branch, Load, Store, OpImm, OpImm32, Op, Op32, Fence, Ecall, Ebreak, Amo}
+use Rattle.settings.specs.Settings.{xlenOf}
 use Rattle.machine.specs.declared.State.{State}
 use Rattle.events.specs.declared.Event.{Event}
 use Rattle.events.specs.declared.Event.the-variants.{Step, Device, Yield}
@@ -32,30 +33,32 @@ abbrev pub atomicReach : AtomicOp → Width → ℕ → Reach
 atomicReach Lr w a = reads a (bytesOf w)
 atomicReach Sc w a = writes a (bytesOf w)
 atomicReach Cas w a = writes a (bytesOf w)
-atomicReach CasPair w a = writes a 16
+atomicReach CasPair w a = writes a (pairBytes w)
 atomicReach (Rmw op) w a = writes a (bytesOf w)
 
--- x gives the hart's registers; holdsOf says whether a branch is taken, and clearBit0 clears the lowest bit of JALR's target
-abbrev pub reachOf : Instr → (ℕ → ℕ) → ℕ → Reach
-reachOf (Jal rd imm) x pc = jumps (offset 64 pc imm)
-reachOf (Jalr rd rs1 imm) x pc = jumps (clearBit0 (offset 64 (x rs1) imm))
-reachOf (Branch op rs1 rs2 imm) x pc = cond (holdsOf 64 op (x rs1) (x rs2)) (jumps (offset 64 pc imm)) nowhere
-reachOf (Load op rd rs1 imm) x pc = reads (offset 64 (x rs1) imm) (loadBytes op)
-reachOf (Store op rs1 rs2 imm) x pc = writes (offset 64 (x rs1) imm) (storeBytes op)
-reachOf (Amo m) x pc = atomicReach (m .op) (m .width) (x (m .rs1))
-reachOf Illegal x pc = nowhere
-reachOf Ecall x pc = nowhere
-reachOf Ebreak x pc = nowhere
-reachOf (Fence rd rs1 imm) x pc = nowhere
-reachOf (Lui rd imm) x pc = nowhere
-reachOf (Auipc rd imm) x pc = nowhere
-reachOf (OpImm op rd rs1 imm) x pc = nowhere
-reachOf (OpImm32 op rd rs1 imm) x pc = nowhere
-reachOf (Op op rd rs1 rs2) x pc = nowhere
-reachOf (Op32 op rd rs1 rs2) x pc = nowhere
+-- registers, the pc and addresses have xlen bits
+module _ (xlen : ℕ) where
+  -- x gives the hart's registers; holdsOf says whether a branch is taken, and clearBit0 clears the lowest bit of JALR's target
+  abbrev pub reachOf : Instr → (ℕ → ℕ) → ℕ → Reach
+  reachOf (Jal rd imm) x pc = jumps (offset xlen pc imm)
+  reachOf (Jalr rd rs1 imm) x pc = jumps (clearBit0 (offset xlen (x rs1) imm))
+  reachOf (Branch op rs1 rs2 imm) x pc = cond (holdsOf xlen op (x rs1) (x rs2)) (jumps (offset xlen pc imm)) nowhere
+  reachOf (Load op rd rs1 imm) x pc = reads (offset xlen (x rs1) imm) (loadBytes op)
+  reachOf (Store op rs1 rs2 imm) x pc = writes (offset xlen (x rs1) imm) (storeBytes op)
+  reachOf (Amo m) x pc = atomicReach (m .op) (m .width) (x (m .rs1))
+  reachOf Illegal x pc = nowhere
+  reachOf Ecall x pc = nowhere
+  reachOf Ebreak x pc = nowhere
+  reachOf (Fence rd rs1 imm) x pc = nowhere
+  reachOf (Lui rd imm) x pc = nowhere
+  reachOf (Auipc rd imm) x pc = nowhere
+  reachOf (OpImm op rd rs1 imm) x pc = nowhere
+  reachOf (OpImm32 op rd rs1 imm) x pc = nowhere
+  reachOf (Op op rd rs1 rs2) x pc = nowhere
+  reachOf (Op32 op rd rs1 rs2) x pc = nowhere
 
 -- The row at this place of the table applies and gives this cause and value. word is the word at pc, i what it decodes to.
-module _ (i : Instr) (word : ℕ) (x : ℕ → ℕ) (pc base : ℕ) (mem : List ℕ) where
+module _ (xlen : ℕ) (i : Instr) (word : ℕ) (x : ℕ → ℕ) (pc base : ℕ) (mem : List ℕ) where
   pub data TrapRow (place cause value : ℕ) : Type 0 where
     -- "1 | the word at pc isn't wholly in memory | pc"
     unfetched : place ≡ 1 → cause ≡ 1 → value ≡ pc → (Inside base (length mem) pc 4 → ⊥) → TrapRow place cause value
@@ -65,23 +68,23 @@ module _ (i : Instr) (word : ℕ) (x : ℕ → ℕ) (pc base : ℕ) (mem : List 
     called : place ≡ 3 → cause ≡ 8 → value ≡ 0 → i ≡ Ecall → TrapRow place cause value
     halted : place ≡ 3 → cause ≡ 3 → value ≡ 0 → i ≡ Ebreak → TrapRow place cause value
     -- "0 | JAL, JALR or a taken branch to a target that isn't a multiple of 4 | target"
-    misalignedTarget : place ≡ 4 → cause ≡ 0 → reachOf i x pc ≡ jumps value → (value % 4 ≡ 0 → ⊥) → TrapRow place cause value
+    misalignedTarget : place ≡ 4 → cause ≡ 0 → reachOf xlen i x pc ≡ jumps value → (value % 4 ≡ 0 → ⊥) → TrapRow place cause value
     -- "4, 6 | address not aligned to its width: load or LR 4; store, SC, AMO 6 | address"
-    misalignedRead : place ≡ 5 → cause ≡ 4 → (n : ℕ) → reachOf i x pc ≡ reads value n → (value % n ≡ 0 → ⊥) → TrapRow place cause value
-    misalignedWrite : place ≡ 5 → cause ≡ 6 → (n : ℕ) → reachOf i x pc ≡ writes value n → (value % n ≡ 0 → ⊥) → TrapRow place cause value
+    misalignedRead : place ≡ 5 → cause ≡ 4 → (n : ℕ) → reachOf xlen i x pc ≡ reads value n → (value % n ≡ 0 → ⊥) → TrapRow place cause value
+    misalignedWrite : place ≡ 5 → cause ≡ 6 → (n : ℕ) → reachOf xlen i x pc ≡ writes value n → (value % n ≡ 0 → ⊥) → TrapRow place cause value
     -- "5, 7 | bytes not wholly in memory: load or LR 5; store, AMO 7 | address"; 02 [2]: "an SC whose bytes aren't wholly in memory is now cause 7"
-    outsideRead : place ≡ 6 → cause ≡ 5 → (n : ℕ) → reachOf i x pc ≡ reads value n → (Inside base (length mem) value n → ⊥)
+    outsideRead : place ≡ 6 → cause ≡ 5 → (n : ℕ) → reachOf xlen i x pc ≡ reads value n → (Inside base (length mem) value n → ⊥)
         → TrapRow place cause value
-    outsideWrite : place ≡ 6 → cause ≡ 7 → (n : ℕ) → reachOf i x pc ≡ writes value n → (Inside base (length mem) value n → ⊥)
+    outsideWrite : place ≡ 6 → cause ≡ 7 → (n : ℕ) → reachOf xlen i x pc ≡ writes value n → (Inside base (length mem) value n → ⊥)
         → TrapRow place cause value
 
--- the rows for a hart with these registers and this pc
-abbrev pub StepRow : (ℕ → ℕ) → ℕ → ℕ → List ℕ → ℕ → ℕ → ℕ → Type 0
-StepRow x pc base mem = TrapRow (decodeOf (valueAt base mem pc 4)) (valueAt base mem pc 4) x pc base mem
+-- the rows for a hart with these registers, of xlen bits, and this pc
+abbrev pub StepRow : ℕ → (ℕ → ℕ) → ℕ → ℕ → List ℕ → ℕ → ℕ → ℕ → Type 0
+StepRow xlen x pc base mem = TrapRow xlen (decodeAt xlen (valueAt base mem pc 4)) (valueAt base mem pc 4) x pc base mem
 
 -- the rows for an event: only a step has any
 abbrev pub EventRow : ℕ → List ℕ → State → Event → ℕ → ℕ → ℕ → Type 0
-EventRow base mem s (Step h) place cause value = StepRow (regAt (s .x) h) (getD (s .pc) h 0) base mem place cause value
+EventRow base mem s (Step h) place cause value = StepRow (xlenOf (s .settings)) (regAt (s .x) h) (getD (s .pc) h 0) base mem place cause value
 EventRow base mem s (Device a n v) place cause value = ⊥
 EventRow base mem s (Yield h) place cause value = ⊥
 

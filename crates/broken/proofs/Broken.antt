@@ -39,7 +39,7 @@ use Rattle.model.specs.Trace.{noticeAt}
 use Rattle.model.specs.Retired.{IsRetired, Traps, Refuses}
 use Rattle.model.specs.declared.Outcome.the-variants as O
 use Rattle.model.proofs.Frame.{res-apply, unused-res}
-use Rattle.notices.specs.Happened.{RetiredLr, RetiredSc, StoredSc, FailedSc, store, amo, amocas, amocasQ, HartWrites, Yields, Silent}
+use Rattle.notices.specs.Happened.{RetiredLr, RetiredSc, StoredSc, FailedSc, store, amo, amocas, amocasPair, HartWrites, Yields, Silent}
 use Rattle.notices.specs.Notices.{ComesFrom}
 use Rattle.notices.proofs.Notices.{notice-none}
 use Rattle.notices.proofs.Exact.{unrefused, fetched, yield-used, notice-exact, sc-either}
@@ -79,7 +79,7 @@ writes-retire : (base : ℕ) (m : Machine) (e : Event) (g b n : ℕ) → HartWri
 writes-retire base m e g b n (inl (store op rs1 rs2 imm r p q)) = (r .theStep, r .retired)
 writes-retire base m e g b n (inl (amo i op r o p q)) = (r .theStep, r .retired)
 writes-retire base m e g b n (inl (amocas i r o p q s)) = (r .theStep, r .retired)
-writes-retire base m e g b n (inl (amocasQ i r o p q s)) = (r .theStep, r .retired)
+writes-retire base m e g b n (inl (amocasPair i r o p q s)) = (r .theStep, r .retired)
 writes-retire base m e g b n (inr c) = (c .retires .theStep, c .retires .retired)
 
 -- 02 [3]: "A yield sets none."

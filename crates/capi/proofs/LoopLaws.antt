@@ -8,7 +8,7 @@ use lib.Dec.{ltb}
 use lib.ListN.{length}
 use borrow.Author.Tests.{ltb-false}
 use Rattle.word.proofs.ChooseLaws.{cond-all}
-use Rattle.settings.specs.Settings.{versionOk}
+use Rattle.settings.specs.Settings.{readingOk}
 use Rattle.settings.specs.declared.Settings.{Settings}
 use Rattle.retry.specs.Loop.{viewAt, pastSc, reason2, reason3, reason4, reason5, lowestOf, orElse, scanOf, startOf, checkOf}
 use Rattle.retry.specs.declared.View.{View}
@@ -62,4 +62,4 @@ module _ (settings : Settings) (ws : List ℕ) where
   pub small-check : Small (checkOf settings ws)
   unfolding checkOf
   small-check =
-      cond-all Small (versionOk settings) _ (Refused 2) (cond-all Small (ltb (length ws) 2) (Refused 6) _ tt (small-long (ltb 16 (length ws)) refl)) tt
+      cond-all Small (readingOk settings) _ (Refused 2) (cond-all Small (ltb (length ws) 2) (Refused 6) _ tt (small-long (ltb 16 (length ws)) refl)) tt

@@ -7,7 +7,7 @@ use settings::Settings;
 ghost use mathlib.Core.Path.{_≡_};
 ghost use Prim.Native.Nat.{_/_};
 ghost use lib.ListN.{length};
-ghost use Rattle.settings.specs.Settings.{defaults, ofVersion};
+ghost use Rattle.settings.specs.Settings.{defaults, ofKind};
 ghost use Rattle.retry.specs.Loop.{checkOf, wordsOf};
 ghost use Rattle.capi.specs.Answers.{Reported, loopNumber, loopAnswer};
 
@@ -46,7 +46,7 @@ fn check_words(settings: Settings, words: &[u8]) -> u64
     loop_number(settings, words)
 }
 
-// The same under A 2.1.
+// The same under A 2.1, for the 64-bit core.
 #[no_mangle]
 pub extern "C" fn floecavern_check_loop(words: &[u8]) -> u64
     ensures { λ r. ⌜ r ≡ loopAnswer defaults (now (words .entry)) ⌝ }
@@ -54,10 +54,10 @@ pub extern "C" fn floecavern_check_loop(words: &[u8]) -> u64
     check_words(settings::defaults(), words)
 }
 
-// The same under a version of A.
+// The same under a version of A, for a kind of core.
 #[no_mangle]
-pub extern "C" fn floecavern_check_loop_for(version: u64, words: &[u8]) -> u64
-    ensures { λ r. ⌜ r ≡ loopAnswer (ofVersion version) (now (words .entry)) ⌝ }
+pub extern "C" fn floecavern_check_loop_for(version: u64, kind: u64, words: &[u8]) -> u64
+    ensures { λ r. ⌜ r ≡ loopAnswer (ofKind version kind) (now (words .entry)) ⌝ }
 {
-    check_words(settings::of_version(version), words)
+    check_words(settings::of_kind(version, kind), words)
 }

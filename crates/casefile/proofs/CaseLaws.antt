@@ -11,9 +11,8 @@ use Rattle.word.specs.Memory.{part}
 use Rattle.word.proofs.TestLaws.{bool-cases}
 use Rattle.word.proofs.ChooseLaws.{cond-all}
 use Rattle.word.proofs.MemoryLaws.{length-part}
-use Rattle.settings.specs.Settings.{defaults}
 use Rattle.settings.proofs.SettingsLaws.{defaults-allowed}
-use Rattle.machine.specs.Rules.{Shaped}
+use Rattle.machine.specs.Rules.{LentRules, Shaped}
 use Rattle.machine.specs.State.{refusalOf}
 use Rattle.machine.specs.declared.State.{State}
 use Rattle.machine.proofs.StateLaws.{refusal-0}
@@ -21,14 +20,14 @@ use Rattle.events.specs.Events.{goodEvent, firstBad, checkedOf, Within}
 use Rattle.events.specs.declared.Checked.{Checked}
 use Rattle.events.specs.declared.Checked.the-variants.{Good, Bad}
 use Rattle.casefile.specs.Table.{tableOf, InsideFile}
-use Rattle.casefile.specs.Harts.{baseOf, countOf, hartsOk, stateOf, noState}
-use Rattle.casefile.specs.Case.{refusedCase, lengthOk, checkedCase, bodiesOf, partsOf, caseOf, SoundCase, SoundCaseAs}
+use Rattle.casefile.specs.Harts.{baseOf, countOf, hartsOk, settingsOf, stateOf, noState}
+use Rattle.casefile.specs.Case.{refusedCase, memoryBodyOk, checkedCase, bodiesOf, partsOf, caseOf, SoundCase, SoundCaseAs}
 use Rattle.casefile.specs.declared.Found.{Found}
 use Rattle.casefile.specs.declared.Found.the-variants.{Refused, Bodies}
 use Rattle.casefile.specs.declared.Case.{Case}
 use Rattle.casefile.proofs.TableLaws.{table-inside}
 use Rattle.casefile.proofs.HartsLaws.{harts-exact, harts-state, state-shaped, none-shaped}
-use Rattle.casefile.proofs.RuleLaws.{length-exact}
+use Rattle.casefile.proofs.RuleLaws.{memory-body-exact}
 
 -- the place of a bad event is in the body
 module _ (count base len : ℕ) (body : List ℕ) where
@@ -60,19 +59,20 @@ module _ (file : List ℕ) (m e : ℕ) (least : 40 ≤ m) (next : m ≤ e) (last
   abbrev checked : Checked
   checked = checkedOf (countOf harts) (baseOf harts) (length memory) (drop e file)
 
-  checked-sound : hartsOk harts ≡ true → lengthOk (length memory) ≡ true → (r : Checked) → checked ≡ r → Within r (length (drop e file))
+  checked-sound : hartsOk harts ≡ true → memoryBodyOk harts (length memory) ≡ true → (r : Checked) → checked ≡ r → Within r (length (drop e file))
       → SoundCase file (checkedCase m e harts r)
   unfolding stateOf
   checked-sound h l (Bad place) c w = (omega arith, omega arith, omega (arith, rest))
   checked-sound h l Good c w =
       let r = harts-exact harts .0 h in
-      let q = length-exact (length memory) .0 l in (
+      let q = memory-body-exact harts (length memory) .0 l in
+      let lent : LentRules (settingsOf harts) (baseOf harts) (e - m) = (rw some at q .0 .0, rw some at q .0 .1, rw some at q .0 .2, r .4, r .5) in (
         least,
         next,
         last,
         most,
         refusal-0 (baseOf harts) (e - m) (stateOf (countOf harts) harts) .1
-            ((defaults-allowed .0, (rw some at q .0, rw some at q .1, rw some at q .2, r .4, r .5)), harts-state harts (baseOf harts) (e - m) r),
+            ((defaults-allowed .0, lent, rw some at q .1), harts-state harts (baseOf harts) (e - m) r),
         rw some at c,
         rw rest at w,
       )
@@ -82,7 +82,7 @@ module _ (file : List ℕ) (m e : ℕ) (least : 40 ≤ m) (next : m ≤ e) (last
   bodies-sound =
       bool-cases (hartsOk harts)
       (λ h.
-      bool-cases (lengthOk (length memory))
+      bool-cases (memoryBodyOk harts (length memory))
       (λ l. rw (h, l) (checked-sound h l checked refl (checked-within (countOf harts) (baseOf harts) (length memory) (drop e file))))
       (λ l. rw (h, l) (omega arith, omega arith, omega arith)))
       (λ h. rw h (omega arith, omega arith, omega arith))
@@ -97,7 +97,7 @@ module _ (P : State → Type 0) (none : P noState) (some : (harts : List ℕ) �
   unfolding bodiesOf
   bodies-state m e harts memory events =
       cond-all (λ c. P (c .state)) (hartsOk harts) _ (refusedCase 9 40)
-      (cond-all (λ c. P (c .state)) (lengthOk (length memory)) _ (refusedCase 10 m)
+      (cond-all (λ c. P (c .state)) (memoryBodyOk harts (length memory)) _ (refusedCase 10 m)
       (checked-state m e harts (checkedOf (countOf harts) (baseOf harts) (length memory) events)) none)
       none
 
@@ -122,10 +122,10 @@ case-sound file = go (tableOf file) (table-inside file)
 pub case-shaped : (file : List ℕ) → Shaped (caseOf file .state)
 case-shaped = case-state Shaped none-shaped (λ harts. state-shaped harts (countOf harts))
 
--- a read case has the default settings: 02 [5], "default 64"
-pub case-settings : (file : List ℕ) → caseOf file .state .settings ≡ defaults
+-- a read case has the default settings but for its kind: 02 [5], "default 64"; [7], "2.1 the default"
+pub case-settings : (file : List ℕ) → (caseOf file .state .settings .size ≡ 64) × (caseOf file .state .settings .version ≡ 21)
 unfolding noState stateOf
-case-settings = case-state (λ s. s .settings ≡ defaults) refl (λ harts. refl)
+case-settings = case-state (λ s. (s .settings .size ≡ 64) × (s .settings .version ≡ 21)) (refl, refl) (λ harts. (refl, refl))
 
 pub read-sound : (file : List ℕ) (r : Case) → r ≡ caseOf file → (r ≡ caseOf file) × SoundCase file r
 read-sound file r h = (h, subst (λ (c : Case). SoundCase file c) (sym h) (case-sound file))

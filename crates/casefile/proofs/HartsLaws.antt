@@ -1,22 +1,49 @@
 -- A harts body: its test says what the rules say, and the state that it is keeps the rules of refusal 2. Assumes nothing.
-use mathlib.Core.Path.{_≡_, ap, ap₂, _∙_}
-use mathlib.Core.Logic.{_↔_}
-use mathlib.Core.Bool.{true}
+use mathlib.Core.Path.{_≡_, refl, sym, ap, ap₂, _∙_, subst}
+use mathlib.Core.Logic.{_↔_, _⊎_, inl, inr, ⊎-elim}
+use mathlib.Core.Bool.{Bool, true, cond, _||_}
 use mathlib.Core.List.{List}
 use Prim.Native.Nat.{ℕ, _+_, _*_, _-_, _/_, _%_, _^_, _≤_, _<_}
 use native.Mathlib.Omega.{arith}
-use lib.Dec.{leb, eqb}
+use lib.Dec.{leb, ltb, eqb}
 use lib.ListN.{length, getD, replicate, length-replicate, getD-replicate}
-use borrow.Author.Tests.{eqb-true, leb-true, eq-eqb, le-leb}
-use Rattle.word.proofs.TestLaws.{and-both}
+use borrow.Author.Tests.{eqb-true, eqb-false, leb-true, ltb-true, eq-eqb, ne-eqb, le-leb, lt-ltb}
+use Rattle.word.specs.Bytes.{le}
+use Rattle.word.specs.Memory.{part}
+use Rattle.word.specs.Each.{allBelow}
+use Rattle.word.proofs.TestLaws.{and-both, or-either, bool-cases}
 use Rattle.word.proofs.EachLaws.{each-at, each-past, length-each, all-at, all-intro}
-use Rattle.settings.proofs.SettingsLaws.{defaults-allowed}
+use Rattle.settings.proofs.SettingsLaws.{xlen-64}
+use Rattle.settings.specs.Settings.{xlenOf}
 use Rattle.reserve.specs.Reserve.{slot}
 use Rattle.reserve.specs.declared.Reservation.the-variants.{None}
-use Rattle.machine.specs.Rules.{HartRules, StateRules, Shaped}
-use Rattle.casefile.specs.Harts.{baseOf, countOf, zeroOf, registerOf, pcOf, hartsOk, HartsRules, stateOf, noState}
+use Rattle.machine.specs.Rules.{HartRules, UpperZero, StateRules, Shaped}
+use Rattle.casefile.specs.Harts.{baseOf, countOf, kindOf, numberOf, registerOf, pcOf, halvesOk, hartsOk, HartsRules, settingsOf, stateOf, noState}
 
 module _ (body : List ℕ) where
+  -- the numbers of a 32-bit case have 32 bits
+  abbrev Halves : Type 0
+  Halves = kindOf body ≡ 1 → (i : ℕ) → i < 32 * countOf body → numberOf body i < 2 ^ 32
+
+  halves-to : halvesOk body ≡ true → Halves
+  halves-to e k i l =
+      let all = subst (λ (t : Bool). cond t (allBelow (λ i. ltb (numberOf body i) (2 ^ 32)) (32 * countOf body)) true ≡ true) (eq-eqb (kindOf body) 1 k) e in
+      ltb-true _ _ (all-at (λ i. ltb (numberOf body i) (2 ^ 32)) i (32 * countOf body) all l)
+
+  to-halves : Halves → halvesOk body ≡ true
+  to-halves h =
+      bool-cases (eqb (kindOf body) 1)
+      (λ t. rw t (all-intro (λ i. ltb (numberOf body i) (2 ^ 32)) (32 * countOf body) (λ i l. lt-ltb _ _ (h (eqb-true _ _ t) i l))))
+      (λ f. rw f)
+
+  kind-to : (eqb (kindOf body) 0 || eqb (kindOf body) 1) ≡ true → (kindOf body ≡ 0) ⊎ (kindOf body ≡ 1)
+  kind-to e =
+      ⊎-elim (λ (t : eqb (kindOf body) 0 ≡ true). inl (eqb-true _ _ t)) (λ (t : eqb (kindOf body) 1 ≡ true). inr (eqb-true _ _ t))
+      (or-either (eqb (kindOf body) 0) (eqb (kindOf body) 1) e)
+
+  to-kind : (kindOf body ≡ 0) ⊎ (kindOf body ≡ 1) → (eqb (kindOf body) 0 || eqb (kindOf body) 1) ≡ true
+  to-kind = ⊎-elim (λ (z : kindOf body ≡ 0). rw z) (λ (o : kindOf body ≡ 1). rw o)
+
   pub harts-exact : (hartsOk body ≡ true) ↔ HartsRules body
   unfolding hartsOk
   harts-exact = (
@@ -24,27 +51,30 @@ module _ (body : List ℕ) where
         let a = and-both (eqb (length body) (16 + 256 * countOf body)) _ e in
         let b = and-both (leb 1 (countOf body)) _ (a .1) in
         let c = and-both (leb (countOf body) 8) _ (b .1) in
-        let d = and-both (eqb (zeroOf body) 0) _ (c .1) in
+        let d = and-both (eqb (kindOf body) 0 || eqb (kindOf body) 1) _ (c .1) in
         let f = and-both (eqb (baseOf body % 64) 0) _ (d .1) in
-        let g = and-both (leb (baseOf body) (2 ^ 40)) _ (f .1) in (
+        let g = and-both (leb (baseOf body) (2 ^ 40)) _ (f .1) in
+        let p = and-both (allBelow (λ h. eqb (pcOf body h % 4) 0) (countOf body)) _ (g .1) in (
           eqb-true _ _ (a .0),
           leb-true _ _ (b .0),
           leb-true _ _ (c .0),
-          eqb-true _ _ (d .0),
+          kind-to (d .0),
           eqb-true _ _ (f .0),
           leb-true _ _ (g .0),
-          λ h l. eqb-true _ _ (all-at (λ h. eqb (pcOf body h % 4) 0) h (countOf body) (g .1) l),
+          λ h l. eqb-true _ _ (all-at (λ h. eqb (pcOf body h % 4) 0) h (countOf body) (p .0) l),
+          halves-to (p .1),
         ),
     λ r.
         rw (
           eq-eqb (length body) (16 + 256 * countOf body) (r .0),
           le-leb 1 (countOf body) (r .1),
           le-leb (countOf body) 8 (r .2),
-          eq-eqb (zeroOf body) 0 (r .3),
+          to-kind (r .3),
           eq-eqb (baseOf body % 64) 0 (r .4),
           le-leb (baseOf body) (2 ^ 40) (r .5),
+          all-intro (λ h. eqb (pcOf body h % 4) 0) (countOf body) (λ h l. eq-eqb (pcOf body h % 4) 0 (r .6 h l)),
         )
-        (all-intro (λ h. eqb (pcOf body h % 4) 0) (countOf body) (λ h l. eq-eqb (pcOf body h % 4) 0 (r .6 h l))),
+        (to-halves (r .7)),
   )
 
   module _ (count : ℕ) (most : count ≤ 8) where
@@ -85,17 +115,45 @@ module _ (body : List ℕ) where
     reservations = length-replicate 8 (slot None);
   }
 
+  -- registers and pcs are among the numbers
+  module _ (count : ℕ) (few : (i : ℕ) → i < 32 * count → numberOf body i < 2 ^ 32) where
+    register-few : (h r : ℕ) → h < count → r < 32 → registerOf body h r < 2 ^ 32
+    register-few h r l small =
+        bool-cases (eqb r 0) (λ t. rw t (omega arith))
+        (λ f.
+        let some : 0 < r = omega (arith, eqb-false r 0 f) in
+        let e : 16 + 8 * (32 * h + (r - 1)) ≡ 16 + 256 * h + 8 * (r - 1) = omega arith in
+        rw f (subst (λ (n : ℕ). le (part body n 8) < 2 ^ 32) e (few (32 * h + (r - 1)) (omega arith))))
+
+    pc-few : (h : ℕ) → h < count → pcOf body h < 2 ^ 32
+    pc-few h l =
+        let e : 16 + 8 * (32 * h + 31) ≡ 16 + 256 * h + 248 = omega arith in
+        subst (λ (n : ℕ). le (part body n 8) < 2 ^ 32) e (few (32 * h + 31) (omega arith))
+
   -- the state of a harts body that 9 doesn't refuse keeps the rules of the machine
   pub harts-state : (base len : ℕ) → HartsRules body → StateRules base len (stateOf (countOf body) body)
   unfolding stateOf
-  harts-state base len r = (r .1, r .2, λ k l. hart k l, defaults-allowed .1)
+  harts-state base len r = (r .1, r .2, λ k l. hart k l, (inr refl, r .3))
     where
+      upper : (k : ℕ) → k < countOf body → xlenOf (settingsOf body) ≡ 32 → UpperZero (stateOf (countOf body) body) k
+      upper k l narrow =
+          let is : kindOf body ≡ 1 =
+          ⊎-elim (λ (z : kindOf body ≡ 0). absurd (omega (arith, narrow, xlen-64 (settingsOf body) z))) (λ (o : kindOf body ≡ 1). o) (r .3) in
+          let count = countOf body in (
+            λ q small.
+                let e : k * 32 + q ≡ 32 * k + q = omega arith in
+                let at-q = ap (λ (i : ℕ). getD (stateOf count body .x) i 0) e ∙ register-at count (r .2) k q l small in
+                subst (λ (v : ℕ). v < 2 ^ 32) (sym at-q) (register-few count (r .7 is) k q l small),
+            subst (λ (v : ℕ). v < 2 ^ 32) (sym (pc-at count (r .2) k l)) (pc-few count (r .7 is) k l),
+          )
+
       hart : (k : ℕ) → k < countOf body → HartRules base len (stateOf (countOf body) body) k
       hart k l =
           let e : k * 32 ≡ 32 * k + 0 = omega arith in (
             ap (λ (i : ℕ). getD (stateOf (countOf body) body .x) i 0) e ∙ register-at (countOf body) (r .2) k 0 l (omega arith),
             ap (λ (v : ℕ). v % 4) (pc-at (countOf body) (r .2) k l) ∙ r .6 k l,
             rw (free-at (countOf body) (r .2) k (omega (arith, r .2))) tt,
+            upper k l,
           )
 
 pub none-shaped : Shaped noState

@@ -11,6 +11,7 @@ use lib.Seq.{take-all}
 use borrow.Author.Tests.{ltb-true, ltb-false, leb-true, eqb-true, eqb-false, eq-eqb, le-ltb, le-leb}
 use Rattle.word.specs.Memory.{part}
 use Rattle.word.proofs.TestLaws.{bool-cases, contrary, never, and-both}
+use Rattle.machine.proofs.StateLaws.{top-exact}
 use Rattle.events.specs.Events.{checkedOf}
 use Rattle.events.specs.Rules.{WrongEvents}
 use Rattle.events.specs.declared.Checked.{Checked}
@@ -18,10 +19,10 @@ use Rattle.events.specs.declared.Checked.the-variants.{Good, Bad}
 use Rattle.events.proofs.RuleLaws as E
 use Rattle.events.proofs.RowLaws as R
 use Rattle.casefile.specs.Table.{fieldAt, entryOf, tableOf}
-use Rattle.casefile.specs.Harts.{baseOf, countOf, hartsOk, HartsRules}
-use Rattle.casefile.specs.Case.{refusedCase, lengthOk, bodiesOf, partsOf, caseOf}
+use Rattle.casefile.specs.Harts.{baseOf, countOf, hartsOk, HartsRules, settingsOf}
+use Rattle.casefile.specs.Case.{refusedCase, lengthOk, memoryBodyOk, bodiesOf, partsOf, caseOf}
 use Rattle.casefile.specs.Rules.{FileRules, WrongField, entries, kind1, offset1, kind2, offset2, kind3, offset3, end3}
-use Rattle.casefile.specs.Rules.{hartsIn, memoryIn, eventsIn, LengthRules, FileRow, badLength, badTable, badHarts, badMemoryLength, badEvents}
+use Rattle.casefile.specs.Rules.{hartsIn, memoryIn, eventsIn, LengthRules, MemoryBodyRules, FileRow, badLength, badTable, badHarts, badMemoryLength, badEvents}
 use Rattle.casefile.specs.Rules.{RefusedBy, UnrefusedFile, caseIn}
 use Rattle.casefile.specs.declared.Found.{Found}
 use Rattle.casefile.specs.declared.Found.the-variants.{Refused, Bodies}
@@ -45,6 +46,15 @@ length-exact n = (
       let b = and-both (leb n 1048576) _ (a .1) in
       (leb-true _ _ (a .0), leb-true _ _ (b .0), eqb-true _ _ (b .1)),
   λ r. rw (le-leb 64 n (r .0), le-leb n 1048576 (r .1), eq-eqb (n % 64) 0 (r .2)),
+)
+
+pub memory-body-exact : (harts : List ℕ) (n : ℕ) → (memoryBodyOk harts n ≡ true) ↔ MemoryBodyRules harts n
+unfolding memoryBodyOk
+memory-body-exact harts n = (
+  λ e.
+      let a = and-both (lengthOk n) _ e in
+      (length-exact n .0 (a .0), top-exact (settingsOf harts) (baseOf harts) n .0 (a .1)),
+  λ r. rw (length-exact n .1 (r .0), top-exact (settingsOf harts) (baseOf harts) n .1 (r .1)),
 )
 
 -- ---- 7 and 8: the table
@@ -175,7 +185,7 @@ module _ (file : List ℕ) where
 
 module _ (file : List ℕ) where
   none-below : (n : ℕ) → (7 < n → FileRules (length file)) → (8 < n → (q : ℕ) → WrongField file q → ⊥) → (9 < n → HartsRules (hartsIn file))
-      → (10 < n → LengthRules (length (memoryIn file)))
+      → (10 < n → MemoryBodyRules (hartsIn file) (length (memoryIn file)))
       → (11 < n → (q : ℕ) → WrongEvents (countOf (hartsIn file)) (baseOf (hartsIn file)) (length (memoryIn file)) (eventsIn file) q → ⊥)
       → (k q : ℕ) → k < n → FileRow file k q → ⊥
   none-below n a b c d e k q l (badLength z w r) = r (a (omega arith))
@@ -277,17 +287,17 @@ module _ (file : List ℕ) where
             lowest = not-below 9 (fieldAt file 8) harts-from;
           })
 
-      refused-10 : hartsOk (hartsIn file) ≡ true → lengthOk (length (memoryIn file)) ≡ false → Decided
+      refused-10 : hartsOk (hartsIn file) ≡ true → memoryBodyOk (hartsIn file) (length (memoryIn file)) ≡ false → Decided
       unfolding bodiesOf
       refused-10 h l =
           R.refuses 10 (fieldAt file 20) (case-bodies ∙ rw (h, l))
           (record {
-            applies = badMemoryLength refl refl (λ ok. contrary (length-exact (length (memoryIn file)) .1 ok) l);
+            applies = badMemoryLength refl refl (λ ok. contrary (memory-body-exact (hartsIn file) (length (memoryIn file)) .1 ok) l);
             first = none-below 10 (λ l. sized) (λ l. r .none) (λ l. harts-exact (hartsIn file) .0 h) (never refl) (never refl);
             lowest = not-below 10 (fieldAt file 20) memory-from;
           })
 
-      by-events : hartsOk (hartsIn file) ≡ true → lengthOk (length (memoryIn file)) ≡ true
+      by-events : hartsOk (hartsIn file) ≡ true → memoryBodyOk (hartsIn file) (length (memoryIn file)) ≡ true
           → (c : Checked) → checked ≡ c → Decided
       unfolding bodiesOf
       by-events h l (Bad p) e =
@@ -296,7 +306,7 @@ module _ (file : List ℕ) where
           (record {
             applies = badEvents refl p refl (w .wrong);
             first =
-                none-below 11 (λ z. sized) (λ z. r .none) (λ z. harts-exact (hartsIn file) .0 h) (λ z. length-exact (length (memoryIn file)) .0 l)
+                none-below 11 (λ z. sized) (λ z. r .none) (λ z. harts-exact (hartsIn file) .0 h) (λ z. memory-body-exact (hartsIn file) (length (memoryIn file)) .0 l)
                 (never refl);
             lowest = not-below 11 (fieldAt file 32 + p) (events-from p (w .lowest));
           })
@@ -304,14 +314,14 @@ module _ (file : List ℕ) where
           let f = E.good-exact (countOf (hartsIn file)) (baseOf (hartsIn file)) (length (memoryIn file)) (eventsIn file) .0 e in
           R.accepts (case-bodies ∙ rw (h, l, e))
           (λ k q row.
-          none-below 12 (λ z. sized) (λ z. r .none) (λ z. harts-exact (hartsIn file) .0 h) (λ z. length-exact (length (memoryIn file)) .0 l) (λ z. f) k q
+          none-below 12 (λ z. sized) (λ z. r .none) (λ z. harts-exact (hartsIn file) .0 h) (λ z. memory-body-exact (hartsIn file) (length (memoryIn file)) .0 l) (λ z. f) k q
           (omega (arith, numbered k q row .1)) row)
 
       by-bodies : Decided
       by-bodies =
           bool-cases (hartsOk (hartsIn file))
           (λ h.
-          bool-cases (lengthOk (length (memoryIn file)))
+          bool-cases (memoryBodyOk (hartsIn file) (length (memoryIn file)))
           (λ l. by-events h l checked refl)
           (λ l. refused-10 h l))
           refused-9

@@ -7,13 +7,13 @@ use mathlib.Core.List.{List}
 use lib.Dec.{leb, eqb}
 use lib.ListN.{length, drop}
 use Rattle.word.specs.Memory.{part}
-use Rattle.machine.specs.State.{refusalOf}
+use Rattle.machine.specs.State.{topOk, refusalOf}
 use Rattle.machine.specs.declared.State.{State}
 use Rattle.events.specs.Events.{checkedOf}
 use Rattle.events.specs.declared.Checked.{Checked}
 use Rattle.events.specs.declared.Checked.the-variants.{Good, Bad}
 use Rattle.casefile.specs.Table.{tableOf}
-use Rattle.casefile.specs.Harts.{baseOf, countOf, hartsOk, stateOf, noState}
+use Rattle.casefile.specs.Harts.{baseOf, countOf, hartsOk, settingsOf, stateOf, noState}
 use Rattle.casefile.specs.declared.Found.{Found}
 use Rattle.casefile.specs.declared.Found.the-variants.{Refused, Bodies}
 use Rattle.casefile.specs.declared.Case.{Case}
@@ -31,12 +31,16 @@ abbrev pub checkedCase : ℕ → ℕ → List ℕ → Checked → Case
 checkedCase m e harts (Bad place) = refusedCase 11 (e + place)
 checkedCase m e harts Good = record { found = Bodies m e; base = baseOf harts; state = stateOf (countOf harts) harts }
 
+-- 02 [10]: "Base plus length is at most 2^32 for this kind, .. 10 in a case file", of a harts body that 9 doesn't refuse and n bytes of memory
+unfoldable pub memoryBodyOk : List ℕ → ℕ → Bool
+memoryBodyOk harts n = lengthOk n && topOk (settingsOf harts) (baseOf harts) n
+
 -- the three bodies, which start at 40, m and e: "9: harts body, base included (place of its start). 10: memory body length (its start). 11:
 -- events body"
 unfoldable pub bodiesOf : ℕ → ℕ → List ℕ → List ℕ → List ℕ → Case
 bodiesOf m e harts memory events =
     cond (hartsOk harts)
-    (cond (lengthOk (length memory))
+    (cond (memoryBodyOk harts (length memory))
     (checkedCase m e harts (checkedOf (countOf harts) (baseOf harts) (length memory) events))
     (refusedCase 10 m))
     (refusedCase 9 40)

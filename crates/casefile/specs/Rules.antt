@@ -8,7 +8,8 @@ use Rattle.word.specs.Memory.{part}
 use Rattle.events.specs.Rows.{FirstRow, NoRow}
 use Rattle.events.specs.Rules.{WrongEvents}
 use Rattle.casefile.specs.Table.{fieldAt}
-use Rattle.casefile.specs.Harts.{baseOf, countOf, HartsRules, stateOf}
+use Rattle.casefile.specs.Harts.{baseOf, countOf, HartsRules, stateOf, settingsOf}
+use Rattle.machine.specs.Rules.{TopRules}
 use Rattle.casefile.specs.declared.Found.the-variants.{Bodies}
 use Rattle.casefile.specs.declared.Case.{Case}
 
@@ -43,13 +44,17 @@ eventsIn file = part file (fieldAt file 32) (fieldAt file 36)
 abbrev pub LengthRules : ℕ → Type 0
 LengthRules n = (64 ≤ n) × (n ≤ 1048576) × (n % 64 ≡ 0)
 
+-- 02 [10]: "Base plus length is at most 2^32 for this kind, refusal 1 in the library and 10 in a case file"
+abbrev pub MemoryBodyRules : List ℕ → ℕ → Type 0
+MemoryBodyRules harts n = LengthRules n × TopRules (settingsOf harts) (baseOf harts) n
+
 -- The row of this number applies, at this place. "9: harts body, base included (place of its start). 10: memory body length (its start). 11: events
 -- body not a multiple of 24 (its start), or the first bad event": p is counted from the events body's first byte.
 pub data FileRow (file : List ℕ) (number place : ℕ) : Type 0 where
   badLength : number ≡ 7 → place ≡ 0 → (FileRules (length file) → ⊥) → FileRow file number place
   badTable : number ≡ 8 → WrongField file place → FileRow file number place
   badHarts : number ≡ 9 → place ≡ fieldAt file 8 → (HartsRules (hartsIn file) → ⊥) → FileRow file number place
-  badMemoryLength : number ≡ 10 → place ≡ fieldAt file 20 → (LengthRules (length (memoryIn file)) → ⊥) → FileRow file number place
+  badMemoryLength : number ≡ 10 → place ≡ fieldAt file 20 → (MemoryBodyRules (hartsIn file) (length (memoryIn file)) → ⊥) → FileRow file number place
   badEvents : number ≡ 11 → (p : ℕ) → place ≡ fieldAt file 32 + p
       → WrongEvents (countOf (hartsIn file)) (baseOf (hartsIn file)) (length (memoryIn file)) (eventsIn file) p → FileRow file number place
 

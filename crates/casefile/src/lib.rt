@@ -3,16 +3,18 @@ use events::Checked;
 use machine::State;
 use reserve::Reservation;
 use reserve::Slot;
+use settings::Settings;
 use word::bytes::load_at;
 ghost use mathlib.Core.Path.{_≡_};
 ghost use Prim.Native.Nat.{_+_, _*_, _-_, _/_, _%_, _^_, _≤_, _<_};
-ghost use lib.Dec.{eqb};
+ghost use mathlib.Core.Bool.{true, cond};
+ghost use lib.Dec.{eqb, ltb};
 ghost use lib.ListN.{length, drop, replicate};
 ghost use Rattle.word.specs.Each.{each, allBelow};
 ghost use Rattle.word.specs.Memory.{part};
 ghost use Rattle.casefile.specs.Table.{fieldAt, entryOf, tableOf, EndsWithin};
-ghost use Rattle.casefile.specs.Harts.{registerOf, pcOf, hartsOk, stateOf, noState};
-ghost use Rattle.casefile.specs.Case.{refusedCase, lengthOk, bodiesOf, caseOf, SoundCase};
+ghost use Rattle.casefile.specs.Harts.{numberOf, registerOf, pcOf, hartsOk, HartsRules, settingsOf, stateOf, noState};
+ghost use Rattle.casefile.specs.Case.{refusedCase, memoryBodyOk, bodiesOf, caseOf, SoundCase};
 
 // What a file is found to be: refused, at a place counted from its first byte, or a case, whose memory and events start at these places.
 pub enum Found {
@@ -112,6 +114,24 @@ fn pcs_ok(body: &[u8], count: usize) -> bool
     true
 }
 
+// Whether the numbers of a 32-bit case, those of each of the count harts, have 32 bits.
+fn halves_ok(body: &[u8], count: usize, kind: usize) -> bool
+    requires { ⌜ length (now body) ≡ 16 + 256 * count ⌝ }
+    ensures { λ r. ⌜ r ≡ cond (eqb kind 1) (allBelow (λ i. ltb (numberOf (now (body .entry)) i) (2 ^ 32)) (32 * count)) true ⌝ }
+{
+    if kind != 1 {
+        return true;
+    }
+    let mut i: usize = 0;
+    while i < 32 * count {
+        if 4294967295 < load_at(body, 16 + 8 * i, 8) {
+            return false;
+        }
+        i += 1;
+    }
+    true
+}
+
 // Whether refusal 9 does not name a harts body.
 fn harts_ok(body: &[u8]) -> bool
     ensures { λ r. ⌜ r ≡ hartsOk (now (body .entry)) ⌝ }
@@ -124,10 +144,13 @@ fn harts_ok(body: &[u8]) -> bool
         return false;
     }
     let base = load_at(body, 0, 8);
+    let kind = field(body, 12);
     (1 <= count)
         & ((count <= 8)
-            & ((field(body, 12) == 0)
-                & ((base % 64 == 0) & ((base <= 1099511627776) & pcs_ok(body, count)))))
+            & (((kind == 0) | (kind == 1))
+                & ((base % 64 == 0)
+                    & ((base <= 1099511627776)
+                        & (pcs_ok(body, count) & halves_ok(body, count, kind))))))
 }
 
 // x of register r of hart h.
@@ -169,6 +192,14 @@ fn pcs(body: &[u8], count: usize) -> [u64; 8]
     pc
 }
 
+// What the case of a harts body is set to.
+fn read_settings(body: &[u8]) -> Settings
+    requires { ⌜ 16 ≤ length (now body) ⌝ }
+    ensures { λ s. ⌜ s ≡ settingsOf (now (body .entry)) ⌝ }
+{
+    settings::of_kind(21, field(body, 12) as u64)
+}
+
 // The state that a harts body is.
 fn read_state(body: &[u8], count: usize) -> State
     requires { ⌜ (count ≤ 8) × (length (now body) ≡ 16 + 256 * count) ⌝ }
@@ -181,19 +212,23 @@ fn read_state(body: &[u8], count: usize) -> State
     }; 8];
     State {
         count,
-        settings: settings::defaults(),
+        settings: read_settings(body),
         x,
         pc,
         res,
     }
 }
 
-// Whether refusal 10 does not name a memory body.
-fn memory_ok(body: &[u8]) -> bool
-    ensures { λ r. ⌜ r ≡ lengthOk (length (now (body .entry))) ⌝ }
+// Whether refusal 10 does not name a memory body of so many bytes, beside a harts body that 9 does not name.
+fn memory_ok(harts: &[u8], len: usize) -> bool
+    requires { ⌜ HartsRules (now harts) ⌝ }
+    ensures { λ r. ⌜ r ≡ memoryBodyOk (now (harts .entry)) len ⌝ }
 {
-    let n = body.len();
-    (64 <= n) & ((n <= 1048576) & (n % 64 == 0))
+    if (64 <= len) & ((len <= 1048576) & (len % 64 == 0)) {
+        let base = load_at(harts, 0, 8);
+        return machine::top_ok(read_settings(harts), base, len);
+    }
+    false
 }
 
 // A refused file.
@@ -232,7 +267,7 @@ fn read_bodies(file: &[u8], memory: usize, events: usize) -> Case
     if !harts_ok(harts) {
         return refused(9, 40);
     }
-    if !memory_ok(&file[memory..events]) {
+    if !memory_ok(harts, events - memory) {
         return refused(10, memory);
     }
     let base = load_at(harts, 0, 8);

@@ -1,5 +1,5 @@
-// Writes a line for each 4-byte word of standard input: the word, its mnemonic, and every field of the decoded instruction. tools/decode-table
-// makes the input and, by another disassembler, the lines that are expected.
+// Writes a line for each 4-byte word of standard input: the word, its mnemonic, and every field of the decoded instruction. First of all words where
+// registers have 64 bits, then of all where they have 32. tools/decode-table makes the input and, by another disassembler, the lines that are expected.
 use isa::Instr;
 use libc::STDIN_FILENO;
 
@@ -28,16 +28,16 @@ fn instr(i: Instr) {
     }
 }
 
-fn line(word: u32) {
+fn line(word: u32, xlen: u32) {
     out::word(word);
-    instr(isa::decode(word));
+    instr(isa::decode_at(word, xlen));
     out::text(b"\n");
 }
 
-fn all(words: &[u8]) {
+fn all(words: &[u8], xlen: u32) {
     let mut i = 0;
     while i < words.len() / 4 {
-        line(out::word_at(words, 4 * i));
+        line(out::word_at(words, 4 * i), xlen);
         i += 1;
     }
 }
@@ -45,5 +45,6 @@ fn all(words: &[u8]) {
 fn main() {
     let mut space = io::large_buffer();
     let n = io::read_full(STDIN_FILENO, &mut space);
-    all(&space[..n]);
+    all(&space[..n], 64);
+    all(&space[..n], 32);
 }

@@ -88,13 +88,22 @@ fn width(w: Width) {
     }
 }
 
+// Of a pair of registers: twice the width of one.
+fn pair_width(w: Width) {
+    match w {
+        Width::Word => text(b".d"),
+        Width::Double => text(b".q"),
+    }
+}
+
 pub fn atomic(op: AtomicOp, w: Width) {
     match op {
         AtomicOp::Lr => text(b"lr"),
         AtomicOp::Sc => text(b"sc"),
         AtomicOp::Cas => text(b"amocas"),
         AtomicOp::CasPair => {
-            text(b"amocas.q");
+            text(b"amocas");
+            pair_width(w);
             return;
         }
         AtomicOp::Rmw(a) => amo(a),

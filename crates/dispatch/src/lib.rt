@@ -1,27 +1,43 @@
-// What an instruction does: its source registers are read, then its class is told their values.
+// What an instruction does, where registers have xlen bits: its source registers are read, then its class is told their values.
+use alu::integer::add;
 use alu::swap::Pair;
 use effect::Done;
 use exec::atomic;
 use exec::integer::compute;
+use exec::integer::holds;
 use exec::integer::jump;
-use exec::memory::load;
 use exec::retire;
+use isa::AluOp;
 use isa::Atomic;
 use isa::AtomicOp;
 use isa::BranchOp;
 use isa::Instr;
+use isa::LoadOp;
 use isa::StoreOp;
+use isa::Width;
+use isa::narrow::kept_imm;
+use isa::narrow::kept_load;
+use isa::narrow::kept_store;
+use isa::narrow::lacked;
+use isa::narrow::pairs;
 use reserve::Notice;
 use reserve::Reservation;
 use settings::Settings;
+use word::num::wrap;
 ghost use mathlib.Core.Path.{_≡_};
-ghost use Prim.Native.Nat.{_<_};
+ghost use mathlib.Core.Bool.{cond, not, _&&_};
+ghost use Prim.Native.Nat.{ℕ, _≤_, _<_, _^_};
+ghost use lib.Dec.{eqb};
+ghost use Rattle.word.specs.Word.{Xlen};
+ghost use Rattle.isa.specs.Width.{bitsOf};
+ghost use Rattle.isa.specs.Narrow.{keptLoad, keptStore, keptImm, narrowedAt, lacked, pairs};
 ghost use Rattle.settings.specs.Settings.{SizeRules};
 ghost use Rattle.reserve.specs.Reserve.{coversOf};
 ghost use Rattle.alu.specs.Pair.{joined};
-ghost use Rattle.effect.specs.Effect.{doneOf, Meets, offset};
-ghost use Rattle.effect.specs.Integer.{holdsOf, execBranch};
-ghost use Rattle.effect.specs.Memory.{execStore};
+ghost use Rattle.effect.specs.Effect.{trap, doneOf, Meets, offset, sets};
+ghost use Rattle.effect.specs.Integer.{computed, holdsOf, execBranch};
+ghost use Rattle.effect.specs.Memory.{execLoad, execStore};
+ghost use Rattle.effect.specs.Atomic.{execCasPair};
 ghost use Rattle.effect.specs.Execute.{regAt, pairAt, execAtomic, execute, executeWord};
 
 // Register r of hart h; x has those of all harts.
@@ -32,30 +48,47 @@ pub fn reg(x: &[u64; 256], h: usize, r: usize) -> u64
     x[h * 32 + r % 32]
 }
 
-// The pair of registers from r on, zero where it starts at x0.
-fn reg_pair(x: &[u64; 256], h: usize, r: usize) -> Pair
+// The pair of registers from r on, as much of each as width w has, zero where it starts at x0.
+fn reg_pair(w: Width, x: &[u64; 256], h: usize, r: usize) -> Pair
     requires { ⌜ h < 8 ⌝ }
-    ensures { λ p. ⌜ joined p ≡ pairAt (regAt (now (x .entry)) h) r ⌝ }
+    ensures { λ p. ⌜ (joined w p ≡ pairAt w (regAt (now (x .entry)) h) r) × (p .low < 2 ^ bitsOf w) ⌝ }
 {
     let first = r % 32;
     if first == 0 {
         return Pair { low: 0, high: 0 };
     }
+    let bits = isa::bits_of(w);
     Pair {
-        low: reg(x, h, r),
-        high: reg(x, h, first + 1),
+        low: wrap(reg(x, h, r), bits),
+        high: wrap(reg(x, h, first + 1), bits),
     }
 }
 
-// The place at an offset.
-pub fn plus(a: u64, imm: u64) -> u64
-    ensures { λ r. ⌜ r ≡ offset 64 a imm ⌝ }
+// An AMOCAS of a pair, each half of width w, by its registers.
+fn cas_pair(
+    xlen: u32,
+    w: Width,
+    m: Atomic,
+    x: &[u64; 256],
+    h: usize,
+    pc: u64,
+    base: u64,
+    mem: &mut [u8],
+) -> Done
+    requires { ⌜ (h < 8) × (xlen ≤ 64) ⌝ }
+    ensures { λ r. ⌜
+        Meets h (execCasPair xlen w (m .rd) (regAt (now (x .entry)) h (m .rs1)) (pairAt w (regAt (now (x .entry)) h) (m .rd))
+        (pairAt w (regAt (now (x .entry)) h) (m .rs2)) pc base (now (mem .entry))) base (now (mem .entry)) r (now (mem .exit))
+        ⌝ }
 {
-    std::num::wrapping_add_u64(a, imm)
+    let want = reg_pair(w, x, h, m.rd);
+    let new = reg_pair(w, x, h, m.rs2);
+    atomic::cas_pair(xlen, w, m.rd, reg(x, h, m.rs1), want, new, pc, base, h, mem)
 }
 
 // An atomic instruction of hart h, whose reservation is res.
 fn atomic(
+    xlen: u32,
     m: Atomic,
     x: &[u64; 256],
     h: usize,
@@ -65,68 +98,282 @@ fn atomic(
     res: Reservation,
     mem: &mut [u8],
 ) -> Done
-    requires { ⌜ (h < 8) × SizeRules settings ⌝ }
+    requires { ⌜ (h < 8) × SizeRules settings × (bitsOf (m .width) ≤ xlen) × (xlen ≤ 64) ⌝ }
     ensures { λ r. ⌜
-        Meets h (execAtomic 64 m (regAt (now (x .entry)) h) pc base (now (mem .entry)) (coversOf settings res))
+        Meets h (execAtomic xlen m (regAt (now (x .entry)) h) pc base (now (mem .entry)) (coversOf settings res))
         base (now (mem .entry)) r (now (mem .exit))
         ⌝ }
 {
     let op = m.op;
     let w = m.width;
     let rd = m.rd;
-    let rs2 = m.rs2;
     let a = reg(x, h, m.rs1);
+    let v = reg(x, h, m.rs2);
     match op {
-        AtomicOp::Lr => atomic::lr(w, rd, a, pc, base, h, mem),
-        AtomicOp::Sc => atomic::sc(w, rd, a, reg(x, h, rs2), pc, base, h, settings, res, mem),
-        AtomicOp::Cas => atomic::cas(w, rd, a, reg(x, h, rd), reg(x, h, rs2), pc, base, h, mem),
-        AtomicOp::CasPair => atomic::cas_pair(
-            rd,
-            a,
-            reg_pair(x, h, rd),
-            reg_pair(x, h, rs2),
-            pc,
-            base,
-            h,
-            mem,
-        ),
-        AtomicOp::Rmw(o) => atomic::amo(o, w, rd, a, reg(x, h, rs2), pc, base, h, mem),
+        AtomicOp::Lr => atomic::lr(xlen, w, rd, a, pc, base, h, mem),
+        AtomicOp::Sc => atomic::sc(xlen, w, rd, a, v, pc, base, h, settings, res, mem),
+        AtomicOp::Cas => atomic::cas(xlen, w, rd, a, reg(x, h, rd), v, pc, base, h, mem),
+        AtomicOp::CasPair => cas_pair(xlen, w, m, x, h, pc, base, mem),
+        AtomicOp::Rmw(o) => atomic::amo(xlen, o, w, rd, a, v, pc, base, h, mem),
     }
 }
 
-// A branch, by the registers that it compares.
-fn branch(op: BranchOp, rs1: usize, rs2: usize, to: u64, x: &[u64; 256], h: usize, pc: u64) -> Done
-    requires { ⌜ h < 8 ⌝ }
-    ensures { λ r. ⌜ r ≡ doneOf h (execBranch 64 (holdsOf 64 op (regAt (now (x .entry)) h rs1) (regAt (now (x .entry)) h rs2)) to pc) ⌝ }
+// Whether registers have 32 bits and RV32 lacks the instruction.
+fn lacked_at(xlen: u32, m: Atomic) -> bool
+    ensures { λ r. ⌜ r ≡ (eqb xlen 32 && lacked m) ⌝ }
 {
-    let taken = exec::integer::holds(op, reg(x, h, rs1), reg(x, h, rs2));
-    exec::integer::branch(taken, to, pc)
+    if xlen == 32 {
+        return lacked(m);
+    }
+    false
 }
 
-// A store, by its registers.
-fn store(
-    op: StoreOp,
+// Whether they have, and it is of a pair of words there.
+fn pairs_at(xlen: u32, m: Atomic) -> bool
+    ensures { λ r. ⌜ r ≡ (eqb xlen 32 && pairs m) ⌝ }
+{
+    if xlen == 32 {
+        return pairs(m);
+    }
+    false
+}
+
+// The same as RV32 has it where registers have 32 bits: it lacks some, and one is a pair of words.
+fn atomic_at(
+    xlen: u32,
+    m: Atomic,
+    word: u64,
+    x: &[u64; 256],
+    h: usize,
+    pc: u64,
+    base: u64,
+    settings: Settings,
+    res: Reservation,
+    mem: &mut [u8],
+) -> Done
+    requires { ⌜ (h < 8) × SizeRules settings × Xlen xlen ⌝ }
+    ensures { λ r. ⌜
+        Meets h (execute xlen (narrowedAt xlen (Instr.Amo m)) word (regAt (now (x .entry)) h) pc base (now (mem .entry)) (coversOf settings res))
+        base (now (mem .entry)) r (now (mem .exit))
+        ⌝ }
+{
+    if lacked_at(xlen, m) {
+        return Done::Trap {
+            cause: 2,
+            value: word,
+        };
+    }
+    if pairs_at(xlen, m) {
+        return cas_pair(xlen, Width::Word, m, x, h, pc, base, mem);
+    }
+    atomic(xlen, m, x, h, pc, base, settings, res, mem)
+}
+
+// Whether a branch is taken. The width is asked for here, so that the comparison is compiled for each width by itself; as the operations are below.
+fn taken_at(xlen: u32, op: BranchOp, a: u64, b: u64) -> bool
+    requires { ⌜ Xlen xlen ⌝ }
+    ensures { λ r. ⌜ r ≡ holdsOf xlen op a b ⌝ }
+{
+    if xlen == 64 {
+        return holds(64, op, a, b);
+    }
+    holds(32, op, a, b)
+}
+
+// A branch, by the registers that it compares.
+fn branch(
+    xlen: u32,
+    op: BranchOp,
     rs1: usize,
     rs2: usize,
     imm: u64,
     x: &[u64; 256],
     h: usize,
     pc: u64,
+) -> Done
+    requires { ⌜ (h < 8) × Xlen xlen ⌝ }
+    ensures { λ r. ⌜
+        r ≡ doneOf h (execBranch xlen (holdsOf xlen op (regAt (now (x .entry)) h rs1) (regAt (now (x .entry)) h rs2)) (offset xlen pc imm) pc)
+        ⌝ }
+{
+    let taken = taken_at(xlen, op, reg(x, h, rs1), reg(x, h, rs2));
+    exec::integer::branch(xlen, taken, add(pc, imm, xlen), pc)
+}
+
+// OP-IMM, by its register. RV32 lacks shifts by 32 and more.
+fn op_imm(
+    xlen: u32,
+    op: AluOp,
+    rd: usize,
+    rs1: usize,
+    imm: u64,
+    word: u64,
+    x: &[u64; 256],
+    h: usize,
+    pc: u64,
+) -> Done
+    requires { ⌜ (h < 8) × Xlen xlen ⌝ }
+    ensures { λ r. ⌜
+        r ≡ doneOf h (cond (eqb xlen 32 && not (keptImm op imm)) (trap 2 word)
+        (sets xlen rd (computed xlen xlen op (regAt (now (x .entry)) h rs1) imm) pc))
+        ⌝ }
+{
+    let a = reg(x, h, rs1);
+    if xlen == 64 {
+        return compute(64, op, 64, rd, a, imm, pc);
+    }
+    if kept_imm(op, imm) {
+        return compute(32, op, 32, rd, a, imm, pc);
+    }
+    Done::Trap {
+        cause: 2,
+        value: word,
+    }
+}
+
+// OP, by its registers.
+fn op_regs(
+    xlen: u32,
+    op: AluOp,
+    rd: usize,
+    rs1: usize,
+    rs2: usize,
+    x: &[u64; 256],
+    h: usize,
+    pc: u64,
+) -> Done
+    requires { ⌜ (h < 8) × Xlen xlen ⌝ }
+    ensures { λ r. ⌜ r ≡ doneOf h (sets xlen rd (computed xlen xlen op (regAt (now (x .entry)) h rs1) (regAt (now (x .entry)) h rs2)) pc) ⌝ }
+{
+    let a = reg(x, h, rs1);
+    let b = reg(x, h, rs2);
+    if xlen == 64 {
+        return compute(64, op, 64, rd, a, b, pc);
+    }
+    compute(32, op, 32, rd, a, b, pc)
+}
+
+// OP-IMM-32, by its register. RV32 lacks it, and OP-32.
+fn op_imm_32(
+    xlen: u32,
+    op: AluOp,
+    rd: usize,
+    rs1: usize,
+    imm: u64,
+    word: u64,
+    x: &[u64; 256],
+    h: usize,
+    pc: u64,
+) -> Done
+    requires { ⌜ (h < 8) × Xlen xlen ⌝ }
+    ensures { λ r. ⌜
+        r ≡ doneOf h (cond (eqb xlen 32) (trap 2 word) (sets xlen rd (computed xlen 32 op (regAt (now (x .entry)) h rs1) imm) pc))
+        ⌝ }
+{
+    let a = reg(x, h, rs1);
+    if xlen == 32 {
+        return Done::Trap {
+            cause: 2,
+            value: word,
+        };
+    }
+    compute(64, op, 32, rd, a, imm, pc)
+}
+
+// OP-32, by its registers.
+fn op_32(
+    xlen: u32,
+    op: AluOp,
+    rd: usize,
+    rs1: usize,
+    rs2: usize,
+    word: u64,
+    x: &[u64; 256],
+    h: usize,
+    pc: u64,
+) -> Done
+    requires { ⌜ (h < 8) × Xlen xlen ⌝ }
+    ensures { λ r. ⌜
+        r ≡ doneOf h (cond (eqb xlen 32) (trap 2 word)
+        (sets xlen rd (computed xlen 32 op (regAt (now (x .entry)) h rs1) (regAt (now (x .entry)) h rs2)) pc))
+        ⌝ }
+{
+    let a = reg(x, h, rs1);
+    let b = reg(x, h, rs2);
+    if xlen == 32 {
+        return Done::Trap {
+            cause: 2,
+            value: word,
+        };
+    }
+    compute(64, op, 32, rd, a, b, pc)
+}
+
+// A load, by its register. RV32 lacks LD and LWU.
+fn load(
+    xlen: u32,
+    op: LoadOp,
+    rd: usize,
+    rs1: usize,
+    imm: u64,
+    word: u64,
+    x: &[u64; 256],
+    h: usize,
+    pc: u64,
+    base: u64,
+    mem: &[u8],
+) -> Done
+    requires { ⌜ (h < 8) × Xlen xlen ⌝ }
+    ensures { λ r. ⌜
+        r ≡ doneOf h (cond (eqb xlen 32 && not (keptLoad op)) (trap 2 word)
+        (execLoad xlen op rd (offset xlen (regAt (now (x .entry)) h rs1) imm) pc base (now (mem .entry))))
+        ⌝ }
+{
+    if (xlen == 32) & !kept_load(op) {
+        return Done::Trap {
+            cause: 2,
+            value: word,
+        };
+    }
+    let a = add(reg(x, h, rs1), imm, xlen);
+    exec::memory::load(xlen, op, rd, a, pc, base, mem)
+}
+
+// A store, by its registers. RV32 lacks SD.
+fn store(
+    xlen: u32,
+    op: StoreOp,
+    rs1: usize,
+    rs2: usize,
+    imm: u64,
+    word: u64,
+    x: &[u64; 256],
+    h: usize,
+    pc: u64,
     base: u64,
     mem: &mut [u8],
 ) -> Done
-    requires { ⌜ h < 8 ⌝ }
+    requires { ⌜ (h < 8) × (xlen ≤ 64) ⌝ }
     ensures { λ r. ⌜
-        Meets h (execStore 64 op (offset 64 (regAt (now (x .entry)) h rs1) imm) (regAt (now (x .entry)) h rs2) pc base (now (mem .entry)))
+        Meets h (cond (eqb xlen 32 && not (keptStore op)) (trap 2 word)
+        (execStore xlen op (offset xlen (regAt (now (x .entry)) h rs1) imm) (regAt (now (x .entry)) h rs2) pc base (now (mem .entry))))
         base (now (mem .entry)) r (now (mem .exit))
         ⌝ }
 {
-    let a = plus(reg(x, h, rs1), imm);
-    exec::memory::store(op, a, reg(x, h, rs2), pc, base, h, mem)
+    if (xlen == 32) & !kept_store(op) {
+        return Done::Trap {
+            cause: 2,
+            value: word,
+        };
+    }
+    let a = add(reg(x, h, rs1), imm, xlen);
+    exec::memory::store(xlen, op, a, reg(x, h, rs2), pc, base, h, mem)
 }
 
-// An instruction of hart h, whose reservation is res. The word is the value of cause 2.
+// An instruction of hart h, whose reservation is res, as the decoder of 64 bits has it. Where registers have 32 bits, RV32 has less of it; each class asks
+// for that itself, so that the instruction isn't looked at, or copied, once more. The word is the value of cause 2.
 fn execute(
+    xlen: u32,
     i: Instr,
     word: u32,
     x: &[u64; 256],
@@ -137,35 +384,48 @@ fn execute(
     res: Reservation,
     mem: &mut [u8],
 ) -> Done
-    requires { ⌜ (h < 8) × SizeRules settings ⌝ }
+    requires { ⌜ (h < 8) × SizeRules settings × Xlen xlen ⌝ }
     ensures { λ r. ⌜
-        Meets h (execute 64 i word (regAt (now (x .entry)) h) pc base (now (mem .entry)) (coversOf settings res))
+        Meets h (execute xlen (narrowedAt xlen i) word (regAt (now (x .entry)) h) pc base (now (mem .entry)) (coversOf settings res))
         base (now (mem .entry)) r (now (mem .exit))
         ⌝ }
 {
-    let value = word as u64;
+    let v = word as u64;
     match i {
-        Instr::Illegal => Done::Trap { cause: 2, value },
-        Instr::Lui { rd, imm } => retire(rd, imm, pc, Notice::Quiet),
-        Instr::Auipc { rd, imm } => retire(rd, plus(pc, imm), pc, Notice::Quiet),
-        Instr::Jal { rd, imm } => jump(rd, plus(pc, imm), pc),
-        Instr::Jalr { rd, rs1, imm } => jump(rd, plus(reg(x, h, rs1), imm) / 2 * 2, pc),
-        Instr::Branch { op, rs1, rs2, imm } => branch(op, rs1, rs2, plus(pc, imm), x, h, pc),
-        Instr::Load { op, rd, rs1, imm } => load(op, rd, plus(reg(x, h, rs1), imm), pc, base, mem),
-        Instr::Store { op, rs1, rs2, imm } => store(op, rs1, rs2, imm, x, h, pc, base, mem),
-        Instr::OpImm { op, rd, rs1, imm } => compute(op, 64, rd, reg(x, h, rs1), imm, pc),
-        Instr::OpImm32 { op, rd, rs1, imm } => compute(op, 32, rd, reg(x, h, rs1), imm, pc),
-        Instr::Op { op, rd, rs1, rs2 } => compute(op, 64, rd, reg(x, h, rs1), reg(x, h, rs2), pc),
-        Instr::Op32 { op, rd, rs1, rs2 } => compute(op, 32, rd, reg(x, h, rs1), reg(x, h, rs2), pc),
-        Instr::Fence { .. } => retire(0, 0, pc, Notice::Quiet),
+        Instr::Illegal => Done::Trap { cause: 2, value: v },
+        Instr::Lui { rd, imm } => retire(xlen, rd, wrap(imm, xlen), pc, Notice::Quiet),
+        Instr::Auipc { rd, imm } => retire(xlen, rd, add(pc, imm, xlen), pc, Notice::Quiet),
+        Instr::Jal { rd, imm } => jump(xlen, rd, add(pc, imm, xlen), pc),
+        Instr::Jalr { rd, rs1, imm } => jump(xlen, rd, add(reg(x, h, rs1), imm, xlen) / 2 * 2, pc),
+        Instr::Branch { op, rs1, rs2, imm } => branch(xlen, op, rs1, rs2, imm, x, h, pc),
+        Instr::Load { op, rd, rs1, imm } => load(xlen, op, rd, rs1, imm, v, x, h, pc, base, mem),
+        Instr::Store { op, rs1, rs2, imm } => store(
+            xlen,
+            op,
+            rs1,
+            rs2,
+            imm,
+            v,
+            x,
+            h,
+            pc,
+            base,
+            mem,
+        ),
+        Instr::OpImm { op, rd, rs1, imm } => op_imm(xlen, op, rd, rs1, imm, v, x, h, pc),
+        Instr::OpImm32 { op, rd, rs1, imm } => op_imm_32(xlen, op, rd, rs1, imm, v, x, h, pc),
+        Instr::Op { op, rd, rs1, rs2 } => op_regs(xlen, op, rd, rs1, rs2, x, h, pc),
+        Instr::Op32 { op, rd, rs1, rs2 } => op_32(xlen, op, rd, rs1, rs2, v, x, h, pc),
+        Instr::Fence { .. } => retire(xlen, 0, 0, pc, Notice::Quiet),
         Instr::Ecall => Done::Trap { cause: 8, value: 0 },
         Instr::Ebreak => Done::Trap { cause: 3, value: 0 },
-        Instr::Amo(m) => atomic(m, x, h, pc, base, settings, res, mem),
+        Instr::Amo(m) => atomic_at(xlen, m, v, x, h, pc, base, settings, res, mem),
     }
 }
 
 // What a word does as the next instruction of hart h.
 pub fn execute_word(
+    xlen: u32,
     word: u32,
     x: &[u64; 256],
     h: usize,
@@ -175,11 +435,22 @@ pub fn execute_word(
     res: Reservation,
     mem: &mut [u8],
 ) -> Done
-    requires { ⌜ (h < 8) × SizeRules settings ⌝ }
+    requires { ⌜ (h < 8) × SizeRules settings × Xlen xlen ⌝ }
     ensures { λ r. ⌜
-        Meets h (executeWord 64 word (regAt (now (x .entry)) h) pc base (now (mem .entry)) (coversOf settings res))
+        Meets h (executeWord xlen word (regAt (now (x .entry)) h) pc base (now (mem .entry)) (coversOf settings res))
         base (now (mem .entry)) r (now (mem .exit))
         ⌝ }
 {
-    execute(isa::decode(word), word, x, h, pc, base, settings, res, mem)
+    execute(
+        xlen,
+        isa::decode(word),
+        word,
+        x,
+        h,
+        pc,
+        base,
+        settings,
+        res,
+        mem,
+    )
 }

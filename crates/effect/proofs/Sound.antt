@@ -15,8 +15,8 @@ use Rattle.word.proofs.WordLaws.{low-low}
 use Rattle.word.proofs.ChooseLaws.{cond-all, cond-cases}
 use Rattle.reserve.specs.Range.{Inside, insideOf}
 use Rattle.reserve.proofs.RangeLaws.{inside-of}
-use Rattle.isa.specs.Width.{bitsOf, bytesOf}
-use Rattle.isa.specs.Decode.{decodeOf}
+use Rattle.isa.specs.Width.{bitsOf, bytesOf, pairBytes}
+use Rattle.isa.specs.Narrow.{decodeAt}
 use Rattle.isa.specs.declared.Width.{Width}
 use Rattle.isa.specs.declared.Width.the-variants.{Word, Double}
 use Rattle.isa.specs.declared.LoadOp.{LoadOp}
@@ -113,11 +113,11 @@ module _ (xlen : ℕ) (enough : 2 ≤ xlen) (pc : ℕ) (aligned : pc % 4 ≡ 0) 
       sound-checked base (length mem) 6 7 a (bytesOf w) _ (omega arith) (omega arith)
       (λ i. (next-aligned, sound-swap base (length mem) a (bytesOf w) (valueAt base mem a (bytesOf w)) (low (bitsOf w) want) new (i .1)))
 
-  sound-cas-pair : (rd a want new : ℕ) → Sound base (length mem) (execCasPair xlen rd a want new pc base mem)
+  sound-cas-pair : (w : Width) (rd a want new : ℕ) → Sound base (length mem) (execCasPair xlen w rd a want new pc base mem)
   unfolding execCasPair
-  sound-cas-pair rd a want new =
-      sound-checked base (length mem) 6 7 a 16 _ (omega arith) (omega arith)
-      (λ i. (next-aligned, sound-swap base (length mem) a 16 (valueAt base mem a 16) want new (i .1)))
+  sound-cas-pair w rd a want new =
+      sound-checked base (length mem) 6 7 a (pairBytes w) _ (omega arith) (omega arith)
+      (λ i. (next-aligned, sound-swap base (length mem) a (pairBytes w) (valueAt base mem a (pairBytes w)) want new (i .1)))
 
   module _ (covered : ℕ → ℕ → Bool) where
     sound-sc : (w : Width) (rd a v : ℕ) → Sound base (length mem) (execSc xlen w rd a v pc base mem covered)
@@ -131,7 +131,7 @@ module _ (xlen : ℕ) (enough : 2 ≤ xlen) (pc : ℕ) (aligned : pc % 4 ≡ 0) 
     sound-atomic Lr m x = sound-lr (m .width) (m .rd) (x (m .rs1))
     sound-atomic Sc m x = sound-sc (m .width) (m .rd) (x (m .rs1)) (x (m .rs2))
     sound-atomic Cas m x = sound-cas (m .width) (m .rd) (x (m .rs1)) (x (m .rd)) (x (m .rs2))
-    sound-atomic CasPair m x = sound-cas-pair (m .rd) (x (m .rs1)) (pairAt x (m .rd)) (pairAt x (m .rs2))
+    sound-atomic CasPair m x = sound-cas-pair (m .width) (m .rd) (x (m .rs1)) (pairAt (m .width) x (m .rd)) (pairAt (m .width) x (m .rs2))
     sound-atomic (Rmw op) m x = sound-amo op (m .width) (m .rd) (x (m .rs1)) _
 
     pub sound-execute : (i : Instr) (word : ℕ) (x : ℕ → ℕ) → Sound base (length mem) (execute xlen i word x pc base mem covered)
@@ -154,7 +154,7 @@ module _ (xlen : ℕ) (enough : 2 ≤ xlen) (pc : ℕ) (aligned : pc % 4 ≡ 0) 
     sound-execute (Amo m) word x = sound-atomic (m .op) m x
 
 -- Whatever the word, the registers and the reservation, a step from an aligned pc goes to an aligned pc, and reserves and stores inside memory only.
-pub sound : (word : ℕ) (x : ℕ → ℕ) (pc base : ℕ) (mem : List ℕ) (covered : ℕ → ℕ → Bool) → pc % 4 ≡ 0
-    → Sound base (length mem) (executeWord 64 word x pc base mem covered)
+pub sound : (xlen word : ℕ) (x : ℕ → ℕ) (pc base : ℕ) (mem : List ℕ) (covered : ℕ → ℕ → Bool) → 2 ≤ xlen → pc % 4 ≡ 0
+    → Sound base (length mem) (executeWord xlen word x pc base mem covered)
 unfolding executeWord
-sound word x pc base mem covered aligned = sound-execute 64 (omega arith) pc aligned base mem covered (decodeOf word) word x
+sound xlen word x pc base mem covered enough aligned = sound-execute xlen enough pc aligned base mem covered (decodeAt xlen word) word x

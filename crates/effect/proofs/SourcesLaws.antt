@@ -34,8 +34,10 @@ module _ (xlen : ℕ) (m : Atomic) (x : ℕ → ℕ) (pc base : ℕ) (mem : List
       ∙ ap (λ (u : ℕ). execCas xlen (m .width) (m .rd) (x (m .rs1)) u (x (m .rs2)) pc base mem) before
       ∙ ap (λ (u : ℕ). execCas xlen (m .width) (m .rd) (x (m .rs1)) v u pc base mem) source
 
-  -- AMOCAS.Q, of the pair that starts at the register
+  -- AMOCAS of a pair, that which starts at the register
   pub pair-first : m .op ≡ CasPair
-      → execAtomic xlen m x pc base mem covered ≡ execCasPair xlen (m .rd) (x (m .rs1)) (pairAt x (m .rd)) (pairAt x (m .rd)) pc base mem
+      → execAtomic xlen m x pc base mem covered
+      ≡ execCasPair xlen (m .width) (m .rd) (x (m .rs1)) (pairAt (m .width) x (m .rd)) (pairAt (m .width) x (m .rd)) pc base mem
   pair-first e =
-      by-op CasPair e ∙ ap (λ (r : ℕ). execCasPair xlen (m .rd) (x (m .rs1)) (pairAt x (m .rd)) (pairAt x r) pc base mem) (sym same)
+      by-op CasPair e
+      ∙ ap (λ (r : ℕ). execCasPair xlen (m .width) (m .rd) (x (m .rs1)) (pairAt (m .width) x (m .rd)) (pairAt (m .width) x r) pc base mem) (sym same)

@@ -7,7 +7,7 @@ use lib.ListN.{length}
 use lib.Dec.{eqb}
 use Rattle.word.specs.Word.{low, signExtend}
 use Rattle.word.specs.Bytes.{toLe}
-use Rattle.isa.specs.Width.{bitsOf, bytesOf}
+use Rattle.isa.specs.Width.{bitsOf, bytesOf, pairBytes}
 use Rattle.isa.specs.declared.Width.{Width}
 use Rattle.isa.specs.declared.AmoOp.{AmoOp}
 use Rattle.alu.specs.Amo.{amoOf}
@@ -18,9 +18,10 @@ use Rattle.effect.specs.Memory.{checked, valueAt}
 abbrev pub swapped : ℕ → ℕ → ℕ → ℕ → ℕ → Access
 swapped a n old want new = cond (eqb old want) (store a (toLe n new)) nothing
 
--- 01: "a pair that starts at x0 .. isn't written"
-abbrev pub pairWrites : ℕ → ℕ → Writes
-pairWrites rd v = cond (eqb (rd % 32) 0) none (pair (rd % 32) (v % 2 ^ 64) (rd % 32 + 1) (v / 2 ^ 64))
+-- 01: "a pair that starts at x0 .. isn't written"; w is the width of each half
+abbrev pub pairWrites : Width → ℕ → ℕ → Writes
+pairWrites w rd v =
+    cond (eqb (rd % 32) 0) none (pair (rd % 32) (low (bitsOf w) v) (rd % 32 + 1) (low (bitsOf w) (v / 2 ^ bitsOf w)))
 
 module _ (xlen : ℕ) where
   -- 01: "LR: loads, sign-extends W, replaces this hart's reservation."
@@ -53,8 +54,9 @@ module _ (xlen : ℕ) where
       (effect (one rd (signExtend xlen (bitsOf w) (valueAt base mem a (bytesOf w)))) (nextPc xlen pc)
       (swapped a (bytesOf w) (valueAt base mem a (bytesOf w)) (low (bitsOf w) want) new))
 
-  -- AMOCAS.Q: want and new are numbers of 128 bits
-  unfoldable pub execCasPair : ℕ → ℕ → ℕ → ℕ → ℕ → ℕ → List ℕ → Exec
-  execCasPair rd a want new pc base mem =
-      checked 6 7 a 16 base (length mem)
-      (effect (pairWrites rd (valueAt base mem a 16)) (nextPc xlen pc) (swapped a 16 (valueAt base mem a 16) want new))
+  -- AMOCAS.Q: want and new are numbers of 128 bits. 02 [10]: "AMOCAS.D on even pairs by 001's rules": where a register has 32 bits, of 64
+  unfoldable pub execCasPair : Width → ℕ → ℕ → ℕ → ℕ → ℕ → ℕ → List ℕ → Exec
+  execCasPair w rd a want new pc base mem =
+      checked 6 7 a (pairBytes w) base (length mem)
+      (effect (pairWrites w rd (valueAt base mem a (pairBytes w))) (nextPc xlen pc)
+      (swapped a (pairBytes w) (valueAt base mem a (pairBytes w)) want new))

@@ -64,7 +64,7 @@ pub record Meets (h : ℕ) (e : Exec) (base : ℕ) (before : List ℕ) (r : Done
   pub answer : r ≡ doneOf h e
   pub memory : after ≡ memoryBy base before e
 
--- addresses and pc are numbers of xlen bits; 01 has 64
+-- addresses and pc are numbers of xlen bits: 01 has 64, and 02 [10] 32
 module _ (xlen : ℕ) where
   -- the place at an offset
   abbrev pub offset : ℕ → ℕ → ℕ

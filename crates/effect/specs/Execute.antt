@@ -5,7 +5,10 @@ use mathlib.Core.Bool.{Bool, cond}
 use mathlib.Core.List.{List}
 use lib.ListN.{getD}
 use lib.Dec.{eqb}
-use Rattle.isa.specs.Decode.{decodeOf}
+use Rattle.word.specs.Word.{low}
+use Rattle.isa.specs.Width.{bitsOf}
+use Rattle.isa.specs.Narrow.{decodeAt}
+use Rattle.isa.specs.declared.Width.{Width}
 use Rattle.isa.specs.declared.AtomicOp.{AtomicOp}
 use Rattle.isa.specs.declared.AtomicOp.the-variants.{Lr, Sc, Cas, CasPair, Rmw}
 use Rattle.isa.specs.declared.Atomic.{Atomic}
@@ -20,9 +23,9 @@ use Rattle.effect.specs.Atomic.{execLr, execSc, execAmo, execCas, execCa
 unfoldable pub regAt : List ℕ → ℕ → ℕ → ℕ
 regAt x h r = getD x (h * 32 + r % 32) 0
 
--- 01: "Q uses pairs rd, rd+1 and rs2, rs2+1; a pair that starts at x0 reads as zero twice"
-unfoldable pub pairAt : (ℕ → ℕ) → ℕ → ℕ
-pairAt x r = cond (eqb (r % 32) 0) 0 (x r + 2 ^ 64 * x (r % 32 + 1))
+-- 01: "Q uses pairs rd, rd+1 and rs2, rs2+1; a pair that starts at x0 reads as zero twice"; w is the width of each half
+unfoldable pub pairAt : Width → (ℕ → ℕ) → ℕ → ℕ
+pairAt w x r = cond (eqb (r % 32) 0) 0 (low (bitsOf w) (x r) + 2 ^ bitsOf w * low (bitsOf w) (x (r % 32 + 1)))
 
 module _ (xlen : ℕ) where
   abbrev pub atomicBy : AtomicOp → Atomic → (ℕ → ℕ) → ℕ → ℕ → List ℕ → (ℕ → ℕ → Bool) → Exec
@@ -30,7 +33,7 @@ module _ (xlen : ℕ) where
   atomicBy Sc m x pc base mem covered = execSc xlen (m .width) (m .rd) (x (m .rs1)) (x (m .rs2)) pc base mem covered
   atomicBy Cas m x pc base mem covered = execCas xlen (m .width) (m .rd) (x (m .rs1)) (x (m .rd)) (x (m .rs2)) pc base mem
   atomicBy CasPair m x pc base mem covered =
-      execCasPair xlen (m .rd) (x (m .rs1)) (pairAt x (m .rd)) (pairAt x (m .rs2)) pc base mem
+      execCasPair xlen (m .width) (m .rd) (x (m .rs1)) (pairAt (m .width) x (m .rd)) (pairAt (m .width) x (m .rs2)) pc base mem
   atomicBy (Rmw op) m x pc base mem covered = execAmo xlen op (m .width) (m .rd) (x (m .rs1)) (x (m .rs2)) pc base mem
 
   unfoldable pub execAtomic : Atomic → (ℕ → ℕ) → ℕ → ℕ → List ℕ → (ℕ → ℕ → Bool) → Exec
@@ -42,7 +45,7 @@ module _ (xlen : ℕ) where
   execute Ecall word x pc base mem covered = trap 8 0
   execute Ebreak word x pc base mem covered = trap 3 0
   execute (Fence rd rs1 imm) word x pc base mem covered = effect none (nextPc xlen pc) nothing
-  execute (Lui rd imm) word x pc base mem covered = sets xlen rd imm pc
+  execute (Lui rd imm) word x pc base mem covered = sets xlen rd (low xlen imm) pc
   execute (Auipc rd imm) word x pc base mem covered = sets xlen rd (offset xlen pc imm) pc
   execute (Jal rd imm) word x pc base mem covered = execJump xlen rd (offset xlen pc imm) pc
   execute (Jalr rd rs1 imm) word x pc base mem covered = execJump xlen rd (clearBit0 (offset xlen (x rs1) imm)) pc
@@ -58,4 +61,4 @@ module _ (xlen : ℕ) where
 
   -- what a word does
   unfoldable pub executeWord : ℕ → (ℕ → ℕ) → ℕ → ℕ → List ℕ → (ℕ → ℕ → Bool) → Exec
-  executeWord word x pc base mem covered = execute (decodeOf word) word x pc base mem covered
+  executeWord word x pc base mem covered = execute (decodeAt xlen word) word x pc base mem covered

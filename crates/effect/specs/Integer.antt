@@ -1,5 +1,5 @@
 -- Integer operations, jumps and branches, at a register width of xlen bits.
--- RULES: `computed` 4.1.4; `execJump`, `clearBit0`, `holdsOf`, `execBranch` 4.3.
+-- RULES: `computed` 4.1.4; `execJump`, `clearBit0`, `holdsBy`, `holdsOf`, `execBranch` 4.3.
 use Prim.Native.Nat.{ℕ, _*_, _/_, _%_}
 use mathlib.Core.Bool.{Bool, cond, not}
 use lib.Dec.{eqb, ltb}
@@ -20,14 +20,18 @@ module _ (xlen : ℕ) where
   unfoldable pub execJump : ℕ → ℕ → ℕ → Exec
   execJump rd to pc = cond (eqb (to % 4) 0) (effect (one rd (nextPc xlen pc)) to nothing) (trap 0 to)
 
-  -- the branch is taken
+  -- the branch is taken, by two numbers of xlen bits
+  abbrev pub holdsBy : BranchOp → ℕ → ℕ → Bool
+  holdsBy Eq a b = eqb a b
+  holdsBy Ne a b = not (eqb a b)
+  holdsBy Lt a b = ltZ (toInt xlen a) (toInt xlen b)
+  holdsBy Ge a b = not (ltZ (toInt xlen a) (toInt xlen b))
+  holdsBy Ltu a b = ltb a b
+  holdsBy Geu a b = not (ltb a b)
+
+  -- the same by the values of two registers
   unfoldable pub holdsOf : BranchOp → ℕ → ℕ → Bool
-  holdsOf Eq a b = eqb a b
-  holdsOf Ne a b = not (eqb a b)
-  holdsOf Lt a b = ltZ (toInt xlen a) (toInt xlen b)
-  holdsOf Ge a b = not (ltZ (toInt xlen a) (toInt xlen b))
-  holdsOf Ltu a b = ltb a b
-  holdsOf Geu a b = not (ltb a b)
+  holdsOf op a b = holdsBy op (low xlen a) (low xlen b)
 
   unfoldable pub execBranch : Bool → ℕ → ℕ → Exec
   execBranch taken to pc =

@@ -5,7 +5,7 @@ use mathlib.Core.Bool.{cond}
 use mathlib.Core.List.{List}
 use lib.ListN.{length}
 use lib.Dec.{eqb}
-use Rattle.word.specs.Word.{signExtend}
+use Rattle.word.specs.Word.{low, signExtend}
 use Rattle.word.specs.Bytes.{le, toLe}
 use Rattle.word.specs.Memory.{part}
 use Rattle.reserve.specs.Range.{insideOf}
@@ -45,15 +45,15 @@ storeBytes Sw = 4
 storeBytes Sd = 8
 
 module _ (xlen : ℕ) where
-  -- 01: "loads sign-extend the same way"
+  -- 01: "loads sign-extend the same way"; those of unsigned numbers have zeros above what they load, and so has LD
   abbrev pub extended : LoadOp → ℕ → ℕ
   extended Lb v = signExtend xlen 8 v
   extended Lh v = signExtend xlen 16 v
   extended Lw v = signExtend xlen 32 v
-  extended Ld v = v
-  extended Lbu v = v
-  extended Lhu v = v
-  extended Lwu v = v
+  extended Ld v = low 64 v
+  extended Lbu v = low 8 v
+  extended Lhu v = low 16 v
+  extended Lwu v = low 32 v
 
   unfoldable pub execLoad : LoadOp → ℕ → ℕ → ℕ → ℕ → List ℕ → Exec
   execLoad op rd a pc base mem =

@@ -211,7 +211,7 @@ pub fn first(number: u64) -> Case
     }
 }
 
-// Setting 0 is the size of a reservation's set; there is no other yet.
+// Setting 0 is the size of a reservation's set, 1 the version of A, and 2 the kind of core.
 fn set_setting(s: State, n: u64, v: u64) -> State
     ensures { λ r. ⌜ r ≡ withSetting s n v ⌝ }
 {
@@ -219,6 +219,7 @@ fn set_setting(s: State, n: u64, v: u64) -> State
     match n {
         0 => settings.size = v,
         1 => settings.version = v,
+        2 => settings.kind = v,
         _ => {}
     }
     let mut t = s;

@@ -55,6 +55,7 @@ fn number_line(label: &[u8], before: u64, after: u64) {
 fn settings(before: Settings, after: Settings) {
     number_line(b"size ", before.size, after.size);
     number_line(b"version ", before.version, after.version);
+    number_line(b"kind ", before.kind, after.kind);
 }
 
 fn register(i: usize, before: u64, after: u64) {

@@ -1,6 +1,7 @@
 // LR, SC, AMO and AMOCAS of hart h. Those that write lend on only the bytes that they name.
 use crate::memory::fault;
 use crate::retire;
+use alu::integer::add;
 use alu::swap::Pair;
 use effect::Done;
 use effect::Effect;
@@ -8,6 +9,7 @@ use isa::AmoOp;
 use isa::Width;
 use isa::bits_of;
 use isa::bytes_of;
+use isa::pair_bytes_of;
 use reserve::Notice;
 use reserve::Reservation;
 use settings::Settings;
@@ -17,14 +19,17 @@ use word::num::sign_extend;
 use word::num::wrap;
 ghost use mathlib.Core.Path.{_≡_};
 ghost use mathlib.Core.Bool.{cond};
+ghost use Prim.Native.Nat.{_≤_, _<_, _^_};
 ghost use Rattle.settings.specs.Settings.{SizeRules};
 ghost use Rattle.reserve.specs.Reserve.{coversOf};
+ghost use Rattle.isa.specs.Width.{bitsOf};
 ghost use Rattle.alu.specs.Pair.{joined};
 ghost use Rattle.effect.specs.Effect.{retired, doneOf, Meets, nextPc};
 ghost use Rattle.effect.specs.Atomic.{pairWrites, execLr, execSc, execAmo, execCas, execCasPair};
 
-pub fn lr(w: Width, rd: usize, a: u64, pc: u64, base: u64, h: usize, mem: &[u8]) -> Done
-    ensures { λ r. ⌜ r ≡ doneOf h (execLr 64 w rd a pc base (now (mem .entry))) ⌝ }
+pub fn lr(xlen: u32, w: Width, rd: usize, a: u64, pc: u64, base: u64, h: usize, mem: &[u8]) -> Done
+    requires { ⌜ (bitsOf w ≤ xlen) × (xlen ≤ 64) ⌝ }
+    ensures { λ r. ⌜ r ≡ doneOf h (execLr xlen w rd a pc base (now (mem .entry))) ⌝ }
 {
     let n = bytes_of(w);
     let cause = fault(4, 5, a, n, base, mem.len());
@@ -32,8 +37,9 @@ pub fn lr(w: Width, rd: usize, a: u64, pc: u64, base: u64, h: usize, mem: &[u8])
         return Done::Trap { cause, value: a };
     }
     let v = load_at(mem, (a - base) as usize, n);
-    let value = sign_extend(v, bits_of(w));
+    let value = sign_extend(v, bits_of(w), xlen);
     retire(
+        xlen,
         rd,
         value,
         pc,
@@ -47,6 +53,7 @@ pub fn lr(w: Width, rd: usize, a: u64, pc: u64, base: u64, h: usize, mem: &[u8])
 
 // Checked as a store is, whatever the hart's reservation res; then the set of the reservation decides, at a size that is allowed.
 pub fn sc(
+    xlen: u32,
     w: Width,
     rd: usize,
     a: u64,
@@ -58,8 +65,8 @@ pub fn sc(
     res: Reservation,
     mem: &mut [u8],
 ) -> Done
-    requires { ⌜ SizeRules settings ⌝ }
-    ensures { λ r. ⌜ Meets h (execSc 64 w rd a v pc base (now (mem .entry)) (coversOf settings res)) base (now (mem .entry)) r (now (mem .exit)) ⌝ }
+    requires { ⌜ (xlen ≤ 64) × SizeRules settings ⌝ }
+    ensures { λ r. ⌜ Meets h (execSc xlen w rd a v pc base (now (mem .entry)) (coversOf settings res)) base (now (mem .entry)) r (now (mem .exit)) ⌝ }
 {
     let n = bytes_of(w);
     let cause = fault(6, 7, a, n, base, mem.len());
@@ -69,6 +76,7 @@ pub fn sc(
     if reserve::covers(settings, res, a, n as u64) {
         store_at(mem, (a - base) as usize, n, v);
         return retire(
+            xlen,
             rd,
             0,
             pc,
@@ -79,10 +87,11 @@ pub fn sc(
             },
         );
     }
-    retire(rd, 1, pc, Notice::ScFailed { hart: h })
+    retire(xlen, rd, 1, pc, Notice::ScFailed { hart: h })
 }
 
 pub fn amo(
+    xlen: u32,
     op: AmoOp,
     w: Width,
     rd: usize,
@@ -93,7 +102,8 @@ pub fn amo(
     h: usize,
     mem: &mut [u8],
 ) -> Done
-    ensures { λ r. ⌜ Meets h (execAmo 64 op w rd a v pc base (now (mem .entry))) base (now (mem .entry)) r (now (mem .exit)) ⌝ }
+    requires { ⌜ (bitsOf w ≤ xlen) × (xlen ≤ 64) ⌝ }
+    ensures { λ r. ⌜ Meets h (execAmo xlen op w rd a v pc base (now (mem .entry))) base (now (mem .entry)) r (now (mem .exit)) ⌝ }
 {
     let n = bytes_of(w);
     let bits = bits_of(w);
@@ -104,8 +114,9 @@ pub fn amo(
     let operand = wrap(v, bits);
     let old = alu::atomic::modify_at(mem, (a - base) as usize, op, w, operand);
     retire(
+        xlen,
         rd,
-        sign_extend(old, bits),
+        sign_extend(old, bits, xlen),
         pc,
         Notice::Write {
             hart: h,
@@ -129,8 +140,9 @@ fn swap_notice(equal: bool, h: usize, a: u64, n: usize) -> Notice
     Notice::Quiet
 }
 
-// AMOCAS.W and AMOCAS.D. W compares with the low half of want.
+// AMOCAS.W, and AMOCAS.D where registers have 64 bits. W compares with the low half of want.
 pub fn cas(
+    xlen: u32,
     w: Width,
     rd: usize,
     a: u64,
@@ -141,7 +153,8 @@ pub fn cas(
     h: usize,
     mem: &mut [u8],
 ) -> Done
-    ensures { λ r. ⌜ Meets h (execCas 64 w rd a want new pc base (now (mem .entry))) base (now (mem .entry)) r (now (mem .exit)) ⌝ }
+    requires { ⌜ (bitsOf w ≤ xlen) × (xlen ≤ 64) ⌝ }
+    ensures { λ r. ⌜ Meets h (execCas xlen w rd a want new pc base (now (mem .entry))) base (now (mem .entry)) r (now (mem .exit)) ⌝ }
 {
     let n = bytes_of(w);
     let bits = bits_of(w);
@@ -151,30 +164,33 @@ pub fn cas(
     }
     let least = wrap(want, bits);
     let old = alu::swap::compare_swap_at(mem, (a - base) as usize, n, least, new);
-    let value = sign_extend(old, bits);
-    retire(rd, value, pc, swap_notice(old == least, h, a, n))
+    let value = sign_extend(old, bits, xlen);
+    retire(xlen, rd, value, pc, swap_notice(old == least, h, a, n))
 }
 
-// A pair of registers is set, unless it starts at x0, and the next word comes next.
-fn retire_pair(rd: usize, old: Pair, pc: u64, notice: Notice) -> Done
-    ensures { λ r. ⌜ r ≡ retired (pairWrites rd (joined old)) (nextPc 64 pc) notice ⌝ }
+// A pair of registers is set, each half of width w, unless it starts at x0, and the next word comes next.
+fn retire_pair(xlen: u32, w: Width, rd: usize, old: Pair, pc: u64, notice: Notice) -> Done
+    requires { ⌜ (xlen ≤ 64) × (old .low < 2 ^ bitsOf w) × (old .high < 2 ^ bitsOf w) ⌝ }
+    ensures { λ r. ⌜ r ≡ retired (pairWrites w rd (joined w old)) (nextPc xlen pc) notice ⌝ }
 {
     let first = rd % 32;
     if first == 0 {
-        return retire(0, 0, pc, notice);
+        return retire(xlen, 0, 0, pc, notice);
     }
     Done::Retired(Effect {
         rd: first,
         value: old.low,
         rd2: first + 1,
         value2: old.high,
-        next: std::num::wrapping_add_u64(pc, 4),
+        next: add(pc, 4, xlen),
         notice,
     })
 }
 
-// AMOCAS.Q.
+// AMOCAS.Q, and AMOCAS.D where registers have 32 bits.
 pub fn cas_pair(
+    xlen: u32,
+    w: Width,
     rd: usize,
     a: u64,
     want: Pair,
@@ -184,13 +200,15 @@ pub fn cas_pair(
     h: usize,
     mem: &mut [u8],
 ) -> Done
-    ensures { λ r. ⌜ Meets h (execCasPair 64 rd a (joined want) (joined new) pc base (now (mem .entry))) base (now (mem .entry)) r (now (mem .exit)) ⌝ }
+    requires { ⌜ (xlen ≤ 64) × (want .low < 2 ^ bitsOf w) × (new .low < 2 ^ bitsOf w) ⌝ }
+    ensures { λ r. ⌜ Meets h (execCasPair xlen w rd a (joined w want) (joined w new) pc base (now (mem .entry))) base (now (mem .entry)) r (now (mem .exit)) ⌝ }
 {
-    let cause = fault(6, 7, a, 16, base, mem.len());
+    let n = pair_bytes_of(w);
+    let cause = fault(6, 7, a, n, base, mem.len());
     if cause != 0 {
         return Done::Trap { cause, value: a };
     }
-    let old = alu::swap::compare_swap_pair_at(mem, (a - base) as usize, want, new);
-    let equal = alu::swap::same(old, want);
-    retire_pair(rd, old, pc, swap_notice(equal, h, a, 16))
+    let old = alu::swap::compare_swap_pair_at(mem, (a - base) as usize, w, want, new);
+    let equal = alu::swap::same(w, old, want);
+    retire_pair(xlen, w, rd, old, pc, swap_notice(equal, h, a, n))
 }

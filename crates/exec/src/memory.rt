@@ -8,7 +8,7 @@ use word::bytes::load_at;
 use word::bytes::store_at;
 use word::num::sign_extend;
 ghost use mathlib.Core.Path.{_≡_};
-ghost use Prim.Native.Nat.{ℕ, _≤_, _<_};
+ghost use Prim.Native.Nat.{ℕ, _*_, _≤_, _<_, _^_};
 ghost use Rattle.effect.specs.Effect.{doneOf, Meets};
 ghost use Rattle.effect.specs.Memory.{faultOf, loadBytes, extended, execLoad, storeBytes, execStore};
 
@@ -40,13 +40,15 @@ fn load_bytes(op: LoadOp) -> usize
     }
 }
 
-fn extend(op: LoadOp, v: u64) -> u64
-    ensures { λ r. ⌜ r ≡ extended 64 op v ⌝ }
+// What was loaded, as a register has it.
+fn extend(xlen: u32, op: LoadOp, v: u64) -> u64
+    requires { ⌜ (8 * loadBytes op ≤ xlen) × (xlen ≤ 64) × (v < 256 ^ loadBytes op) ⌝ }
+    ensures { λ r. ⌜ r ≡ extended xlen op v ⌝ }
 {
     match op {
-        LoadOp::Lb => sign_extend(v, 8),
-        LoadOp::Lh => sign_extend(v, 16),
-        LoadOp::Lw => sign_extend(v, 32),
+        LoadOp::Lb => sign_extend(v, 8, xlen),
+        LoadOp::Lh => sign_extend(v, 16, xlen),
+        LoadOp::Lw => sign_extend(v, 32, xlen),
         LoadOp::Ld => v,
         LoadOp::Lbu => v,
         LoadOp::Lhu => v,
@@ -55,8 +57,9 @@ fn extend(op: LoadOp, v: u64) -> u64
 }
 
 // The answer is the same for every hart h.
-pub fn load(op: LoadOp, rd: usize, a: u64, pc: u64, base: u64, mem: &[u8]) -> Done
-    ensures { λ r. ⌜ ((h : ℕ) → r ≡ doneOf h (execLoad 64 op rd a pc base (now (mem .entry)))) ⌝ }
+pub fn load(xlen: u32, op: LoadOp, rd: usize, a: u64, pc: u64, base: u64, mem: &[u8]) -> Done
+    requires { ⌜ (8 * loadBytes op ≤ xlen) × (xlen ≤ 64) ⌝ }
+    ensures { λ r. ⌜ ((h : ℕ) → r ≡ doneOf h (execLoad xlen op rd a pc base (now (mem .entry)))) ⌝ }
 {
     let n = load_bytes(op);
     let cause = fault(4, 5, a, n, base, mem.len());
@@ -64,7 +67,7 @@ pub fn load(op: LoadOp, rd: usize, a: u64, pc: u64, base: u64, mem: &[u8]) -> Do
         return Done::Trap { cause, value: a };
     }
     let v = load_at(mem, (a - base) as usize, n);
-    retire(rd, extend(op, v), pc, Notice::Quiet)
+    retire(xlen, rd, extend(xlen, op, v), pc, Notice::Quiet)
 }
 
 fn store_bytes(op: StoreOp) -> usize
@@ -79,8 +82,18 @@ fn store_bytes(op: StoreOp) -> usize
 }
 
 // A store of hart h.
-pub fn store(op: StoreOp, a: u64, v: u64, pc: u64, base: u64, h: usize, mem: &mut [u8]) -> Done
-    ensures { λ r. ⌜ Meets h (execStore 64 op a v pc base (now (mem .entry))) base (now (mem .entry)) r (now (mem .exit)) ⌝ }
+pub fn store(
+    xlen: u32,
+    op: StoreOp,
+    a: u64,
+    v: u64,
+    pc: u64,
+    base: u64,
+    h: usize,
+    mem: &mut [u8],
+) -> Done
+    requires { ⌜ xlen ≤ 64 ⌝ }
+    ensures { λ r. ⌜ Meets h (execStore xlen op a v pc base (now (mem .entry))) base (now (mem .entry)) r (now (mem .exit)) ⌝ }
 {
     let n = store_bytes(op);
     let cause = fault(6, 7, a, n, base, mem.len());
@@ -89,6 +102,7 @@ pub fn store(op: StoreOp, a: u64, v: u64, pc: u64, base: u64, h: usize, mem: &mu
     }
     store_at(mem, (a - base) as usize, n, v);
     retire(
+        xlen,
         0,
         0,
         pc,

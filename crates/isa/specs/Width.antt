@@ -1,5 +1,5 @@
 -- The widths of atomic instructions: funct3 2 is W, 3 is D.
--- RULES 4.4.
+-- RULES 4.4; `pairBytes` 4.8.
 use Prim.Native.Nat.{ℕ}
 use Rattle.isa.specs.declared.Width.{Width}
 use Rattle.isa.specs.declared.Width.the-variants.{Word, Double}
@@ -11,3 +11,8 @@ bitsOf Double = 64
 abbrev pub bytesOf : Width → ℕ
 bytesOf Word = 4
 bytesOf Double = 8
+
+-- of a pair of such: AMOCAS.Q moves a pair of doublewords, and AMOCAS.D of RV32 one of words
+abbrev pub pairBytes : Width → ℕ
+pairBytes Word = 8
+pairBytes Double = 16

@@ -48,13 +48,13 @@ pub fn funct7(word: u32) -> u32
 pub fn imm_i(word: u32) -> u64
     ensures { λ r. ⌜ r ≡ immI word ⌝ }
 {
-    word::num::sign_extend((word >> 20) as u64, 12)
+    word::num::sign_extend((word >> 20) as u64, 12, 64)
 }
 
 pub fn imm_s(word: u32) -> u64
     ensures { λ r. ⌜ r ≡ immS word ⌝ }
 {
-    word::num::sign_extend(((word >> 25) * 32 + (word >> 7) % 32) as u64, 12)
+    word::num::sign_extend(((word >> 25) * 32 + (word >> 7) % 32) as u64, 12, 64)
 }
 
 // Bits 11 to 0 of a branch's offset.
@@ -67,13 +67,13 @@ fn low_b(word: u32) -> u32
 pub fn imm_b(word: u32) -> u64
     ensures { λ r. ⌜ r ≡ immB word ⌝ }
 {
-    word::num::sign_extend(((word >> 31) * 4096 + low_b(word)) as u64, 13)
+    word::num::sign_extend(((word >> 31) * 4096 + low_b(word)) as u64, 13, 64)
 }
 
 pub fn imm_u(word: u32) -> u64
     ensures { λ r. ⌜ r ≡ immU word ⌝ }
 {
-    word::num::sign_extend(((word >> 12) * 4096) as u64, 32)
+    word::num::sign_extend(((word >> 12) * 4096) as u64, 32, 64)
 }
 
 // Bits 19 to 0 of a jump's offset.
@@ -86,5 +86,5 @@ fn low_j(word: u32) -> u32
 pub fn imm_j(word: u32) -> u64
     ensures { λ r. ⌜ r ≡ immJ word ⌝ }
 {
-    word::num::sign_extend(((word >> 31) * 1048576 + low_j(word)) as u64, 21)
+    word::num::sign_extend(((word >> 31) * 1048576 + low_j(word)) as u64, 21, 64)
 }

@@ -1,13 +1,15 @@
 // The instructions of RV64I (without FENCE.I and CSRs), A 2.1 and Zacas, and their decoder.
 ghost use mathlib.Core.Path.{_≡_};
 ghost use Prim.Native.Nat.{_≤_, _<_};
-ghost use Rattle.isa.specs.Width.{bitsOf, bytesOf};
+ghost use Rattle.isa.specs.Width.{bitsOf, bytesOf, pairBytes};
 ghost use Rattle.isa.specs.Decode.{decodeOf};
+ghost use Rattle.isa.specs.Narrow.{decodeAt};
 
 mod amo;
 mod base;
 pub mod class;
 pub mod fields;
+pub mod narrow;
 mod ops;
 mod tables;
 
@@ -64,7 +66,7 @@ pub enum AmoOp {
     Maxu,
 }
 
-// CasPair compares and swaps a pair of registers: AMOCAS.Q.
+// CasPair compares and swaps a pair of registers: AMOCAS.Q, and AMOCAS.D of RV32.
 pub enum AtomicOp {
     Lr,
     Sc,
@@ -182,6 +184,16 @@ pub fn bytes_of(w: Width) -> usize
     }
 }
 
+// The bytes of a pair of such.
+pub fn pair_bytes_of(w: Width) -> usize
+    ensures { λ r. ⌜ (r ≡ pairBytes w) × (0 < r) × (r ≤ 16) ⌝ }
+{
+    match w {
+        Width::Word => 8,
+        Width::Double => 16,
+    }
+}
+
 // What a word is; Illegal is every word that document 01 gives cause 2. That AMO is asked for apart, before the others, saves time: in memory its instruction
 // has fields of one byte where every other has a number of 8, and one match that made both would have the compiler merge the two layouts for every word.
 pub fn decode(word: u32) -> Instr
@@ -210,4 +222,14 @@ pub fn decode(word: u32) -> Instr
         class::SYSTEM => base::system(word),
         _ => Instr::Illegal,
     }
+}
+
+// What a word is where registers have so many bits, 32 or 64. The width is asked for first, so that at 64 the decoder's answer isn't copied.
+pub fn decode_at(word: u32, xlen: u32) -> Instr
+    ensures { λ r. ⌜ r ≡ decodeAt xlen word ⌝ }
+{
+    if xlen == 32 {
+        return narrow::narrow(decode(word));
+    }
+    decode(word)
 }

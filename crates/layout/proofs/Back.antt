@@ -250,7 +250,7 @@ module _ (bytes : List ℕ) (whole : length bytes ≡ stateSize) (s : State) (sh
 
   -- so they are the same settings
   settings-same : settingsIn (stateOver bytes s) ≡ settingsIn bytes
-  settings-same = rw (settings-kept 2312 8 (omega arith), settings-kept 2320 8 (omega arith))
+  settings-same = rw (settings-kept 2312 8 (omega arith), settings-kept 2320 8 (omega arith), settings-kept 2328 8 (omega arith))
 
   -- a register or a pc that has the value its bytes had keeps its bytes
   module _ (isBytes : IsBytes bytes) where

@@ -1,4 +1,4 @@
--- A state as 2328 bytes. Every number has 8 bytes, the lowest first:
+-- A state as 2336 bytes. Every number has 8 bytes, the lowest first:
 --
 --      0   the count of harts
 --      8   x: register r of hart h at 8 + 8 * (32 * h + r)
@@ -6,6 +6,7 @@
 --   2120   reservations: that of hart h at 2120 + 24 * h, three numbers: held (0 for none, any other number for one), address, width
 --   2312   the size of a reservation's set
 --   2320   the version of A
+--   2328   the kind of the core
 use Prim.Native.Nat.{ℕ, zero, suc, _+_, _*_}
 use mathlib.Core.List.{List, [], _∷_, _++_}
 use lib.ListN.{take}
@@ -20,7 +21,7 @@ use Rattle.reserve.specs.declared.Slot.{Slot}
 use Rattle.machine.specs.declared.State.{State}
 
 abbrev pub stateSize : ℕ
-stateSize = 2328
+stateSize = 2336
 
 -- ---- what the bytes mean
 
@@ -38,6 +39,7 @@ settingsIn bytes =
     record {
       size = wordAt bytes 2312;
       version = wordAt bytes 2320;
+      kind = wordAt bytes 2328;
     }
 
 -- f 0, f 1 and so on: n elements

@@ -6,11 +6,11 @@ use native.Mathlib.Omega.{arith}
 use lib.ListN.{length, getD}
 use Rattle.reserve.specs.Range.{insideOf}
 use Rattle.reserve.proofs.RangeLaws.{of-inside}
-use Rattle.isa.specs.Decode.{decodeOf}
+use Rattle.isa.specs.Narrow.{decodeAt}
 use Rattle.effect.specs.Memory.{valueAt}
 use Rattle.effect.specs.Execute.{regAt}
 use Rattle.events.specs.declared.Event.the-variants.{Step}
-use Rattle.model.specs.Perform.{Machine, answerOf, outcomeAt, nextOf}
+use Rattle.model.specs.Perform.{Machine, xlen, answerOf, outcomeAt, nextOf}
 use Rattle.model.specs.Retired.{IsRetired}
 use Rattle.model.specs.declared.Answer.{Answer}
 use Rattle.model.specs.declared.Outcome.{Outcome}
@@ -43,8 +43,8 @@ module _ (base : ℕ) (m : Machine) (h : ℕ) where
         hart = h;
         pc = getD (m .state .pc) (h % 8) 0;
         word = word;
-        rd = shownRd (decodeOf word);
-        value = regAt (a .state .x) (h % 8) (shownRd (decodeOf word));
+        rd = shownRd (decodeAt (xlen m) word);
+        value = regAt (a .state .x) (h % 8) (shownRd (decodeAt (xlen m) word));
       }
 
   abbrev Fetched : ℕ → ℕ → Type 0

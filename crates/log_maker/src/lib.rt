@@ -9,7 +9,7 @@ ghost use mathlib.Core.Bool.{true};
 ghost use Prim.Native.Nat.{_%_};
 ghost use lib.ListN.{length, getD};
 ghost use Rattle.reserve.specs.Range.{insideOf};
-ghost use Rattle.isa.specs.Decode.{decodeOf};
+ghost use Rattle.isa.specs.Narrow.{decodeAt};
 ghost use Rattle.effect.specs.Memory.{valueAt};
 ghost use Rattle.effect.specs.Execute.{regAt};
 ghost use Rattle.events.specs.declared.Event.the-variants.{Step};
@@ -63,17 +63,17 @@ fn shown_rd(i: Instr) -> usize
     }
 }
 
-// The row of a step: pc and word are those before it, the registers those after it.
-fn row_of(pc: &[u64; 8], x: &[u64; 256], h: usize, word: u32) -> Row
+// The row of a step, where registers have xlen bits: pc and word are those before it, the registers those after it.
+fn row_of(xlen: u32, pc: &[u64; 8], x: &[u64; 256], h: usize, word: u32) -> Row
     ensures { λ r. ⌜ r ≡ record {
       hart = h;
       pc = getD (now (pc .entry)) (h % 8) 0;
       word = word;
-      rd = shownRd (decodeOf word);
-      value = regAt (now (x .entry)) (h % 8) (shownRd (decodeOf word));
+      rd = shownRd (decodeAt xlen word);
+      value = regAt (now (x .entry)) (h % 8) (shownRd (decodeAt xlen word));
     } ⌝ }
 {
-    let rd = shown_rd(isa::decode(word));
+    let rd = shown_rd(isa::decode_at(word, xlen));
     let value = dispatch::reg(x, h % 8, rd);
     Row {
         hart: h,
@@ -104,12 +104,13 @@ pub fn make_row(s: State, base: u64, mem: &mut [u8], h: usize) -> MadeStep
     ensures { λ _. ⌜ now (mem .exit) ≡ nextOf base (record { state = s; mem = now (mem .entry) }) (Step h) .mem ⌝ }
 {
     let pc = s.pc;
+    let xlen = settings::xlen(s.settings);
     let word = word_of(&pc, h, base, mem);
     let a = model::step(s, base, mem, h);
     let outcome = a.outcome;
     let state = a.state;
     let x = state.x;
-    let row = row_of(&pc, &x, h, word);
+    let row = row_of(xlen, &pc, &x, h, word);
     let made = made_by(outcome, row);
     MadeStep { made, state }
 }

@@ -3,7 +3,8 @@ ghost use mathlib.Core.Path.{_≡_};
 ghost use Prim.Native.Nat.{_<_, _≤_};
 ghost use Rattle.word.specs.Each.{allBelow};
 ghost use Rattle.settings.specs.Settings.{SizeRules};
-ghost use Rattle.machine.specs.State.{lentOk, memoryOk, reservationOk, hartOk, hartAt, refusalOf};
+ghost use Rattle.machine.specs.State.{lentOk, topOk, memoryOk, reservationOk, hartOk, upperOk, hartAt, refusalOf};
+ghost use Rattle.machine.specs.Rules.{LentRules};
 use reserve::Reservation;
 use reserve::Slot;
 use settings::Settings;
@@ -30,6 +31,17 @@ fn lent_ok(settings: Settings, base: u64, len: usize) -> bool
                 & ((remainder(base, granule) == 0) & (base <= 1099511627776))))
 }
 
+// Whether the end of such a memory is an address of the core's width, or one past the last. At 64 bits it always is.
+pub fn top_ok(settings: Settings, base: u64, len: usize) -> bool
+    requires { ⌜ LentRules settings base len ⌝ }
+    ensures { λ r. ⌜ r ≡ topOk settings base len ⌝ }
+{
+    if settings::xlen(settings) == 32 {
+        return base + (len as u64) <= 4294967296;
+    }
+    true
+}
+
 // Whether refusal 1 does not apply. The size is tried first: the rest needs it.
 fn memory_ok(settings: Settings, base: u64, len: usize) -> bool
     ensures { λ r. ⌜ r ≡ memoryOk settings base len ⌝ }
@@ -37,32 +49,54 @@ fn memory_ok(settings: Settings, base: u64, len: usize) -> bool
     if !settings::size_ok(settings) {
         return false;
     }
-    lent_ok(settings, base, len)
+    if lent_ok(settings, base, len) {
+        return top_ok(settings, base, len);
+    }
+    false
 }
 
-fn reservation_ok(base: u64, len: usize, r: Reservation) -> bool
-    ensures { λ t. ⌜ t ≡ reservationOk base len r ⌝ }
+fn reservation_ok(settings: Settings, base: u64, len: usize, r: Reservation) -> bool
+    ensures { λ t. ⌜ t ≡ reservationOk settings base len r ⌝ }
 {
     match r {
         Reservation::None => true,
         Reservation::Held { addr, width } => {
             if (width == 4) | (width == 8) {
-                return (remainder(addr, width) == 0)
-                    & reserve::inside(base, len as u64, addr, width);
+                return (8 * width <= settings::xlen(settings) as u64)
+                    & ((remainder(addr, width) == 0)
+                        & reserve::inside(base, len as u64, addr, width));
             }
             false
         }
     }
 }
 
-fn hart_ok(base: u64, len: usize, x0: u64, pc: u64, r: Reservation) -> bool
-    ensures { λ t. ⌜ t ≡ hartOk base len x0 pc r ⌝ }
+fn hart_ok(settings: Settings, base: u64, len: usize, x0: u64, pc: u64, r: Reservation) -> bool
+    ensures { λ t. ⌜ t ≡ hartOk settings base len x0 pc r ⌝ }
 {
-    (x0 == 0) & ((pc % 4 == 0) & reservation_ok(base, len, r))
+    (x0 == 0) & ((pc % 4 == 0) & reservation_ok(settings, base, len, r))
+}
+
+// Whether hart k's registers and pc have no upper half, which only the 32-bit core asks. All 32 are looked at without a branch.
+fn upper_ok<'a>(settings: Settings, x: &'a [u64; 256], pc: &'a [u64; 8], k: usize) -> bool
+    requires { ⌜ k < 8 ⌝ }
+    ensures { λ t. ⌜ t ≡ upperOk settings (now (x .entry)) (now (pc .entry)) k ⌝ }
+{
+    if settings::xlen(settings) != 32 {
+        return true;
+    }
+    let mut ok = true;
+    let mut r: usize = 0;
+    while r < 32 {
+        ok = ok & (x[k * 32 + r] < 4294967296);
+        r += 1;
+    }
+    ok & (pc[k] < 4294967296)
 }
 
 // Whether each of the first count harts is well formed.
 fn harts_ok<'a>(
+    settings: Settings,
     base: u64,
     len: usize,
     count: usize,
@@ -71,13 +105,13 @@ fn harts_ok<'a>(
     res: [Slot; 8],
 ) -> bool
     requires { ⌜ count ≤ 8 ⌝ }
-    ensures { λ t. ⌜ t ≡ allBelow (hartAt base len (now (x .entry)) (now (pc .entry)) res) count ⌝ }
+    ensures { λ t. ⌜ t ≡ allBelow (hartAt settings base len (now (x .entry)) (now (pc .entry)) res) count ⌝ }
 {
     let mut k: usize = 0;
     while k < count {
         let s = res[k];
         let r = s.reservation;
-        if !hart_ok(base, len, x[k * 32], pc[k], r) {
+        if !(hart_ok(settings, base, len, x[k * 32], pc[k], r) & upper_ok(settings, x, pc, k)) {
             return false;
         }
         k += 1;
@@ -106,10 +140,10 @@ pub fn refusal<'a>(
     if 8 < count {
         return 2;
     }
-    if !settings::version_ok(settings) {
+    if !settings::reading_ok(settings) {
         return 2;
     }
-    if harts_ok(base, len, count, x, pc, res) {
+    if harts_ok(settings, base, len, count, x, pc, res) {
         0
     } else {
         2

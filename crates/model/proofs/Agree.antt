@@ -3,21 +3,21 @@
 use mathlib.Core.Path.{_≡_, refl, sym, ap, ap₂, _∙_, subst, fun-ext}
 use mathlib.Core.List.{List, [], _∷_}
 use Prim.Native.Nat.{ℕ, zero, suc, _+_, _*_, _%_, _≤_, _<_}
-use native.Mathlib.Nat.{add-zero}
+use native.Mathlib.Nat.{add-zero, mod-eq-of-lt}
 use native.Mathlib.Omega.{arith}
 use lib.Dec.{eqb, ltb}
 use lib.ListN.{length, getD, set, take}
 use borrow.Author.Tests.{ltb-true}
 use Rattle.word.specs.Each.{each}
 use Rattle.word.proofs.TestLaws.{bool-cases, contrary}
-use Rattle.settings.specs.Settings.{VersionRules}
+use Rattle.settings.specs.Settings.{ReadingRules, xlenOf}
 use Rattle.settings.specs.declared.Settings.{Settings}
 use Rattle.reserve.specs.Reserve.{slot, observeSlot, brokenOf, observeAllOf}
 use Rattle.reserve.specs.declared.Reservation.the-variants.{None}
 use Rattle.reserve.specs.declared.Slot.{Slot}
 use Rattle.reserve.specs.declared.Notice.{Notice}
 use Rattle.reserve.specs.declared.Notice.the-variants.{DeviceWrite, Yield}
-use Rattle.machine.specs.Rules.{Shaped, StateRules}
+use Rattle.machine.specs.Rules.{Shaped, StateRules, UpperZero}
 use Rattle.machine.specs.State.{stateOk, refusalOf}
 use Rattle.machine.specs.declared.State.{State}
 use Rattle.machine.proofs.StateLaws.{state-exact}
@@ -138,6 +138,11 @@ module _ (s t : State) (a : Agree s t) where
 
 -- ---- refusals 1 and 2
 
+upper-agree : (s t : State) → Agree s t → (k : ℕ) → k < s .count → UpperZero s k → UpperZero t k
+unfolding regAt
+upper-agree s t a k l u =
+    (λ r small. rw (rw (mod-eq-of-lt small) at (a .registers k l r)) at (u .0 r small), rw (a .pcs k l) at (u .1))
+
 module _ (base len : ℕ) where
   rules-agree : (s t : State) → Agree s t → StateRules base len s → StateRules base len t
   unfolding regAt
@@ -150,9 +155,10 @@ module _ (base len : ℕ) where
         let x0 = a .registers k l 0 in (
           sym (rw add-zero at x0) ∙ h .0,
           rw (a .pcs k l) at h .1,
-          rw (a .reservations k l) at h .2,
+          rw (a .reservations k l, a .settings) at h .2,
+          λ e. upper-agree s t a k l (h .3 (ap xlenOf (a .settings) ∙ e)),
         ),
-    subst VersionRules (a .settings) (r .3),
+    subst ReadingRules (a .settings) (r .3),
   )
 
   pub refusal-agree : (s t : State) → Agree s t → refusalOf base len s ≡ refusalOf base len t

@@ -6,6 +6,7 @@ use mathlib.Core.List.{List, [], _∷_}
 use lib.Dec.{eqb, ltb, leb}
 use lib.ListN.{length, getD}
 use Rattle.word.specs.Bytes.{toLe}
+use Rattle.settings.specs.Settings.{xlenOf}
 use Rattle.reserve.specs.Range.{insideOf}
 use Rattle.reserve.specs.Reserve.{slot, coversOf}
 use Rattle.reserve.specs.declared.Reservation.{Reservation}
@@ -26,14 +27,16 @@ use Rattle.model.specs.declared.Answer.{Answer}
 abbrev pub reservationOf : State → ℕ → Reservation
 reservationOf s h = getD (s .res) h (slot None) .reservation
 
--- 01: cause 1, "the word at pc isn't wholly in memory", value "pc"; then what the word there does. x gives the hart's registers
-unfoldable pub fetchOf : (ℕ → ℕ) → ℕ → ℕ → List ℕ → (ℕ → ℕ → Bool) → Exec
-fetchOf x pc base mem covered =
-    cond (insideOf base (length mem) pc 4) (executeWord 64 (valueAt base mem pc 4) x pc base mem covered) (trap 1 pc)
+-- 01: cause 1, "the word at pc isn't wholly in memory", value "pc"; then what the word there does at a register width of xlen bits. x gives the hart's
+-- registers
+unfoldable pub fetchOf : ℕ → (ℕ → ℕ) → ℕ → ℕ → List ℕ → (ℕ → ℕ → Bool) → Exec
+fetchOf xlen x pc base mem covered =
+    cond (insideOf base (length mem) pc 4) (executeWord xlen (valueAt base mem pc 4) x pc base mem covered) (trap 1 pc)
 
 -- hart h's step
 abbrev pub stepOf : ℕ → List ℕ → State → ℕ → Exec
-stepOf base mem s h = fetchOf (regAt (s .x) h) (getD (s .pc) h 0) base mem (coversOf (s .settings) (reservationOf s h))
+stepOf base mem s h =
+    fetchOf (xlenOf (s .settings)) (regAt (s .x) h) (getD (s .pc) h 0) base mem (coversOf (s .settings) (reservationOf s h))
 
 abbrev pub ofExec : ℕ → Exec → Act
 ofExec h (trap cause value) = fault cause value
@@ -67,6 +70,10 @@ setSize m = m .state .settings .size
 -- the version of A: 20 or 21
 abbrev pub version : Machine → ℕ
 version m = m .state .settings .version
+
+-- the bits of registers, the pc and addresses
+abbrev pub xlen : Machine → ℕ
+xlen m = xlenOf (m .state .settings)
 
 -- the answer to an event, with the harts whose reservation it broke and the state, and the memory afterwards
 unfoldable pub answerOf : ℕ → List ℕ → State → Event → Answer

@@ -9,7 +9,7 @@ use reserve::packed;
 use settings::Settings;
 ghost use mathlib.Core.Path.{_≡_};
 ghost use Prim.Native.Nat.{_<_, _≤_};
-ghost use Rattle.settings.specs.Settings.{SizeRules};
+ghost use Rattle.settings.specs.Settings.{SizeRules, xlenOf};
 ghost use Rattle.reserve.specs.Reserve.{coversOf};
 ghost use Rattle.reserve.specs.Packed.{slotsIn};
 ghost use Rattle.effect.specs.Effect.{Meets};
@@ -32,7 +32,7 @@ fn fetch(
 ) -> Done
     requires { ⌜ (h < 8) × SizeRules settings ⌝ }
     ensures { λ r. ⌜
-        Meets h (fetchOf (regAt (now (x .entry)) h) pc base (now (mem .entry)) (coversOf settings res)) base (now (mem .entry)) r (now (mem .exit))
+        Meets h (fetchOf (xlenOf settings) (regAt (now (x .entry)) h) pc base (now (mem .entry)) (coversOf settings res)) base (now (mem .entry)) r (now (mem .exit))
         ⌝ }
 {
     if !reserve::inside(base, mem.len() as u64, pc, 4) {
@@ -42,7 +42,8 @@ fn fetch(
         };
     }
     let word = word::bytes::load_at(mem, (pc - base) as usize, 4) as u32;
-    dispatch::execute_word(word, x, h, pc, base, settings, res, mem)
+    let xlen = settings::xlen(settings);
+    dispatch::execute_word(xlen, word, x, h, pc, base, settings, res, mem)
 }
 
 // Sets register r of hart h; x0 never changes.

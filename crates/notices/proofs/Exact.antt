@@ -16,7 +16,7 @@ use Rattle.reserve.specs.declared.Notice.{Notice}
 use Rattle.reserve.specs.declared.Notice.the-variants as N
 use Rattle.reserve.proofs.RangeLaws.{inside-of}
 use Rattle.isa.specs.Width.{bitsOf, bytesOf}
-use Rattle.isa.specs.Decode.{decodeOf}
+use Rattle.isa.specs.Narrow.{decodeAt}
 use Rattle.isa.specs.declared.AtomicOp.{AtomicOp}
 use Rattle.isa.specs.declared.AtomicOp.the-variants.{Lr, Sc, Cas, CasPair, Rmw}
 use Rattle.isa.specs.declared.Atomic.{Atomic}
@@ -29,7 +29,7 @@ use Rattle.effect.specs.Execute.{regAt, pairAt, atomicBy, execAtomic, execute, 
 use Rattle.events.specs.declared.Event.{Event}
 use Rattle.events.specs.declared.Event.the-variants.{Step, Yield}
 use Rattle.model.specs.Act.{Act, refuse, release, actNotice, outcomeOf}
-use Rattle.model.specs.Perform.{Machine, reservationOf, fetchOf, ofExec, actOn, actOf, answerOf, outcomeAt}
+use Rattle.model.specs.Perform.{Machine, xlen, reservationOf, fetchOf, ofExec, actOn, actOf, answerOf, outcomeAt}
 use Rattle.model.specs.Valid.{Valid}
 use Rattle.model.specs.Trace.{noticeAt, WritesInto}
 use Rattle.model.specs.Retired.{IsRetired, Traps, Refuses}
@@ -37,8 +37,9 @@ use Rattle.model.specs.declared.Outcome.{Outcome}
 use Rattle.model.specs.declared.Outcome.the-variants as O
 use Rattle.model.proofs.Valid.{act-valid}
 use Rattle.model.proofs.Frame.{acts, step-act}
-use Rattle.notices.specs.Happened.{atomicAddress, atomicSize, Retires, RetiredSc, StoredSc, FailedSc, PlainWrite, store, amo, amocas, amocasQ}
-use Rattle.notices.specs.Happened.{DeviceWrites, WritesBytes, byHart, byDevice, Yields, Plain, Silent, refused, trapped, plain, unequal, unequalQ}
+use Rattle.notices.specs.Happened.{atomicAddress, atomicSize, pairSize, Retires, RetiredSc, StoredSc, FailedSc}
+use Rattle.notices.specs.Happened.{PlainWrite, store, amo, amocas, amocasPair}
+use Rattle.notices.specs.Happened.{DeviceWrites, WritesBytes, byHart, byDevice, Yields, Plain, Silent, refused, trapped, plain, unequal, unequalPair}
 use Rattle.notices.specs.Notices.{scNotice, atomicNotice, noticeBy, ComesFrom}
 use Rattle.notices.proofs.Notices.{access-retired, notice-none, notice-step, notice-device, notice-yield}
 
@@ -60,14 +61,15 @@ NotPlain (O.Refused number) = Unit {0}
 Ends : ℕ → Exec → Type 0
 Ends h e = NotPlain (outcomeOf (ofExec h e))
 
-sc-ends : (h : ℕ) (i : Atomic) (a v pc base : ℕ) (mem : List ℕ) (covered : ℕ → ℕ → Bool) → Ends h (execSc 64 (i .width) (i .rd) a v pc base mem covered)
+sc-ends : (xlen h : ℕ) (i : Atomic) (a v pc base : ℕ) (mem : List ℕ) (covered : ℕ → ℕ → Bool)
+    → Ends h (execSc xlen (i .width) (i .rd) a v pc base mem covered)
 unfolding execSc checked Ends NotPlain
-sc-ends h i a v pc base mem covered =
+sc-ends xlen h i a v pc base mem covered =
     cond-all (Ends h) (eqb (faultOf 6 7 a (bytesOf (i .width)) base (length mem)) 0) _ _ (cond-all (Ends h) (covered a (bytesOf (i .width))) _ _ tt tt) tt
 
 -- an instruction that neither reserves nor writes tells nothing
 module _ (base : ℕ) (m : Machine) (h : ℕ) (x : ℕ → ℕ) (o : Outcome) where
-  plain-quiet : (i : Instr) → Plain i → noticeBy h x base (m .mem) i o ≡ N.Quiet
+  plain-quiet : (i : Instr) → Plain i → noticeBy (xlen m) h x base (m .mem) i o ≡ N.Quiet
   plain-quiet Illegal p = absurd p
   plain-quiet Ecall p = absurd p
   plain-quiet Ebreak p = absurd p
@@ -93,7 +95,7 @@ module _ (base : ℕ) (m : Machine) (v : Valid base m) where
   fetched h l =
       let q : IsRetired (outcomeOf (actOn base (m .mem) (m .state) (Step h))) = rw (act-valid base m v (Step h)) at l in
       go (ltb h (m .state .count)) refl (insideOf base (length (m .mem)) (getD (m .state .pc) h 0) 4) refl
-      (executeWord 64 (valueAt base (m .mem) (getD (m .state .pc) h 0) 4) (regAt (m .state .x) h) (getD (m .state .pc) h 0) base (m .mem)
+      (executeWord (xlen m) (valueAt base (m .mem) (getD (m .state .pc) h 0) 4) (regAt (m .state .x) h) (getD (m .state .pc) h 0) base (m .mem)
       (coversOf (m .state .settings) (reservationOf (m .state) h))) q
     where
       go : (s : Bool) → ltb h (m .state .count) ≡ s → (t : Bool) → insideOf base (length (m .mem)) (getD (m .state .pc) h 0) 4 ≡ t
@@ -121,13 +123,13 @@ module _ (base : ℕ) (m : Machine) (v : Valid base m) where
 
       performs : actOf base (m .mem) (m .state) e
           ≡ ofExec h
-          (execute 64 i (valueAt base (m .mem) (getD (m .state .pc) h 0) 4) (regAt (m .state .x) h) (getD (m .state .pc) h 0) base (m .mem)
+          (execute (xlen m) i (valueAt base (m .mem) (getD (m .state .pc) h 0) 4) (regAt (m .state .x) h) (getD (m .state .pc) h 0) base (m .mem)
           (coversOf (m .state .settings) (reservationOf (m .state) h)))
       performs = ap (actOf base (m .mem) (m .state)) (r .theStep) ∙ step-act base m v h (fetched h answers .0) i (r .fetches)
 
-      pub tells-step : noticeAt base m e ≡ noticeBy h (regAt (m .state .x) h) base (m .mem) i (outcomeAt base m e)
+      pub tells-step : noticeAt base m e ≡ noticeBy (xlen m) h (regAt (m .state .x) h) base (m .mem) i (outcomeAt base m e)
       tells-step =
-          subst (λ (d : Event). noticeAt base m d ≡ noticeBy h (regAt (m .state .x) h) base (m .mem) i (outcomeAt base m d)) (sym (r .theStep))
+          subst (λ (d : Event). noticeAt base m d ≡ noticeBy (xlen m) h (regAt (m .state .x) h) base (m .mem) i (outcomeAt base m d)) (sym (r .theStep))
           (notice-step base m v h (fetched h answers .0) i (r .fetches) (untrapped (outcomeAt base m (Step h)) answers))
 
     -- ---- from the words to the notice
@@ -144,9 +146,9 @@ module _ (base : ℕ) (m : Machine) (v : Valid base m) where
         tells-atomic g i Cas r o
         ∙ ap (λ (t : Bool). cond t (N.Write g (regAt (m .state .x) g (i .rs1)) (bytesOf (i .width))) N.Quiet) (eq-eqb _ _ (rw (p, q) at same))
         ∙ rw (p, q) refl
-    tells-write g b n (amocasQ i r o p q same) =
+    tells-write g b n (amocasPair i r o p q same) =
         tells-atomic g i CasPair r o
-        ∙ ap (λ (t : Bool). cond t (N.Write g (regAt (m .state .x) g (i .rs1)) 16) N.Quiet) (eq-eqb _ _ (rw (p, q) at same))
+        ∙ ap (λ (t : Bool). cond t (N.Write g (regAt (m .state .x) g (i .rs1)) (pairSize i)) N.Quiet) (eq-eqb _ _ (rw (p, q) at same))
         ∙ rw (p, q) refl
 
     tells-silent : Silent base m e → noticeAt base m e ≡ N.Quiet
@@ -154,7 +156,7 @@ module _ (base : ℕ) (m : Machine) (v : Valid base m) where
     tells-silent (trapped t) = notice-none base m e (inl t)
     tells-silent (plain g i r p) = tells-step g i r ∙ plain-quiet base m g (regAt (m .state .x) g) (outcomeAt base m e) i p
     tells-silent (unequal g i r q d) = tells-atomic g i Cas r q ∙ rw (ne-eqb _ _ d) refl
-    tells-silent (unequalQ g i r q d) = tells-atomic g i CasPair r q ∙ rw (ne-eqb _ _ d) refl
+    tells-silent (unequalPair g i r q d) = tells-atomic g i CasPair r q ∙ rw (ne-eqb _ _ d) refl
 
     tells-device : (b n : ℕ) → DeviceWrites base m e b n → noticeAt base m e ≡ N.DeviceWrite b n
     tells-device b n d =
@@ -179,7 +181,7 @@ module _ (base : ℕ) (m : Machine) (v : Valid base m) where
 
     module _ (h : ℕ) where
       performs-sc : (i : Atomic) → Retires base m e h (Amo i) → i .op ≡ Sc → Ends h
-          (execSc 64 (i .width) (i .rd) (atomicAddress m h i) (regAt (m .state .x) h (i .rs2)) (getD (m .state .pc) h 0) base (m .mem)
+          (execSc (xlen m) (i .width) (i .rd) (atomicAddress m h i) (regAt (m .state .x) h (i .rs2)) (getD (m .state .pc) h 0) base (m .mem)
           (coversOf (m .state .settings) (reservationOf (m .state) h)))
           → NotPlain (outcomeAt base m e)
       unfolding answerOf execute execAtomic Ends
@@ -189,13 +191,13 @@ module _ (base : ℕ) (m : Machine) (v : Valid base m) where
           (performs h (Amo i) r
           ∙ ap
           (λ (op : AtomicOp).
-          ofExec h (atomicBy 64 op i (regAt (m .state .x) h) (getD (m .state .pc) h 0) base (m .mem)
+          ofExec h (atomicBy (xlen m) op i (regAt (m .state .x) h) (getD (m .state .pc) h 0) base (m .mem)
           (coversOf (m .state .settings) (reservationOf (m .state) h)))) q)))
           n
 
       plain-sc : (i : Atomic) → Retires base m e h (Amo i) → i .op ≡ Sc → outcomeAt base m e ≡ O.Retired → ⊥
       unfolding NotPlain
-      plain-sc i r q p = subst NotPlain p (performs-sc i r q (sc-ends h i _ _ _ _ _ _))
+      plain-sc i r q p = subst NotPlain p (performs-sc i r q (sc-ends (xlen m) h i _ _ _ _ _ _))
 
       from-sc : (i : Atomic) → Retires base m e h (Amo i) → i .op ≡ Sc → (o : Outcome) → outcomeAt base m e ≡ o
           → ComesFrom base m e (scNotice h (regAt (m .state .x) h) base (m .mem) (atomicAddress m h i) (atomicSize i) o)
@@ -214,11 +216,12 @@ module _ (base : ℕ) (m : Machine) (v : Valid base m) where
           cond-cases (ComesFrom base m e) (eqb (valueAt base (m .mem) (atomicAddress m h i) (atomicSize i)) want) _ _
           (λ t. amocas i r q refl refl (eqb-true _ _ t)) (λ f. unequal h i r q (eqb-false _ _ f))
       from-atomic i r CasPair q =
-          cond-cases (ComesFrom base m e) (eqb (valueAt base (m .mem) (atomicAddress m h i) 16) (pairAt (regAt (m .state .x) h) (i .rd))) _ _
-          (λ t. amocasQ i r q refl refl (eqb-true _ _ t)) (λ f. unequalQ h i r q (eqb-false _ _ f))
+          let want = pairAt (i .width) (regAt (m .state .x) h) (i .rd) in
+          cond-cases (ComesFrom base m e) (eqb (valueAt base (m .mem) (atomicAddress m h i) (pairSize i)) want) _ _
+          (λ t. amocasPair i r q refl refl (eqb-true _ _ t)) (λ f. unequalPair h i r q (eqb-false _ _ f))
       from-atomic i r (Rmw op) q = amo i op r q refl refl
 
-      from-instr : (i : Instr) → Retires base m e h i → ComesFrom base m e (noticeBy h (regAt (m .state .x) h) base (m .mem) i (outcomeAt base m e))
+      from-instr : (i : Instr) → Retires base m e h i → ComesFrom base m e (noticeBy (xlen m) h (regAt (m .state .x) h) base (m .mem) i (outcomeAt base m e))
       unfolding answerOf execute
       from-instr Illegal r = trapped (2, _, ap outcomeOf (performs h Illegal r))
       from-instr Ecall r = trapped (8, 0, ap outcomeOf (performs h Ecall r))
@@ -240,7 +243,7 @@ module _ (base : ℕ) (m : Machine) (v : Valid base m) where
       from-step : e ≡ Step h → IsRetired (outcomeAt base m e) → ComesFrom base m e (noticeAt base m e)
       from-step s o =
           let f = fetched h (subst (λ (d : Event). IsRetired (outcomeAt base m d)) s o) in
-          let i = decodeOf (valueAt base (m .mem) (getD (m .state .pc) h 0) 4) in
+          let i = decodeAt (xlen m) (valueAt base (m .mem) (getD (m .state .pc) h 0) 4) in
           let r : Retires base m e h i = record { theStep = s; fetches = record { inside = f .1; decodes = refl }; retired = o } in
           subst (ComesFrom base m e) (sym (tells-step h i r)) (from-instr i r)
 

@@ -15,7 +15,7 @@ use Rattle.reserve.specs.Range.{insideOf}
 use Rattle.reserve.specs.Reserve.{coversOf}
 use Rattle.reserve.specs.declared.Notice.{Notice}
 use Rattle.reserve.specs.declared.Notice.the-variants.{Quiet, LoadReserved, ScStored, Write, DeviceWrite, Yield}
-use Rattle.isa.specs.Width.{bitsOf, bytesOf}
+use Rattle.isa.specs.Width.{bitsOf, bytesOf, pairBytes}
 use Rattle.isa.specs.declared.AtomicOp.{AtomicOp}
 use Rattle.isa.specs.declared.AtomicOp.the-variants.{Lr, Sc, Cas, CasPair, Rmw}
 use Rattle.isa.specs.declared.Atomic.{Atomic}
@@ -29,7 +29,7 @@ use Rattle.effect.specs.Execute.{regAt, pairAt, atomicBy, execAtomic, execute}
 use Rattle.events.specs.declared.Event.{Event}
 use Rattle.events.specs.declared.Event.the-variants.{Step, Device, Yield as YieldOf}
 use Rattle.model.specs.Act.{Act, refuse, fault, change, put, release, actNotice, outcomeOf}
-use Rattle.model.specs.Perform.{Machine, reservationOf, ofExec, deviceOf, actOn, actOf, answerOf, outcomeAt}
+use Rattle.model.specs.Perform.{Machine, xlen, reservationOf, ofExec, deviceOf, actOn, actOf, answerOf, outcomeAt}
 use Rattle.model.specs.Valid.{Valid}
 use Rattle.model.specs.Retired.{IsRetired, Traps, Refuses}
 use Rattle.model.specs.Trace.{noticeAt}
@@ -74,15 +74,15 @@ module _ (h : ℕ) where
       go true = stores ws to a k new
       go false = silent ws to
 
-  module _ (x : ℕ → ℕ) (pc base : ℕ) (mem : List ℕ) (covered : ℕ → ℕ → Bool) where
-    tells-sc : (i : Atomic) → Tells (atomicNotice h x base mem Sc i) (atomicBy 64 Sc i x pc base mem covered)
+  module _ (xlen : ℕ) (x : ℕ → ℕ) (pc base : ℕ) (mem : List ℕ) (covered : ℕ → ℕ → Bool) where
+    tells-sc : (i : Atomic) → Tells (atomicNotice h x base mem Sc i) (atomicBy xlen Sc i x pc base mem covered)
     unfolding execSc Tells
     tells-sc i =
         access (atomicNotice h x base mem Sc i) 6 7 (x (i .rs1)) (bytesOf (i .width)) base (length mem) _
         (cond-cases (Tells (atomicNotice h x base mem Sc i)) (covered (x (i .rs1)) (bytesOf (i .width))) _ _
         (λ c d. ap (λ (j : ℕ). ScStored h (x (i .rs1)) j) (length-toLe (bytesOf (i .width)) (x (i .rs2)))) (λ c d. refl))
 
-    tells-atomic : (op : AtomicOp) (i : Atomic) → Tells (atomicNotice h x base mem op i) (atomicBy 64 op i x pc base mem covered)
+    tells-atomic : (op : AtomicOp) (i : Atomic) → Tells (atomicNotice h x base mem op i) (atomicBy xlen op i x pc base mem covered)
     unfolding execLr execAmo execCas execCasPair
     tells-atomic Lr i =
         access (atomicNotice h x base mem Lr i) 4 5 (x (i .rs1)) (bytesOf (i .width)) base (length mem) _
@@ -92,25 +92,26 @@ module _ (h : ℕ) where
         access (atomicNotice h x base mem Cas i) 6 7 (x (i .rs1)) (bytesOf (i .width)) base (length mem) _
         (swaps _ _ (x (i .rs1)) (bytesOf (i .width)) (valueAt base mem (x (i .rs1)) (bytesOf (i .width))) (low (bitsOf (i .width)) (x (i .rd))) (x (i .rs2)))
     tells-atomic CasPair i =
-        access (atomicNotice h x base mem CasPair i) 6 7 (x (i .rs1)) 16 base (length mem) _
-        (swaps _ _ (x (i .rs1)) 16 (valueAt base mem (x (i .rs1)) 16) (pairAt x (i .rd)) (pairAt x (i .rs2)))
+        let n = pairBytes (i .width) in
+        access (atomicNotice h x base mem CasPair i) 6 7 (x (i .rs1)) n base (length mem) _
+        (swaps _ _ (x (i .rs1)) n (valueAt base mem (x (i .rs1)) n) (pairAt (i .width) x (i .rd)) (pairAt (i .width) x (i .rs2)))
     tells-atomic (Rmw op) i =
         access (atomicNotice h x base mem (Rmw op) i) 6 7 (x (i .rs1)) (bytesOf (i .width)) base (length mem) _ (stores _ _ (x (i .rs1)) (bytesOf (i .width)) _)
 
-    tells-jump : (rd to : ℕ) → Tells (λ (o : Outcome). Quiet) (execJump 64 rd to pc)
+    tells-jump : (rd to : ℕ) → Tells (λ (o : Outcome). Quiet) (execJump xlen rd to pc)
     unfolding execJump
     tells-jump rd to = cond-cases (Tells (λ (o : Outcome). Quiet)) (eqb (to % 4) 0) _ _ (λ t. silent _ _) (λ f. trapped (λ (o : Outcome). Quiet) 0 to)
 
-    tells-branch : (taken : Bool) (to : ℕ) → Tells (λ (o : Outcome). Quiet) (execBranch 64 taken to pc)
+    tells-branch : (taken : Bool) (to : ℕ) → Tells (λ (o : Outcome). Quiet) (execBranch xlen taken to pc)
     unfolding execBranch
     tells-branch true to = cond-cases (Tells (λ (o : Outcome). Quiet)) (eqb (to % 4) 0) _ _ (λ t. silent _ _) (λ f. trapped (λ (o : Outcome). Quiet) 0 to)
     tells-branch false to = silent _ _
 
-    tells : (i : Instr) (word : ℕ) → Tells (noticeBy h x base mem i) (execute 64 i word x pc base mem covered)
+    tells : (i : Instr) (word : ℕ) → Tells (noticeBy xlen h x base mem i) (execute xlen i word x pc base mem covered)
     unfolding execute execAtomic execLoad execStore
-    tells Illegal word = trapped (noticeBy h x base mem Illegal) 2 word
-    tells Ecall word = trapped (noticeBy h x base mem Ecall) 8 0
-    tells Ebreak word = trapped (noticeBy h x base mem Ebreak) 3 0
+    tells Illegal word = trapped (noticeBy xlen h x base mem Illegal) 2 word
+    tells Ecall word = trapped (noticeBy xlen h x base mem Ecall) 8 0
+    tells Ebreak word = trapped (noticeBy xlen h x base mem Ebreak) 3 0
     tells (Fence rd rs1 imm) word = silent _ _
     tells (Lui rd imm) word = silent _ _
     tells (Auipc rd imm) word = silent _ _
@@ -118,7 +119,8 @@ module _ (h : ℕ) where
     tells (Jalr rd rs1 imm) word = tells-jump rd _
     tells (Branch op rs1 rs2 imm) word = tells-branch _ _
     tells (Load op rd rs1 imm) word = access (λ (o : Outcome). Quiet) 4 5 _ _ base (length mem) _ (silent _ _)
-    tells (Store op rs1 rs2 imm) word = access (λ (o : Outcome). Write h (offset 64 (x rs1) imm) (storeBytes op)) 6 7 _ _ base (length mem) _ (stores _ _ _ _ _)
+    tells (Store op rs1 rs2 imm) word =
+        access (λ (o : Outcome). Write h (offset xlen (x rs1) imm) (storeBytes op)) 6 7 _ _ base (length mem) _ (stores _ _ _ _ _)
     tells (OpImm op rd rs1 imm) word = silent _ _
     tells (OpImm32 op rd rs1 imm) word = silent _ _
     tells (Op op rd rs1 rs2) word = silent _ _
@@ -153,13 +155,13 @@ notice-none base m e w =
 module _ (base : ℕ) (m : Machine) (v : Valid base m) where
   -- a retired step tells what its instruction does
   pub notice-step : (h : ℕ) → h < m .state .count → (i : Instr) → Fetches base m h i → (Traps (outcomeAt base m (Step h)) → ⊥)
-      → noticeAt base m (Step h) ≡ noticeBy h (regAt (m .state .x) h) base (m .mem) i (outcomeAt base m (Step h))
+      → noticeAt base m (Step h) ≡ noticeBy (xlen m) h (regAt (m .state .x) h) base (m .mem) i (outcomeAt base m (Step h))
   unfolding answerOf Tells
   notice-step h u i f =
       subst
-      (λ (act : Act). (Traps (outcomeOf act) → ⊥) → actNotice act ≡ noticeBy h (regAt (m .state .x) h) base (m .mem) i (outcomeOf act))
+      (λ (act : Act). (Traps (outcomeOf act) → ⊥) → actNotice act ≡ noticeBy (xlen m) h (regAt (m .state .x) h) base (m .mem) i (outcomeOf act))
       (sym (step-act base m v h u i f))
-      (tells h (regAt (m .state .x) h) (getD (m .state .pc) h 0) base (m .mem) (coversOf (m .state .settings) (reservationOf (m .state) h)) i
+      (tells h (xlen m) (regAt (m .state .x) h) (getD (m .state .pc) h 0) base (m .mem) (coversOf (m .state .settings) (reservationOf (m .state) h)) i
       (valueAt base (m .mem) (getD (m .state .pc) h 0) 4))
 
   -- a device write that isn't refused, its address and number of bytes

@@ -5,7 +5,7 @@ use mathlib.Core.Path.{_≡_}
 use mathlib.Core.Logic.{_⊎_}
 use Prim.Native.Nat.{ℕ}
 use Rattle.word.specs.Word.{low}
-use Rattle.isa.specs.Width.{bitsOf, bytesOf}
+use Rattle.isa.specs.Width.{bitsOf, bytesOf, pairBytes}
 use Rattle.isa.specs.declared.StoreOp.{StoreOp}
 use Rattle.isa.specs.declared.AmoOp.{AmoOp}
 use Rattle.isa.specs.declared.AtomicOp.the-variants.{Lr, Sc, Cas, CasPair, Rmw}
@@ -17,17 +17,21 @@ use Rattle.effect.specs.Memory.{storeBytes, valueAt}
 use Rattle.effect.specs.Execute.{regAt, pairAt}
 use Rattle.events.specs.declared.Event.{Event}
 use Rattle.events.specs.declared.Event.the-variants.{Step, Device, Yield}
-use Rattle.model.specs.Perform.{Machine, outcomeAt}
+use Rattle.model.specs.Perform.{Machine, xlen, outcomeAt}
 use Rattle.model.specs.Fetch.{Fetches}
 use Rattle.model.specs.Retired.{IsRetired, Traps, Refuses}
 use Rattle.model.specs.declared.Outcome.the-variants.{ScStored, ScFailed}
 
--- an atomic instruction's address, for hart g, and the number of its bytes; AMOCAS.Q has 16
+-- an atomic instruction's address, for hart g, and the number of its bytes
 abbrev pub atomicAddress : Machine → ℕ → Atomic → ℕ
 atomicAddress m g i = regAt (m .state .x) g (i .rs1)
 
 abbrev pub atomicSize : Atomic → ℕ
 atomicSize i = bytesOf (i .width)
+
+-- that of an AMOCAS of a pair: AMOCAS.Q has 16 and, where registers have 32 bits, AMOCAS.D 8
+abbrev pub pairSize : Atomic → ℕ
+pairSize i = pairBytes (i .width)
 
 -- an instruction that neither reserves nor writes: LUI, AUIPC, JAL, JALR, a branch, a load, OP, OP-IMM, OP-32, OP-IMM-32, FENCE
 abbrev pub Plain : Instr → Type 0
@@ -85,15 +89,15 @@ module _ (base : ℕ) (m : Machine) (e : Event) where
     pub operation : sc .op ≡ Sc
     pub failed : outcomeAt base m e ≡ ScFailed
 
-  -- 01: "a retired store, AMO, equal AMOCAS": of hart g, of n bytes at b. AMOCAS.Q is of 16 bytes
+  -- 01: "a retired store, AMO, equal AMOCAS": of hart g, of n bytes at b. amocasPair is AMOCAS.Q, and AMOCAS.D where registers have 32 bits
   pub data PlainWrite (g b n : ℕ) : Type 0 where
     store : (op : StoreOp) (rs1 rs2 imm : ℕ) → Retires g (Store op rs1 rs2 imm)
-        → b ≡ offset 64 (regAt (m .state .x) g rs1) imm → n ≡ storeBytes op → PlainWrite g b n
+        → b ≡ offset (xlen m) (regAt (m .state .x) g rs1) imm → n ≡ storeBytes op → PlainWrite g b n
     amo : (i : Atomic) (op : AmoOp) → Retires g (Amo i) → i .op ≡ Rmw op → b ≡ atomicAddress m g i → n ≡ atomicSize i → PlainWrite g b n
     amocas : (i : Atomic) → Retires g (Amo i) → i .op ≡ Cas → b ≡ atomicAddress m g i → n ≡ atomicSize i
         → valueAt base (m .mem) b n ≡ low (bitsOf (i .width)) (regAt (m .state .x) g (i .rd)) → PlainWrite g b n
-    amocasQ : (i : Atomic) → Retires g (Amo i) → i .op ≡ CasPair → b ≡ atomicAddress m g i → n ≡ 16
-        → valueAt base (m .mem) b n ≡ pairAt (regAt (m .state .x) g) (i .rd) → PlainWrite g b n
+    amocasPair : (i : Atomic) → Retires g (Amo i) → i .op ≡ CasPair → b ≡ atomicAddress m g i → n ≡ pairSize i
+        → valueAt base (m .mem) b n ≡ pairAt (i .width) (regAt (m .state .x) g) (i .rd) → PlainWrite g b n
 
   -- 01: "a retired store, AMO, equal AMOCAS or successful SC"
   abbrev pub HartWrites : ℕ → ℕ → ℕ → Type 0
@@ -122,5 +126,5 @@ module _ (base : ℕ) (m : Machine) (e : Event) where
     plain : (g : ℕ) (i : Instr) → Retires g i → Plain i → Silent
     unequal : (g : ℕ) (i : Atomic) → Retires g (Amo i) → i .op ≡ Cas
         → (valueAt base (m .mem) (atomicAddress m g i) (atomicSize i) ≡ low (bitsOf (i .width)) (regAt (m .state .x) g (i .rd)) → ⊥) → Silent
-    unequalQ : (g : ℕ) (i : Atomic) → Retires g (Amo i) → i .op ≡ CasPair
-        → (valueAt base (m .mem) (atomicAddress m g i) 16 ≡ pairAt (regAt (m .state .x) g) (i .rd) → ⊥) → Silent
+    unequalPair : (g : ℕ) (i : Atomic) → Retires g (Amo i) → i .op ≡ CasPair
+        → (valueAt base (m .mem) (atomicAddress m g i) (pairSize i) ≡ pairAt (i .width) (regAt (m .state .x) g) (i .rd) → ⊥) → Silent

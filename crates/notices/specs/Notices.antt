@@ -8,7 +8,7 @@ use lib.Dec.{eqb}
 use Rattle.word.specs.Word.{low}
 use Rattle.reserve.specs.declared.Notice.{Notice}
 use Rattle.reserve.specs.declared.Notice.the-variants as N
-use Rattle.isa.specs.Width.{bitsOf, bytesOf}
+use Rattle.isa.specs.Width.{bitsOf, bytesOf, pairBytes}
 use Rattle.isa.specs.declared.AtomicOp.{AtomicOp}
 use Rattle.isa.specs.declared.AtomicOp.the-variants.{Lr, Sc, Cas, CasPair, Rmw}
 use Rattle.isa.specs.declared.Atomic.{Atomic}
@@ -39,9 +39,13 @@ module _ (h : ℕ) (x : ℕ → ℕ) (base : ℕ) (mem : List ℕ) where
   atomicNotice Cas i o =
       cond (eqb (valueAt base mem (x (i .rs1)) (bytesOf (i .width))) (low (bitsOf (i .width)) (x (i .rd))))
       (N.Write h (x (i .rs1)) (bytesOf (i .width))) N.Quiet
-  atomicNotice CasPair i o = cond (eqb (valueAt base mem (x (i .rs1)) 16) (pairAt x (i .rd))) (N.Write h (x (i .rs1)) 16) N.Quiet
+  atomicNotice CasPair i o =
+      cond (eqb (valueAt base mem (x (i .rs1)) (pairBytes (i .width))) (pairAt (i .width) x (i .rd)))
+      (N.Write h (x (i .rs1)) (pairBytes (i .width))) N.Quiet
   atomicNotice (Rmw op) i o = N.Write h (x (i .rs1)) (bytesOf (i .width))
 
+-- the same of any instruction, where registers and addresses have xlen bits
+module _ (xlen h : ℕ) (x : ℕ → ℕ) (base : ℕ) (mem : List ℕ) where
   abbrev pub noticeBy : Instr → Outcome → Notice
   noticeBy Illegal o = N.Quiet
   noticeBy Ecall o = N.Quiet
@@ -53,12 +57,12 @@ module _ (h : ℕ) (x : ℕ → ℕ) (base : ℕ) (mem : List ℕ) where
   noticeBy (Jalr rd rs1 imm) o = N.Quiet
   noticeBy (Branch op rs1 rs2 imm) o = N.Quiet
   noticeBy (Load op rd rs1 imm) o = N.Quiet
-  noticeBy (Store op rs1 rs2 imm) o = N.Write h (offset 64 (x rs1) imm) (storeBytes op)
+  noticeBy (Store op rs1 rs2 imm) o = N.Write h (offset xlen (x rs1) imm) (storeBytes op)
   noticeBy (OpImm op rd rs1 imm) o = N.Quiet
   noticeBy (OpImm32 op rd rs1 imm) o = N.Quiet
   noticeBy (Op op rd rs1 rs2) o = N.Quiet
   noticeBy (Op32 op rd rs1 rs2) o = N.Quiet
-  noticeBy (Amo i) o = atomicNotice (i .op) i o
+  noticeBy (Amo i) o = atomicNotice h x base mem (i .op) i o
 
 -- The events that a notice comes from, in words.
 abbrev pub ComesFrom : ℕ → Machine → Event → Notice → Type 0

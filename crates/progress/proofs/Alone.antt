@@ -1,16 +1,16 @@
 -- Demand 3 with its premise in terms of events. Assumes nothing.
-use mathlib.Core.Path.{_≡_, sym, _∙_, ap, subst}
+use mathlib.Core.Path.{_≡_, refl, sym, _∙_, ap, subst}
 use mathlib.Core.Logic.{_↔_, _⊎_, inl, inr}
 use mathlib.Core.Bool.{Bool, true, false, cond}
 use mathlib.Core.List.{List, [], _∷_}
 use Prim.Native.Nat.{ℕ, _-_, _<_}
 use lib.ListN.{length}
-use Rattle.settings.specs.Settings.{ofVersion, JalrPermitted}
+use Rattle.settings.specs.Settings.{atVersion, JalrPermitted}
 use Rattle.settings.specs.declared.Settings.{Settings}
 use Rattle.reserve.specs.declared.Notice.the-variants as N
 use Rattle.isa.specs.declared.Atomic.{Atomic}
 use Rattle.events.specs.declared.Event.{Event}
-use Rattle.model.specs.Perform.{Machine, nextOf}
+use Rattle.model.specs.Perform.{Machine, xlen, nextOf}
 use Rattle.model.specs.Valid.{Valid}
 use Rattle.model.specs.Trace.{noticeAt}
 use Rattle.model.proofs.Valid.{valid-next}
@@ -112,7 +112,7 @@ module _ (base h p addr : ℕ) (words : List ℕ) (lr : Atomic) where
 
   -- ---- by the state's own version
 
-  start-as : (settings : Settings) (m : Machine) → StartUnder base h p addr words lr settings m → checkOf (ofVersion 21) words ≡ Accepted
+  start-as : (settings : Settings) (m : Machine) → StartUnder base h p addr words lr settings m → checkOf (atVersion 21 (m .state .settings)) words ≡ Accepted
       → Start base h p addr words lr m
   start-as settings m st accepted =
       record {
@@ -130,8 +130,8 @@ module _ (base h p addr : ℕ) (words : List ℕ) (lr : Atomic) where
       }
 
   -- 02 [7]: "Demand 3 stands for 2.1 as before, and for 2.0 only for loops with no JALR": a block that the checker accepts under the state's settings
-  pub retry-by-version : (m : Machine) → StartUnder base h p addr words lr (m .state .settings) m → (JalrPermitted (m .state .settings) → NoJalr words)
+  pub retry-by-version : (m : Machine) → StartUnder base h p addr words lr (m .state .settings) m → (JalrPermitted (m .state .settings) → NoJalr (xlen m) words)
       → Finishes base h p addr words lr (LeftAlone base h p addr words lr) m
   retry-by-version m st none =
       let settings = m .state .settings in
-      retry-alone m (start-as settings m st (accepted-either words settings (st .valid .1 .3) .0 (st .accepted, none)))
+      retry-alone m (start-as settings m st (accepted-either words settings (atVersion 21 settings) refl refl (st .valid .1 .3 .0) .0 (st .accepted, none)))

@@ -3,16 +3,18 @@ use mathlib.Core.Path.{_≡_, refl, ap, ap₂, _∙_}
 use mathlib.Core.Logic.{_⊎_, inl, inr}
 use mathlib.Core.Bool.{Bool, true, false}
 use mathlib.Core.List.{List}
-use Prim.Native.Nat.{ℕ, _+_, _*_, _^_, _%_, _<_}
+use Prim.Native.Nat.{ℕ, _+_, _*_, _%_, _≤_, _<_}
 use native.Mathlib.Omega.{arith}
 use lib.Dec.{eqb}
 use lib.ListN.{length}
 use lib.Seq.{getD-set-other}
 use borrow.Author.Tests.{eqb-false}
-use Rattle.word.specs.Word.{signExtend}
+use Rattle.word.specs.Word.{low, signExtend}
+use Rattle.word.proofs.WordLaws.{low-low}
 use Rattle.word.specs.Bytes.{toLe}
 use Rattle.word.proofs.TestLaws.{bool-cases}
-use Rattle.settings.specs.Settings.{ofVersion}
+use Rattle.settings.specs.Settings.{atVersion}
+use Rattle.settings.specs.declared.Settings.{Settings}
 use Rattle.reserve.specs.Range.{Inside}
 use Rattle.isa.specs.Width.{bitsOf, bytesOf}
 use Rattle.isa.specs.Wf.{Regs}
@@ -53,74 +55,75 @@ by-one e rd v to t d q = record { ws = one rd v; is = q; kept = λ x h r l k. se
 by-none : (e : Exec) (to : ℕ) (t : Access) → e ≡ effect none to t → Moves e 0 to t
 by-none e to t q = record { ws = none; is = q; kept = λ x h r l k. refl }
 
--- where the pc is pc
-abbrev pub Does : View → ℕ → Exec → Type 0
-Does (Lr rd s w) pc e = Unit {0}
-Does (Sc s w) pc e = Unit {0}
-Does (Plain rd) pc e = Moves e rd (pc + 4) nothing
-Does (Jump rd off) pc e = off % 4 ≡ 0 → Moves e rd ((pc + off) % 2 ^ 64) nothing
-Does (Branch off) pc e = off % 4 ≡ 0 → Moves e 0 (pc + 4) nothing ⊎ Moves e 0 ((pc + off) % 2 ^ 64) nothing
-Does Other pc e = Unit {0}
+-- where the pc is pc, and registers have xlen bits
+abbrev pub Does : ℕ → View → ℕ → Exec → Type 0
+Does xlen (Lr rd s w) pc e = Unit {0}
+Does xlen (Sc s w) pc e = Unit {0}
+Does xlen (Plain rd) pc e = Moves e rd (offset xlen pc 4) nothing
+Does xlen (Jump rd off) pc e = off % 4 ≡ 0 → Moves e rd (offset xlen pc off) nothing
+Does xlen (Branch off) pc e = off % 4 ≡ 0 → Moves e 0 (offset xlen pc 4) nothing ⊎ Moves e 0 (offset xlen pc off) nothing
+Does xlen Other pc e = Unit {0}
 
-module _ (pc : ℕ) (aligned : pc % 4 ≡ 0) (small : pc + 4 < 2 ^ 64) where
-  next : nextPc 64 pc ≡ pc + 4
-  next = omega arith
+module _ (xlen : ℕ) (enough : 2 ≤ xlen) (pc : ℕ) (aligned : pc % 4 ≡ 0) where
+  -- the place at an offset that is a multiple of 4 is aligned
+  lands : (off : ℕ) → off % 4 ≡ 0 → offset xlen pc off % 4 ≡ 0
+  unfolding low
+  lands off o = low-low xlen 2 enough (pc + off) ∙ omega arith
 
-  computes : (rd v : ℕ) → rd < 32 → Moves (effect (one rd v) (nextPc 64 pc) nothing) rd (pc + 4) nothing
-  computes rd v d = by-one _ rd v (pc + 4) nothing d (ap (λ (n : ℕ). effect (one rd v) n nothing) next)
+  computes : (rd v : ℕ) → rd < 32 → Moves (effect (one rd v) (nextPc xlen pc) nothing) rd (offset xlen pc 4) nothing
+  computes rd v d = by-one _ rd v (offset xlen pc 4) nothing d refl
 
-  jumps : (rd off : ℕ) → rd < 32 → off % 4 ≡ 0 → Moves (execJump 64 rd (offset 64 pc off) pc) rd ((pc + off) % 2 ^ 64) nothing
-  jumps rd off d o = by-one _ rd (nextPc 64 pc) ((pc + off) % 2 ^ 64) nothing d (jump-retires 64 pc rd (offset 64 pc off) (omega arith))
+  jumps : (rd off : ℕ) → rd < 32 → off % 4 ≡ 0 → Moves (execJump xlen rd (offset xlen pc off) pc) rd (offset xlen pc off) nothing
+  jumps rd off d o = by-one _ rd (nextPc xlen pc) (offset xlen pc off) nothing d (jump-retires xlen pc rd (offset xlen pc off) (lands off o))
 
   branches : (taken : Bool) (off : ℕ) → off % 4 ≡ 0
-      → Moves (execBranch 64 taken (offset 64 pc off) pc) 0 (pc + 4) nothing ⊎ Moves (execBranch 64 taken (offset 64 pc off) pc) 0 ((pc + off) % 2 ^ 64) nothing
-  branches true off o = inr (by-none _ ((pc + off) % 2 ^ 64) nothing (branch-taken 64 pc (offset 64 pc off) (omega arith)))
-  branches false off o =
-      inl (by-none _ (pc + 4) nothing (branch-passed 64 pc (offset 64 pc off) ∙ ap (λ (n : ℕ). effect none n nothing) next))
+      → Moves (execBranch xlen taken (offset xlen pc off) pc) 0 (offset xlen pc 4) nothing
+      ⊎ Moves (execBranch xlen taken (offset xlen pc off) pc) 0 (offset xlen pc off) nothing
+  branches true off o = inr (by-none _ (offset xlen pc off) nothing (branch-taken xlen pc (offset xlen pc off) (lands off o)))
+  branches false off o = inl (by-none _ (offset xlen pc 4) nothing (branch-passed xlen pc (offset xlen pc off)))
 
   module _ (word : ℕ) (x : ℕ → ℕ) (base : ℕ) (mem : List ℕ) (covered : ℕ → ℕ → Bool) where
-    does-atomic : (op : AtomicOp) (a : Atomic) (e : Exec) → Does (atomicView op a) pc e
+    does-atomic : (op : AtomicOp) (a : Atomic) (e : Exec) → Does xlen (atomicView op a) pc e
     does-atomic A.Lr a e = tt
     does-atomic A.Sc a e = tt
     does-atomic A.Cas a e = tt
     does-atomic A.CasPair a e = tt
     does-atomic (A.Rmw op) a e = tt
 
-    pub does : (i : Instr) → Regs i → Does (viewOf (ofVersion 21) i) pc (execute 64 i word x pc base mem covered)
+    pub does : (settings : Settings) (i : Instr) → Regs i → Does xlen (viewOf (atVersion 21 settings) i) pc (execute xlen i word x pc base mem covered)
     unfolding viewOf execute
-    does I.Illegal r = tt
-    does (I.Lui rd imm) r = computes rd imm r
-    does (I.Auipc rd imm) r = computes rd (offset 64 pc imm) r
-    does (I.Jal rd imm) r = jumps rd imm r
-    does (I.Jalr rd rs1 imm) r = tt
-    does (I.Branch op rs1 rs2 imm) r = branches (holdsOf 64 op (x rs1) (x rs2)) imm
-    does (I.Load op rd rs1 imm) r = tt
-    does (I.Store op rs1 rs2 imm) r = tt
-    does (I.OpImm op rd rs1 imm) r = computes rd _ (r .0)
-    does (I.OpImm32 op rd rs1 imm) r = computes rd _ (r .0)
-    does (I.Op op rd rs1 rs2) r = computes rd _ (r .0)
-    does (I.Op32 op rd rs1 rs2) r = computes rd _ (r .0)
-    does (I.Fence rd rs1 imm) r = tt
-    does I.Ecall r = tt
-    does I.Ebreak r = tt
-    does (I.Amo a) r = does-atomic (a .op) a _
+    does settings I.Illegal r = tt
+    does settings (I.Lui rd imm) r = computes rd _ r
+    does settings (I.Auipc rd imm) r = computes rd (offset xlen pc imm) r
+    does settings (I.Jal rd imm) r = jumps rd imm r
+    does settings (I.Jalr rd rs1 imm) r = tt
+    does settings (I.Branch op rs1 rs2 imm) r = branches (holdsOf xlen op (x rs1) (x rs2)) imm
+    does settings (I.Load op rd rs1 imm) r = tt
+    does settings (I.Store op rs1 rs2 imm) r = tt
+    does settings (I.OpImm op rd rs1 imm) r = computes rd _ (r .0)
+    does settings (I.OpImm32 op rd rs1 imm) r = computes rd _ (r .0)
+    does settings (I.Op op rd rs1 rs2) r = computes rd _ (r .0)
+    does settings (I.Op32 op rd rs1 rs2) r = computes rd _ (r .0)
+    does settings (I.Fence rd rs1 imm) r = tt
+    does settings I.Ecall r = tt
+    does settings I.Ebreak r = tt
+    does settings (I.Amo a) r = does-atomic (a .op) a _
 
     -- an LR whose bytes are aligned and in memory
     pub does-lr : (a : Atomic) → a .op ≡ A.Lr → Regs (I.Amo a) → x (a .rs1) % bytesOf (a .width) ≡ 0
         → Inside base (length mem) (x (a .rs1)) (bytesOf (a .width))
-        → Moves (execute 64 (I.Amo a) word x pc base mem covered) (a .rd) (pc + 4) (reserve (x (a .rs1)) (bytesOf (a .width)))
+        → Moves (execute xlen (I.Amo a) word x pc base mem covered) (a .rd) (offset xlen pc 4) (reserve (x (a .rs1)) (bytesOf (a .width)))
     unfolding execute execAtomic execLr
     does-lr a q r al i =
-        let v = signExtend 64 (bitsOf (a .width)) (valueAt base mem (x (a .rs1)) (bytesOf (a .width))) in
-        by-one _ (a .rd) v (pc + 4) _ (r .0)
-        (rw q (access-retires 4 5 (x (a .rs1)) (bytesOf (a .width)) base (length mem) (omega arith) (omega arith) _ al i
-        ∙ ap (λ (n : ℕ). effect (one (a .rd) v) n (reserve (x (a .rs1)) (bytesOf (a .width)))) next))
+        let v = signExtend xlen (bitsOf (a .width)) (valueAt base mem (x (a .rs1)) (bytesOf (a .width))) in
+        by-one _ (a .rd) v (offset xlen pc 4) _ (r .0)
+        (rw q (access-retires 4 5 (x (a .rs1)) (bytesOf (a .width)) base (length mem) (omega arith) (omega arith) _ al i))
 
     -- an SC of n bytes at addr, aligned, in memory and covered
     pub does-sc : (a : Atomic) → a .op ≡ A.Sc → (addr n : ℕ) → x (a .rs1) ≡ addr → bytesOf (a .width) ≡ n → addr % n ≡ 0
         → Inside base (length mem) addr n → covered addr n ≡ true
-        → execute 64 (I.Amo a) word x pc base mem covered ≡ effect (one (a .rd) 0) (nextPc 64 pc) (scStored addr (toLe n (x (a .rs2))))
+        → execute xlen (I.Amo a) word x pc base mem covered ≡ effect (one (a .rd) 0) (nextPc xlen pc) (scStored addr (toLe n (x (a .rs2))))
     unfolding execute execAtomic
     does-sc a q addr n s l al i c =
-        rw q (exec-sc-stored 64 pc (a .width) (a .rd) (x (a .rs1)) (x (a .rs2)) base mem covered (rw (s, l) al) (rw (s, l) i) (rw (s, l) c)
-        ∙ ap₂ (λ (b k : ℕ). effect (one (a .rd) 0) (nextPc 64 pc) (scStored b (toLe k (x (a .rs2))))) s l)
+        rw q (exec-sc-stored xlen pc (a .width) (a .rd) (x (a .rs1)) (x (a .rs2)) base mem covered (rw (s, l) al) (rw (s, l) i) (rw (s, l) c)
+        ∙ ap₂ (λ (b k : ℕ). effect (one (a .rd) 0) (nextPc xlen pc) (scStored b (toLe k (x (a .rs2))))) s l)

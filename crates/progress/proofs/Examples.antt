@@ -13,7 +13,8 @@ use Rattle.word.specs.Bytes.{le, toLe}
 use Rattle.word.specs.Memory.{part, splice}
 use Rattle.word.specs.Each.{allBelow}
 use Rattle.word.proofs.TestLaws.{contrary}
-use Rattle.settings.specs.Settings.{defaults, ofVersion, sizeOk, versionOk}
+use Rattle.settings.specs.Settings.{defaults, ofVersion, ofKind, atVersion, xlenOf, sizeOk, versionOk, kindOk, readingOk}
+use Rattle.settings.proofs.SettingsLaws.{xlen-64, defaults-64}
 use Rattle.settings.specs.declared.Settings.{Settings}
 use Rattle.reserve.specs.Range.{Touch, touches, insideOf, setOf}
 use Rattle.reserve.specs.Reserve.{slot, coversOf, breaksOf, ownOf, observeOf, brokenOf, observeAllOf}
@@ -21,12 +22,13 @@ use Rattle.reserve.specs.declared.Reservation.the-variants.{None, Held}
 use Rattle.reserve.specs.declared.Notice.{Notice}
 use Rattle.reserve.specs.declared.Notice.the-variants as N
 use Rattle.isa.specs.Decode.{classOf, branchOf, jalrOf, storeOf, systemOf, sizedOf, lrOf, atomicOf, decodeOf}
+use Rattle.isa.specs.Narrow.{narrowed, decodeAt}
 use Rattle.isa.specs.declared.Width.the-variants.{Word}
 use Rattle.isa.specs.declared.Atomic.{Atomic}
 use Rattle.isa.specs.declared.AtomicOp.the-variants as A
 use Rattle.isa.specs.declared.Instr.the-variants.{Jalr}
 use Rattle.reserve.proofs.RangeLaws.{inside-of}
-use Rattle.machine.specs.State.{lentOk, memoryOk, reservationOk, hartOk, stateOk, refusalOf}
+use Rattle.machine.specs.State.{lentOk, topOk, memoryOk, reservationOk, hartOk, upperOk, stateOk, refusalOf}
 use Rattle.machine.proofs.StateLaws.{refusal-0}
 use Rattle.effect.specs.Integer.{holdsOf, execBranch, execJump}
 use Rattle.effect.specs.Memory.{faultOf, checked, valueAt, execStore}
@@ -35,7 +37,7 @@ use Rattle.effect.specs.Execute.{regAt, execAtomic, execute, executeWord}
 use Rattle.events.specs.declared.Event.{Event}
 use Rattle.events.specs.declared.Event.the-variants.{Step, Device, Yield}
 use Rattle.model.specs.Act.{setReg, apply, leaves}
-use Rattle.model.specs.Perform.{Machine, fetchOf, deviceOf, actOn, actOf, answerOf, memoryOf, nextOf, runOf, outcomeAt, brokeAt, version}
+use Rattle.model.specs.Perform.{Machine, fetchOf, deviceOf, actOn, actOf, answerOf, memoryOf, nextOf, runOf, outcomeAt, brokeAt, version, xlen}
 use Rattle.model.specs.Trace.{noticeAt, WritesInto}
 use Rattle.model.specs.Valid.{Valid}
 use Rattle.model.specs.declared.Outcome.{Outcome}
@@ -43,6 +45,7 @@ use Rattle.model.specs.declared.Outcome.the-variants as O
 use Rattle.model.proofs.Valid.{valid-run}
 use Rattle.notices.specs.Happened.{WritesBytes, byHart}
 use Rattle.notices.proofs.Exact.{notice-exact, writes-exact}
+use Rattle.retry.proofs.VersionLaws.{checked-same}
 use Rattle.retry.specs.Reasons.{Stands, LrAt}
 use Rattle.retry.specs.declared.LoopAnswer.the-variants.{Accepted, Rejected}
 use Rattle.retry.specs.Loop.{viewOf, pastSc, wrongOffset, clobbers, lowestOf, scanOf, startOf, checkOf}
@@ -98,26 +101,31 @@ begin words v = begin-with defaults words v
 
 -- What is computed with. To name one of these on an `unfolding` line is to name all that its own line does: reading a word of memory and its instruction,
 reading : Unit {0}
-unfolding valueAt le toLe part signExtend ofInt toInt low classOf branchOf sizedOf lrOf atomicOf decodeOf
+unfolding valueAt le toLe part signExtend ofInt toInt low classOf branchOf sizedOf lrOf atomicOf decodeOf xlenOf decodeAt
 reading = tt
+
+-- refusing a state,
+refusing : Unit {0}
+unfolding insideOf allBelow xlenOf sizeOk versionOk kindOk readingOk lentOk topOk memoryOk reservationOk hartOk upperOk stateOk refusalOf
+refusing = tt
 
 -- checking a loop,
 checking : Unit {0}
-unfolding viewOf pastSc wrongOffset clobbers lowestOf scanOf startOf checkOf versionOk
+unfolding viewOf pastSc wrongOffset clobbers lowestOf scanOf startOf checkOf versionOk kindOk readingOk
 checking = tt
 
 -- and running events
 running : Unit {0}
-unfolding reading splice regAt setReg insideOf allBelow sizeOk versionOk lentOk memoryOk reservationOk hartOk stateOk refusalOf
-    touches coversOf breaksOf ownOf observeOf observeAllOf
+unfolding reading refusing splice regAt setReg touches coversOf breaksOf ownOf observeOf observeAllOf
     holdsOf execBranch faultOf checked execLr execSc execAtomic execute executeWord apply leaves fetchOf deviceOf actOn actOf answerOf memoryOf nextOf runOf
 running = tt
 
 -- They meet the start, whatever the word at 1096.
-meets : (words : List ℕ) (v : ℕ) → length (begin words v .mem) ≡ 128 → length words ≤ 8 → checkOf (ofVersion 21) words ≡ Accepted → LrAt words 0 lr
+meets : (words : List ℕ) (v : ℕ) → length (begin words v .mem) ≡ 128 → length words ≤ 8 → checkOf (ofVersion 21) words ≡ Accepted
+    → LrAt (xlenOf defaults) words 0 lr
     → ((k : ℕ) → k < length words → valueAt 1024 (begin words v .mem) (1024 + 4 * k) 4 ≡ getD words k 0)
     → Start 1024 0 1024 1096 words lr (begin words v)
-unfolding refusalOf sizeOk versionOk lentOk memoryOk stateOk hartOk reservationOk insideOf allBelow regAt
+unfolding refusing regAt
 meets words v len few accepted first placed =
     record {
       valid = refusal-0 1024 (length (begin words v .mem)) (begin words v .state) .0 (rw len refl);
@@ -314,21 +322,21 @@ broken = record { yields = refl; device = refl; code-changes = refl }
 
 -- ---- the set is as large as the state says
 
--- the machine of edge 12's loop with other settings meets the start too
-pub starts-with : (settings : Settings) → refusalOf 1024 128 (begin-with settings leaving 0 .state) ≡ 0
+-- the machine of edge 12's loop with other settings, of a 64-bit core, meets the start too
+pub starts-with : (settings : Settings) → settings .kind ≡ 0 → refusalOf 1024 128 (begin-with settings leaving 0 .state) ≡ 0
     → Start 1024 0 1024 1096 leaving lr (begin-with settings leaving 0)
 unfolding toLe
-starts-with settings none =
+starts-with settings is none =
     let start = starts-leaving 0 in
     record {
       valid = refusal-0 1024 128 (begin-with settings leaving 0 .state) .0 none;
       shaped = record { registers = refl; pcs = refl; reservations = refl };
       used = start .used;
       here = start .here;
-      accepted = start .accepted;
+      accepted = checked-same leaving (atVersion 21 settings) (atVersion 21 defaults) is refl ∙ start .accepted;
       placed = start .placed;
       mapped = start .mapped;
-      first = start .first;
+      first = subst (λ (n : ℕ). LrAt n leaving 0 lr) (sym (xlen-64 settings is ∙ sym defaults-64)) (start .first);
       address = start .address;
       aligned = start .aligned;
       reachable = start .reachable;
@@ -336,15 +344,15 @@ starts-with settings none =
 
 -- another set size
 abbrev of-size : ℕ → Settings
-of-size size = record { size = size; version = 21 }
+of-size size = record { size = size; version = 21; kind = 0 }
 
 -- after the LR, with sets of 16 bytes
 abbrev reserved-16 : Machine
 reserved-16 = runOf 1024 (begin-with (of-size 16) leaving 0) (Step 0 ∷ [])
 
 start-16 : Start 1024 0 1024 1096 leaving lr (begin-with (of-size 16) leaving 0)
-unfolding refusalOf sizeOk versionOk lentOk memoryOk stateOk hartOk reservationOk insideOf allBelow
-start-16 = starts-with (of-size 16) refl
+unfolding refusing
+start-16 = starts-with (of-size 16) refl refl
 
 used-16 : 0 < reserved-16 .state .count
 unfolding running
@@ -389,8 +397,8 @@ by-size =
 
 -- edge 12's loop on a machine of A 2.0
 pub starts-20 : Start 1024 0 1024 1096 leaving lr (begin-with (ofVersion 20) leaving 0)
-unfolding refusalOf sizeOk versionOk lentOk memoryOk stateOk hartOk reservationOk insideOf allBelow
-starts-20 = starts-with (ofVersion 20) refl
+unfolding refusing
+starts-20 = starts-with (ofVersion 20) refl refl
 
 -- after hart 0's LR, the harts whose reservation a device write of a byte that it read breaks
 abbrev lost : Settings → ℕ
@@ -418,7 +426,7 @@ abbrev on-20 : Machine
 on-20 = begin-with (ofVersion 20) staying 0
 
 -- its second word is a JALR
-pub jalr-in-it : Stands staying 1 (Jalr 0 0 1028)
+pub jalr-in-it : Stands (xlen on-20) staying 1 (Jalr 0 0 1028)
 unfolding reading jalrOf
 jalr-in-it = record { inBlock = omega arith; decodes = refl }
 
@@ -433,7 +441,7 @@ rejected-21 = refl
 
 -- It meets every clause of the start but one: it is 2.0, the version of the state, that accepts it.
 pub starts-staying : StartUnder 1024 0 1024 1096 staying lr (on-20 .state .settings) on-20
-unfolding reading checking jalrOf refusalOf sizeOk versionOk lentOk memoryOk stateOk hartOk reservationOk insideOf allBelow regAt
+unfolding reading checking refusing jalrOf regAt
 starts-staying =
     record {
       valid = refusal-0 1024 128 (on-20 .state) .0 refl;
@@ -541,3 +549,59 @@ pub not-under-20 : ((base h p addr : ℕ) (words : List ℕ) (first : Atomic) (m
     → StartUnder base h p addr words first (m .state .settings) m → Finishes base h p addr words first (LeftAlone base h p addr words first) m)
     → ⊥
 not-under-20 claim = not-of-staying (claim 1024 0 1024 1096 staying lr on-20 refl starts-staying)
+
+-- ---- a 32-bit core
+
+-- Edge 12's loop at the end of the addresses of a 32-bit core: its four words are the last, so that its first branch, where it is taken, leads past 2 ^ 32,
+-- to 0. 128 bytes at 0xFFFFFF80, and the word v in the set from 0xFFFFFFC0 on.
+abbrev begin-32 : ℕ → Machine
+begin-32 v =
+    record {
+      state =
+          record {
+            count = 1;
+            settings = ofKind 21 1;
+            x = 0 ∷ 0 ∷ 0 ∷ 0 ∷ 0 ∷ 0xFFFFFFC0 ∷ 0 ∷ 0 ∷ 9 ∷ replicate 247 0;
+            pc = 0xFFFFFFF0 ∷ replicate 7 0;
+            res = replicate 8 (slot None);
+          };
+      mem = replicate 64 0 ++ (toLe 4 v ++ (replicate 44 0 ++ code leaving));
+    }
+
+pub starts-32 : (v : ℕ) → Start 0xFFFFFF80 0 0xFFFFFFF0 0xFFFFFFC0 leaving lr (begin-32 v)
+unfolding reading checking refusing regAt narrowed
+starts-32 v =
+    record {
+      valid = refusal-0 0xFFFFFF80 128 (begin-32 v .state) .0 refl;
+      shaped = record { registers = refl; pcs = refl; reservations = refl };
+      used = omega arith;
+      here = refl;
+      accepted = refl;
+      placed = placed;
+      mapped = λ k l. (omega arith, omega arith);
+      first = (record { inBlock = omega arith; decodes = refl }, refl);
+      address = refl;
+      aligned = refl;
+      reachable = (omega arith, omega arith);
+    }
+  where
+    placed : (k : ℕ) → k < 4 → valueAt 0xFFFFFF80 (begin-32 v .mem) (0xFFFFFFF0 + 4 * k) 4 ≡ getD leaving k 0
+    placed zero l = refl
+    placed (suc zero) l = refl
+    placed (suc (suc zero)) l = refl
+    placed (suc (suc (suc zero))) l = refl
+    placed (suc (suc (suc (suc k)))) l = absurd (omega arith)
+
+-- so the claim holds of it
+pub finishes-32 : (v : ℕ) → Finishes 0xFFFFFF80 0 0xFFFFFFF0 0xFFFFFFC0 leaving lr (LeftAlone 0xFFFFFF80 0 0xFFFFFFF0 0xFFFFFFC0 leaving lr) (begin-32 v)
+finishes-32 v = retry-alone 0xFFFFFF80 0 0xFFFFFFF0 0xFFFFFFC0 leaving lr (begin-32 v) (starts-32 v)
+
+-- Where the word is 0 the loop stores by its SC; where it isn't, it is left by its first branch, to address 0.
+pub record AtTheTop : Type 0 where
+  pub stores : outcomeAt 0xFFFFFF80 (runOf 0xFFFFFF80 (begin-32 0) (Step 0 ∷ Step 0 ∷ [])) (Step 0) ≡ O.ScStored
+  pub leaves-to : hartPc (runOf 0xFFFFFF80 (begin-32 5) (Step 0 ∷ Step 0 ∷ [])) 0 ≡ 0
+  pub is-left : Finish 0xFFFFFF80 0 0xFFFFFFF0 0xFFFFFFC0 leaving lr (runOf 0xFFFFFF80 (begin-32 5) (Step 0 ∷ [])) (Step 0)
+
+pub at-the-top : AtTheTop
+unfolding running narrowed
+at-the-top = record { stores = refl; leaves-to = refl; is-left = left (λ k l q. let z : 0 ≡ 0xFFFFFFF0 + 4 * k = q in omega arith) }

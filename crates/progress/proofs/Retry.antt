@@ -1,9 +1,10 @@
 -- Demand 3: an accepted retry loop that is left alone finishes. Assumes nothing.
 use mathlib.Core.Path.{_≡_, refl, sym, _∙_, ap, ap₂, subst}
-use mathlib.Core.Logic.{_≢_, _⊎_, inl, inr}
+use mathlib.Core.Logic.{_≢_, _⊎_, inl, inr, ⊎-elim}
 use mathlib.Core.Bool.{Bool, true, false, cond}
 use mathlib.Core.List.{List, [], _∷_, _++_}
 use Prim.Native.Nat.{ℕ, suc, _+_, _*_, _-_, _/_, _^_, _%_, _≤_, _<_}
+use native.Mathlib.Nat.{mod-eq-of-lt}
 use native.Mathlib.Omega.{arith}
 use native.Mathlib.Decide.{decLt}
 use lib.ListN.{length, getD}
@@ -13,7 +14,10 @@ use Rattle.word.specs.Bytes.{toLe}
 use Rattle.word.specs.Memory.{part}
 use Rattle.word.proofs.BytesLaws.{length-toLe}
 use Rattle.word.proofs.MemoryLaws.{part-splice}
-use Rattle.settings.specs.Settings.{ofVersion}
+use Rattle.word.specs.Word.{Xlen}
+use Rattle.word.proofs.WordLaws.{split-lt, xlen-bounds}
+use Rattle.settings.specs.Settings.{atVersion, xlenOf}
+use Rattle.settings.proofs.SettingsLaws.{xlen-is, at-version-xlen}
 use Rattle.settings.specs.declared.Settings.{Settings}
 use Rattle.reserve.specs.Range.{Touch, Inside, setOf}
 use Rattle.reserve.specs.Reserve.{coversOf, observeOf}
@@ -24,28 +28,28 @@ use Rattle.reserve.specs.declared.Notice.the-variants as N
 use Rattle.reserve.proofs.RangeLaws.{covers-exact, reserved-in-set}
 use Rattle.isa.specs.Width.{bytesOf}
 use Rattle.isa.specs.Wf.{Regs}
-use Rattle.isa.specs.Decode.{decodeOf}
+use Rattle.isa.specs.Narrow.{decodeAt}
 use Rattle.isa.specs.declared.Atomic.{Atomic}
 use Rattle.isa.specs.declared.AtomicOp.the-variants as A
 use Rattle.isa.specs.declared.Instr.{Instr}
 use Rattle.isa.specs.declared.Instr.the-variants as I
-use Rattle.isa.proofs.DecodeLaws.{regs-below}
+use Rattle.isa.proofs.NarrowLaws.{regs-at}
 use Rattle.machine.specs.Rules.{Shaped}
-use Rattle.effect.specs.Effect.{Writes, one, Access, nothing, reserve, scStored, Exec, noticeOf, nextPc}
+use Rattle.effect.specs.Effect.{Writes, one, Access, nothing, reserve, scStored, Exec, noticeOf, offset, nextPc}
 use Rattle.effect.specs.Memory.{valueAt}
 use Rattle.effect.specs.Execute.{regAt, execute}
 use Rattle.effect.proofs.Sound.{width-is}
 use Rattle.events.specs.declared.Event.{Event}
 use Rattle.events.specs.declared.Event.the-variants.{Step, Device, Yield}
 use Rattle.model.specs.Act.{Act, change, outcomeOf, retiredAs, actNotice, written, pcsAfter, registersAfter, apply, leaves}
-use Rattle.model.specs.Perform.{Machine, setSize, reservationOf, ofExec, actOf, answerOf, memoryOf, nextOf, runOf, outcomeAt}
+use Rattle.model.specs.Perform.{Machine, setSize, xlen, reservationOf, ofExec, actOf, answerOf, memoryOf, nextOf, runOf, outcomeAt}
 use Rattle.model.specs.Valid.{Valid}
 use Rattle.model.specs.Trace.{noticeAt, WritesInto, NotBy}
 use Rattle.model.specs.Fetch.{Fetches}
 use Rattle.model.specs.Retired.{IsRetired}
 use Rattle.model.specs.declared.Outcome.the-variants as O
 use Rattle.model.proofs.Valid.{valid-next, length-next}
-use Rattle.model.proofs.Frame.{count-next, shaped-next, other-reg, other-pc, not-by, res-next, observe-quiet, value-next, step-act}
+use Rattle.model.proofs.Frame.{count-next, settings-next, shaped-next, other-reg, other-pc, not-by, res-next, observe-quiet, value-next, step-act}
 use Rattle.history.specs.History.{Spares}
 use Rattle.history.proofs.History.{made, kept}
 use Rattle.retry.specs.Loop.{viewOf, viewAt, checkOf}
@@ -57,6 +61,7 @@ use Rattle.retry.proofs.ViewLaws.{Seen, SeenLr, SeenSc, seen, lr-view}
 use Rattle.retry.proofs.ShapeLaws.{Ahead, Home, Keeps, Before, After, Block, block}
 use Rattle.progress.specs.Claim.{hartPc, isStep, StoresAtLr, FineAs, Fine, Start, Harmless, Finish, bySc, left, back}
 use Rattle.progress.specs.Claim.{Safe, Finishes, Calm, Unfinished, steps, NextStep}
+use Rattle.progress.proofs.WrapLaws.{moved, stays-put, addresses}
 use Rattle.progress.proofs.Does.{Moves, Does, does, does-lr, does-sc}
 
 -- ---- notices
@@ -125,25 +130,45 @@ module _ (base : ℕ) (m : Machine) (h : ℕ) (ws : Writes) (to : ℕ) (t : Acce
 abbrev SafeAlone : (base h p addr : ℕ) (words : List ℕ) (lr : Atomic) → ℕ → Machine → List Event → Type 0
 SafeAlone base h p addr words lr = Safe base h p addr words lr (Harmless base h p addr words lr)
 
+-- what the word at a place is on a machine of these settings, and what the loop checker sees of it under A 2.1
+abbrev instrAt : Settings → List ℕ → ℕ → Instr
+instrAt settings words k = decodeAt (xlenOf settings) (getD words k 0)
+
+abbrev seenAt : Settings → List ℕ → ℕ → View
+seenAt settings words k = viewOf (atVersion 21 settings) (instrAt settings words k)
+
+-- the checker reads the word at the machine's own width: a version changes none
+as-seen : (settings : Settings) (words : List ℕ) (k : ℕ) → seenAt settings words k ≡ viewAt (atVersion 21 settings) words k
+as-seen settings words k =
+    ap (λ (n : ℕ). viewOf (atVersion 21 settings) (decodeAt n (getD words k 0))) (sym (at-version-xlen 21 settings))
+
 -- ---- the loop: an LR at place 0, the first SC at place j
 
-module _ (base h p addr : ℕ) (words : List ℕ) (lr : Atomic) (j : ℕ)
+module _ (settings : Settings) (base h p addr : ℕ) (words : List ℕ) (lr : Atomic) (j : ℕ)
     (aligned : addr % bytesOf (lr .width) ≡ 0)
-    (first : decodeOf (getD words 0 0) ≡ I.Amo lr) (isLr : lr .op ≡ A.Lr)
+    (first : instrAt settings words 0 ≡ I.Amo lr) (isLr : lr .op ≡ A.Lr)
     (keeps : Keeps (lr .rs1) (lr .rd))
     (j-pos : 0 < j) (j-in : j < length words)
-    (sc-view : viewAt (ofVersion 21) words j ≡ Sc (lr .rs1) (bytesOf (lr .width)))
-    (before : (k : ℕ) → 0 < k → k < j → Before (lr .rs1) (viewAt (ofVersion 21) words k))
-    (after : (k : ℕ) → j < k → k < length words → After k (viewAt (ofVersion 21) words k)) where
+    (sc-view : seenAt settings words j ≡ Sc (lr .rs1) (bytesOf (lr .width)))
+    (before : (k : ℕ) → 0 < k → k < j → Before (lr .rs1) (seenAt settings words k))
+    (after : (k : ℕ) → j < k → k < length words → After k (seenAt settings words k)) where
+  -- the register width
+  abbrev bits : ℕ
+  bits = xlenOf settings
+
+  many : 2 ^ 32 ≤ 2 ^ bits
+  many = addresses bits (xlen-is settings)
+
   own-set : (m : Machine) → Valid base m → Inside (setOf (setSize m) addr) (setSize m) addr (bytesOf (lr .width))
   own-set m v = reserved-in-set (m .state .settings) (v .0 .0) addr (bytesOf (lr .width)) (width-is (lr .width)) aligned
 
   lr-regs : Regs (I.Amo lr)
-  lr-regs = subst Regs first (regs-below (getD words 0 0))
+  lr-regs = subst Regs first (regs-at bits (getD words 0 0))
 
   -- what holds at every place
   record Ground (m : Machine) : Type 0 where
     valid : Valid base m
+    set-so : m .state .settings ≡ settings
     shaped : Shaped (m .state)
     used : h < m .state .count
     placed : (k : ℕ) → k < length words → valueAt base (m .mem) (p + 4 * k) 4 ≡ getD words k 0
@@ -162,6 +187,7 @@ module _ (base h p addr : ℕ) (words : List ℕ) (lr : Atomic) (j : ℕ)
   ground-next m e g d =
       record {
         valid = valid-next base m (g .valid) e;
+        set-so = settings-next base m e ∙ g .set-so;
         shaped = shaped-next base m e (g .shaped);
         used = subst (λ (c : ℕ). h < c) (sym (count-next base m e)) (g .used);
         placed = λ k l.
@@ -200,43 +226,57 @@ module _ (base h p addr : ℕ) (words : List ℕ) (lr : Atomic) (j : ℕ)
     -- what an instruction does here, and the word at the place
     abbrev by : Instr → Exec
     by n =
-        execute 64 n (valueAt base (m .mem) (hartPc m h) 4) (regAt (m .state .x) h) (hartPc m h) base (m .mem)
+        execute bits n (valueAt base (m .mem) (hartPc m h) 4) (regAt (m .state .x) h) (hartPc m h) base (m .mem)
         (coversOf (m .state .settings) (reservationOf (m .state) h))
 
     abbrev exec : Exec
-    exec = by (decodeOf (getD words i 0))
+    exec = by (instrAt settings words i)
 
-    fetches : Fetches base m h (decodeOf (getD words i 0))
+    width-so : xlen m ≡ bits
+    width-so = ap xlenOf (a .ground .set-so)
+
+    fetches : Fetches base m h (instrAt settings words i)
     fetches =
         record {
           inside = subst (λ (x : ℕ). Inside base (length (m .mem)) x 4) (sym (a .here)) (a .ground .mapped i (a .inLoop));
-          decodes = ap decodeOf (ap (λ (x : ℕ). valueAt base (m .mem) x 4) (a .here) ∙ a .ground .placed i (a .inLoop));
+          decodes = ap₂ decodeAt width-so (ap (λ (x : ℕ). valueAt base (m .mem) x 4) (a .here) ∙ a .ground .placed i (a .inLoop));
         }
 
     act-is : actOf base (m .mem) (m .state) (Step h) ≡ ofExec h exec
-    act-is = step-act base m (a .ground .valid) h (a .ground .used) (decodeOf (getD words i 0)) fetches
+    act-is =
+        step-act base m (a .ground .valid) h (a .ground .used) (instrAt settings words i) fetches
+        ∙ ap (λ (k : ℕ). ofExec h
+        (execute k (instrAt settings words i) (valueAt base (m .mem) (hartPc m h) 4) (regAt (m .state .x) h) (hartPc m h) base (m .mem)
+        (coversOf (m .state .settings) (reservationOf (m .state) h)))) width-so
 
     hart-8 : h < 8
     hart-8 = omega (arith, a .ground .used, a .ground .valid .1 .1)
 
-    low : p + 4 * i + 4 ≤ 2 ^ 41
-    low = omega (arith, a .ground .mapped i (a .inLoop) .1, a .ground .valid .0 .1 .1, a .ground .valid .0 .1 .4)
+    -- the words of the block stand below 2 ^ bits, and in a memory that is much shorter
+    below : (k : ℕ) → k < length words → p + 4 * k < 2 ^ bits
+    below k l = omega (arith, a .ground .mapped k l .1, subst (λ (s : Settings). base + length (m .mem) ≤ 2 ^ xlenOf s) (a .ground .set-so) (a .ground .valid .0 .2))
 
-    pc-low : hartPc m h + 4 < 2 ^ 64
-    pc-low = omega (arith, a .here, low)
+    close : (k : ℕ) → k < length words → 4 * k < 2 ^ 20
+    close k l = omega (arith, a .ground .mapped 0 (omega arith) .0, a .ground .mapped k l .1, a .ground .valid .0 .1 .1)
+
+    enough : 2 ≤ bits
+    enough = omega (arith, xlen-bounds bits (xlen-is settings) .0)
 
     pc-aligned : hartPc m h % 4 ≡ 0
     pc-aligned = a .ground .valid .1 .2 h (a .ground .used) .1
 
     -- it retires and goes to a later place: there, or out of the loop
-    module _ (rd i′ : ℕ) (t : Access) (mv : Moves exec rd (p + 4 * i′) t) (on : i < i′)
+    module _ (rd i′ : ℕ) (t : Access) (mv : Moves exec rd (offset bits p (4 * i′)) t) (on : i < i′) (short : 4 * i′ < 2 ^ 32)
         (quiet : WritesInto (noticeOf h t) p (4 * length words) → ⊥) (rs1-kept : i′ ≤ j → Keeps (lr .rs1) rd)
         (res-held : i′ ≤ j → observeOf (m .state .settings) h (noticeOf h t) (reservationOf (m .state) h) ≡ Held addr (bytesOf (lr .width))) where
-      changed : actOf base (m .mem) (m .state) (Step h) ≡ change h (mv .ws) (p + 4 * i′) t
+      abbrev to : ℕ
+      to = offset bits p (4 * i′)
+
+      changed : actOf base (m .mem) (m .state) (Step h) ≡ change h (mv .ws) to t
       changed = act-is ∙ ap (ofExec h) (mv .is)
 
-      to-there : hartPc (nextOf base m (Step h)) h ≡ p + 4 * i′
-      to-there = goes base m h (mv .ws) (p + 4 * i′) t changed (omega (arith, hart-8, a .ground .shaped .pcs))
+      to-there : hartPc (nextOf base m (Step h)) h ≡ to
+      to-there = goes base m h (mv .ws) to t changed (omega (arith, hart-8, a .ground .shaped .pcs))
 
       arrive : Onward m i
       unfolding Onward
@@ -249,63 +289,75 @@ module _ (base h p addr : ℕ) (words : List ℕ) (lr : Atomic) (j : ℕ)
                 on,
                 record {
                   ground = ground-next m (Step h) (a .ground)
-                      (subst (λ (n : Notice). WritesInto n p (4 * length words) → ⊥) (sym (noticed base m h (mv .ws) (p + 4 * i′) t changed)) quiet);
-                  here = to-there;
+                      (subst (λ (n : Notice). WritesInto n p (4 * length words) → ⊥) (sym (noticed base m h (mv .ws) to t changed)) quiet);
+                  here = to-there ∙ mod-eq-of-lt (below i′ b);
                   inLoop = b;
                   source = λ l.
-                      regs base m h (mv .ws) (p + 4 * i′) t changed (lr .rs1) ∙ mv .kept (m .state .x) h (lr .rs1) (lr-regs .1) (rs1-kept l)
+                      regs base m h (mv .ws) to t changed (lr .rs1) ∙ mv .kept (m .state .x) h (lr .rs1) (lr-regs .1) (rs1-kept l)
                       ∙ a .source (omega arith);
                   holds = λ z l.
                       res-next base m (Step h) (a .ground .valid) (a .ground .shaped) h (a .ground .used)
-                      ∙ ap (λ (n : Notice). observeOf (m .state .settings) h n (reservationOf (m .state) h)) (noticed base m h (mv .ws) (p + 4 * i′) t changed)
+                      ∙ ap (λ (n : Notice). observeOf (m .state .settings) h n (reservationOf (m .state) h)) (noticed base m h (mv .ws) to t changed)
                       ∙ res-held l;
                 },
               )
-          go (no b) = inl (left (λ k l x. let y : p + 4 * k ≡ p + 4 * i′ = sym x ∙ to-there in b (omega arith)))
+          go (no b) =
+              inl (left (λ k l x.
+              let past : length words ≤ i′ = ⊎-elim (λ c. absurd (b c)) (λ g. g) (split-lt i′ (length words)) in
+              let far : 0 < 4 * i′ - 4 * k = omega (arith, l, past) in
+              let there : p + 4 * k + (4 * i′ - 4 * k) ≡ p + 4 * i′ = omega (arith, far) in
+              moved (2 ^ bits) (p + 4 * k) (4 * i′ - 4 * k) (below k l) far (omega (arith, short, many))
+              (ap (λ (n : ℕ). n % 2 ^ bits) there ∙ sym to-there ∙ x)))
 
       fine : FineAs base h p addr words lr m (Step h) (retiredAs (noticeOf h t)) → Fine base h p addr words lr m (Step h)
-      fine f = subst (FineAs base h p addr words lr m (Step h)) (sym (said base m h (mv .ws) (p + 4 * i′) t changed)) f
+      fine f = subst (FineAs base h p addr words lr m (Step h)) (sym (said base m h (mv .ws) to t changed)) f
 
     -- a word that tells nothing
-    silent : (rd i′ : ℕ) → Moves exec rd (p + 4 * i′) nothing → i < i′ → 0 < i → (i < j → Keeps (lr .rs1) rd) → Good m i
+    silent : (rd i′ : ℕ) → Moves exec rd (offset bits p (4 * i′)) nothing → i < i′ → 4 * i′ < 2 ^ 32 → 0 < i → (i < j → Keeps (lr .rs1) rd) → Good m i
     unfolding Good
-    silent rd i′ mv on z ks = (
-      fine rd i′ nothing mv on (λ t. t) (λ l. ks (omega arith)) (λ l. observe-quiet (m .state .settings) h _ ∙ a .holds z (omega arith)) tt,
-      arrive rd i′ nothing mv on (λ t. t) (λ l. ks (omega arith)) (λ l. observe-quiet (m .state .settings) h _ ∙ a .holds z (omega arith)),
+    silent rd i′ mv on short z ks = (
+      fine rd i′ nothing mv on short (λ t. t) (λ l. ks (omega arith)) (λ l. observe-quiet (m .state .settings) h _ ∙ a .holds z (omega arith)) tt,
+      arrive rd i′ nothing mv on short (λ t. t) (λ l. ks (omega arith)) (λ l. observe-quiet (m .state .settings) h _ ∙ a .holds z (omega arith)),
     )
 
-    forward : (rd off : ℕ) → Moves exec rd ((hartPc m h + off) % 2 ^ 64) nothing → Ahead off → 0 < i → (i < j → Keeps (lr .rs1) rd) → Good m i
+    forward : (rd off : ℕ) → Moves exec rd (offset bits (hartPc m h) off) nothing → Ahead off → 0 < i → (i < j → Keeps (lr .rs1) rd) → Good m i
     forward rd off mv f z ks =
-        silent rd (i + off / 4) (subst (λ (x : ℕ). Moves exec rd x nothing) (omega (arith, low, a .here)) mv) (omega arith) z ks
+        let there : hartPc m h + off ≡ p + 4 * (i + off / 4) = omega (arith, a .here, f .0) in
+        silent rd (i + off / 4) (subst (λ (x : ℕ). Moves exec rd (x % 2 ^ bits) nothing) there mv) (omega (arith, f .0, f .1))
+        (omega (arith, close i (a .inLoop), f .2)) z ks
 
-    in-order : (rd : ℕ) → Moves exec rd (hartPc m h + 4) nothing → 0 < i → (i < j → Keeps (lr .rs1) rd) → Good m i
+    in-order : (rd : ℕ) → Moves exec rd (offset bits (hartPc m h) 4) nothing → 0 < i → (i < j → Keeps (lr .rs1) rd) → Good m i
     in-order rd mv z ks =
-        silent rd (i + 1) (subst (λ (x : ℕ). Moves exec rd x nothing) (omega (arith, a .here)) mv) (omega arith) z ks
+        let there : hartPc m h + 4 ≡ p + 4 * (i + 1) = omega (arith, a .here) in
+        silent rd (i + 1) (subst (λ (x : ℕ). Moves exec rd (x % 2 ^ bits) nothing) there mv) (omega arith) (omega (arith, close i (a .inLoop))) z ks
 
-    home : (rd off : ℕ) → Moves exec rd ((hartPc m h + off) % 2 ^ 64) nothing → Home i off → Good m i
+    home : (rd off : ℕ) → Moves exec rd (offset bits (hartPc m h) off) nothing → Home i off → Good m i
     unfolding Good Onward
     home rd off mv f =
-        let to : ℕ = (hartPc m h + off) % 2 ^ 64 in
+        let to : ℕ = offset bits (hartPc m h) off in
+        let there : hartPc m h + off ≡ p + (4 * i + off) = omega (arith, a .here) in
+        let start : p < 2 ^ bits = omega (arith, below i (a .inLoop)) in
         let q : actOf base (m .mem) (m .state) (Step h) ≡ change h (mv .ws) to nothing = act-is ∙ ap (ofExec h) (mv .is) in (
           subst (FineAs base h p addr words lr m (Step h)) (sym (said base m h (mv .ws) to nothing q)) tt,
-          inl (back (goes base m h (mv .ws) to nothing q (omega (arith, hart-8, a .ground .shaped .pcs)) ∙ omega (arith, low, a .here))),
+          inl (back (goes base m h (mv .ws) to nothing q (omega (arith, hart-8, a .ground .shaped .pcs))
+              ∙ ap (λ (n : ℕ). n % 2 ^ bits) there ∙ stays-put bits p (4 * i + off) (xlen-bounds bits (xlen-is settings) .1) start (f .1))),
         )
 
     -- between the LR and the first SC
-    middle : 0 < i → (v : View) → Before (lr .rs1) v → Does v (hartPc m h) exec → Good m i
+    middle : 0 < i → (v : View) → Before (lr .rs1) v → Does bits v (hartPc m h) exec → Good m i
     middle z (Lr rd s u) b d = absurd b
     middle z (Sc s u) b d = absurd b
     middle z (Plain rd) b d = in-order rd d z (λ l. b)
     middle z (Jump rd off) b d = forward rd off (d (b .0 .0)) (b .0) z (λ l. b .1)
     middle z (Branch off) b d = go (d (b .0))
       where
-        go : Moves exec 0 (hartPc m h + 4) nothing ⊎ Moves exec 0 ((hartPc m h + off) % 2 ^ 64) nothing → Good m i
+        go : Moves exec 0 (offset bits (hartPc m h) 4) nothing ⊎ Moves exec 0 (offset bits (hartPc m h) off) nothing → Good m i
         go (inl mv) = in-order 0 mv z (λ l q. q)
         go (inr mv) = forward 0 off mv b z (λ l q. q)
     middle z Other b d = absurd b
 
     -- after the first SC
-    turn : (rd off : ℕ) → j < i → Moves exec rd ((hartPc m h + off) % 2 ^ 64) nothing → Ahead off ⊎ Home i off → Good m i
+    turn : (rd off : ℕ) → j < i → Moves exec rd (offset bits (hartPc m h) off) nothing → Ahead off ⊎ Home i off → Good m i
     turn rd off z mv (inl f) = forward rd off mv f (omega arith) (λ l. absurd (omega arith))
     turn rd off z mv (inr f) = home rd off mv f
 
@@ -313,14 +365,14 @@ module _ (base h p addr : ℕ) (words : List ℕ) (lr : Atomic) (j : ℕ)
     multiple off (inl f) = f .0
     multiple off (inr f) = f .0
 
-    late : j < i → (v : View) → After i v → Does v (hartPc m h) exec → Good m i
+    late : j < i → (v : View) → After i v → Does bits v (hartPc m h) exec → Good m i
     late z (Lr rd s u) b d = absurd b
     late z (Sc s u) b d = absurd b
     late z (Plain rd) b d = in-order rd d (omega arith) (λ l. absurd (omega arith))
     late z (Jump rd off) b d = turn rd off z (d (multiple off b)) b
     late z (Branch off) b d = go (d (multiple off b))
       where
-        go : Moves exec 0 (hartPc m h + 4) nothing ⊎ Moves exec 0 ((hartPc m h + off) % 2 ^ 64) nothing → Good m i
+        go : Moves exec 0 (offset bits (hartPc m h) 4) nothing ⊎ Moves exec 0 (offset bits (hartPc m h) off) nothing → Good m i
         go (inl mv) = in-order 0 mv (omega arith) (λ l. absurd (omega arith))
         go (inr mv) = turn 0 off z mv b
     late z Other b d = absurd b
@@ -329,32 +381,32 @@ module _ (base h p addr : ℕ) (words : List ℕ) (lr : Atomic) (j : ℕ)
     opening : i ≡ 0 → Good m i
     unfolding Good
     opening z = (
-      fine (lr .rd) 1 (reserve addr (bytesOf (lr .width))) mv (omega arith) (λ t. t) (λ l. keeps)
+      fine (lr .rd) 1 (reserve addr (bytesOf (lr .width))) mv (omega arith) (omega arith) (λ t. t) (λ l. keeps)
           (λ l. made (m .state .settings) h addr (bytesOf (lr .width)) _) tt,
-      arrive (lr .rd) 1 (reserve addr (bytesOf (lr .width))) mv (omega arith) (λ t. t) (λ l. keeps)
+      arrive (lr .rd) 1 (reserve addr (bytesOf (lr .width))) mv (omega arith) (omega arith) (λ t. t) (λ l. keeps)
           (λ l. made (m .state .settings) h addr (bytesOf (lr .width)) _),
     )
       where
         src : regAt (m .state .x) h (lr .rs1) ≡ addr
         src = a .source (omega arith)
 
-        is : decodeOf (getD words i 0) ≡ I.Amo lr
-        is = ap (λ (k : ℕ). decodeOf (getD words k 0)) z ∙ first
+        is : instrAt settings words i ≡ I.Amo lr
+        is = ap (instrAt settings words) z ∙ first
 
-        at-lr : Moves (by (I.Amo lr)) (lr .rd) (hartPc m h + 4) (reserve (regAt (m .state .x) h (lr .rs1)) (bytesOf (lr .width)))
+        at-lr : Moves (by (I.Amo lr)) (lr .rd) (offset bits (hartPc m h) 4) (reserve (regAt (m .state .x) h (lr .rs1)) (bytesOf (lr .width)))
         at-lr =
-            does-lr (hartPc m h) pc-aligned pc-low (valueAt base (m .mem) (hartPc m h) 4) (regAt (m .state .x) h) base (m .mem)
+            does-lr bits enough (hartPc m h) pc-aligned (valueAt base (m .mem) (hartPc m h) 4) (regAt (m .state .x) h) base (m .mem)
             (coversOf (m .state .settings) (reservationOf (m .state) h)) lr isLr lr-regs (ap (λ (x : ℕ). x % bytesOf (lr .width)) src ∙ aligned)
             (subst (λ (x : ℕ). Inside base (length (m .mem)) x (bytesOf (lr .width))) (sym src) (a .ground .reachable))
 
         next : hartPc m h + 4 ≡ p + 4 * 1
         next = omega (arith, a .here)
 
-        mv : Moves exec (lr .rd) (p + 4 * 1) (reserve addr (bytesOf (lr .width)))
+        mv : Moves exec (lr .rd) (offset bits p (4 * 1)) (reserve addr (bytesOf (lr .width)))
         mv =
-            subst (λ (n : Instr). Moves (by n) (lr .rd) (p + 4 * 1) (reserve addr (bytesOf (lr .width)))) (sym is)
-            (subst (λ (x : ℕ). Moves (by (I.Amo lr)) (lr .rd) x (reserve addr (bytesOf (lr .width)))) next
-            (subst (λ (x : ℕ). Moves (by (I.Amo lr)) (lr .rd) (hartPc m h + 4) (reserve x (bytesOf (lr .width)))) src at-lr))
+            subst (λ (n : Instr). Moves (by n) (lr .rd) (offset bits p (4 * 1)) (reserve addr (bytesOf (lr .width)))) (sym is)
+            (subst (λ (x : ℕ). Moves (by (I.Amo lr)) (lr .rd) (x % 2 ^ bits) (reserve addr (bytesOf (lr .width)))) next
+            (subst (λ (x : ℕ). Moves (by (I.Amo lr)) (lr .rd) (offset bits (hartPc m h) 4) (reserve x (bytesOf (lr .width)))) src at-lr))
 
     -- the place of the first SC
     closing : i ≡ j → Good m i
@@ -364,8 +416,10 @@ module _ (base h p addr : ℕ) (words : List ℕ) (lr : Atomic) (j : ℕ)
       inl (bySc kept),
     )
       where
-        s : SeenSc (decodeOf (getD words i 0)) (lr .rs1) (bytesOf (lr .width))
-        s = subst (Seen (decodeOf (getD words i 0))) (ap (viewAt (ofVersion 21) words) z ∙ sc-view) (seen (ofVersion 21) (decodeOf (getD words i 0)))
+        s : SeenSc (instrAt settings words i) (lr .rs1) (bytesOf (lr .width))
+        s =
+            subst (Seen (instrAt settings words i)) (ap (seenAt settings words) z ∙ sc-view)
+            (seen (atVersion 21 settings) (instrAt settings words i))
 
         new : List ℕ
         new = toLe (bytesOf (lr .width)) (regAt (m .state .x) h (s .of .rs2))
@@ -378,17 +432,17 @@ module _ (base h p addr : ℕ) (words : List ℕ) (lr : Atomic) (j : ℕ)
             ap (λ (r : Reservation). coversOf (m .state .settings) r addr (bytesOf (lr .width))) (a .holds (omega arith) (omega arith))
             ∙ covers-exact (m .state .settings) addr (bytesOf (lr .width)) addr (bytesOf (lr .width)) .1 (own-set m (a .ground .valid))
 
-        act : actOf base (m .mem) (m .state) (Step h) ≡ change h (one (s .of .rd) 0) (nextPc 64 (hartPc m h)) (scStored addr new)
+        act : actOf base (m .mem) (m .state) (Step h) ≡ change h (one (s .of .rd) 0) (nextPc bits (hartPc m h)) (scStored addr new)
         act =
             act-is
             ∙ ap (λ (n : Instr). ofExec h (by n)) (s .is)
             ∙ ap (ofExec h)
-            (does-sc (hartPc m h) pc-aligned pc-low (valueAt base (m .mem) (hartPc m h) 4) (regAt (m .state .x) h) base (m .mem)
+            (does-sc bits enough (hartPc m h) pc-aligned (valueAt base (m .mem) (hartPc m h) 4) (regAt (m .state .x) h) base (m .mem)
             (coversOf (m .state .settings) (reservationOf (m .state) h)) (s .of) (s .kind) addr (bytesOf (lr .width)) src (s .width-is) aligned
             (a .ground .reachable) covered)
 
         answers : outcomeAt base m (Step h) ≡ O.ScStored
-        answers = said base m h (one (s .of .rd) 0) (nextPc 64 (hartPc m h)) (scStored addr new) act
+        answers = said base m h (one (s .of .rd) 0) (nextPc bits (hartPc m h)) (scStored addr new) act
 
         size : length new ≡ bytesOf (lr .width)
         size = length-toLe (bytesOf (lr .width)) (regAt (m .state .x) h (s .of .rs2))
@@ -396,7 +450,7 @@ module _ (base h p addr : ℕ) (words : List ℕ) (lr : Atomic) (j : ℕ)
         bytes : part (nextOf base m (Step h) .mem) (addr - base) (bytesOf (lr .width)) ≡ new
         bytes =
             ap₂ (λ (l : List ℕ) (n : ℕ). part l (addr - base) n)
-            (leaves-mem base m h (one (s .of .rd) 0) (nextPc 64 (hartPc m h)) (scStored addr new) act) (sym size)
+            (leaves-mem base m h (one (s .of .rd) 0) (nextPc bits (hartPc m h)) (scStored addr new) act) (sym size)
             ∙ part-splice (m .mem) (addr - base) new (omega (arith, size, a .ground .reachable .0, a .ground .reachable .1))
 
         kept : StoresAtLr base h p addr words lr m (Step h)
@@ -434,16 +488,16 @@ module _ (base h p addr : ℕ) (words : List ℕ) (lr : Atomic) (j : ℕ)
     own : Good m i
     own = go place
       where
-        d : Does (viewAt (ofVersion 21) words i) (hartPc m h) exec
+        d : Does bits (seenAt settings words i) (hartPc m h) exec
         d =
-            does (hartPc m h) pc-aligned pc-low (valueAt base (m .mem) (hartPc m h) 4) (regAt (m .state .x) h) base (m .mem)
-            (coversOf (m .state .settings) (reservationOf (m .state) h)) (decodeOf (getD words i 0)) (regs-below (getD words i 0))
+            does bits enough (hartPc m h) pc-aligned (valueAt base (m .mem) (hartPc m h) 4) (regAt (m .state .x) h) base (m .mem)
+            (coversOf (m .state .settings) (reservationOf (m .state) h)) settings (instrAt settings words i) (regs-at bits (getD words i 0))
 
         go : Place → Good m i
         go (at-lr z) = opening z
-        go (at-middle z l) = middle z (viewAt (ofVersion 21) words i) (before i z l) d
+        go (at-middle z l) = middle z (seenAt settings words i) (before i z l) d
         go (at-sc z) = closing z
-        go (at-late z) = late z (viewAt (ofVersion 21) words i) (after i z (a .inLoop)) d
+        go (at-late z) = late z (seenAt settings words i) (after i z (a .inLoop)) d
 
   -- the claim, from any place at which enough steps are left
   safe : (es : List Event) (m : Machine) (i k : ℕ) → At m i → length words ≤ k + i → SafeAlone base h p addr words lr k m es
@@ -470,20 +524,27 @@ module _ (base h p addr : ℕ) (words : List ℕ) (lr : Atomic) (j : ℕ)
           on (inr s) = let b : s .0 < length words = s .2 .inLoop in inr (omega arith, ih (s .0) (k - 1) (s .2) (omega arith))
 
 -- Every block that A 2.1 accepts has the LR that the start names.
-pub has-lr : (words : List ℕ) → checkOf (ofVersion 21) words ≡ Accepted → (lr : Atomic) × LrAt words 0 lr
-has-lr words q =
-    let b : Block (ofVersion 21) words = block (ofVersion 21) words q in
-    let i = decodeOf (getD words 0 0) in
-    let s : SeenLr i (b .rd) (b .rs1) (b .width) = subst (Seen i) (b .lr-is) (seen (ofVersion 21) i) in
+pub has-lr : (settings : Settings) (words : List ℕ) → checkOf (atVersion 21 settings) words ≡ Accepted
+    → (lr : Atomic) × LrAt (xlenOf settings) words 0 lr
+has-lr settings words q =
+    let b : Block (atVersion 21 settings) words = block (atVersion 21 settings) words q in
+    let i = instrAt settings words 0 in
+    let is : seenAt settings words 0 ≡ Lr (b .rd) (b .rs1) (b .width) = as-seen settings words 0 ∙ b .lr-is in
+    let s : SeenLr i (b .rd) (b .rs1) (b .width) = subst (Seen i) is (seen (atVersion 21 settings) i) in
     (s .of, (record { inBlock = omega (arith, b .inBlock); decodes = s .is }, s .kind))
 
 module _ (base h p addr : ℕ) (words : List ℕ) (lr : Atomic) (m : Machine) (st : Start base h p addr words lr m) where
-  b : Block (ofVersion 21) words
-  b = block (ofVersion 21) words (st .accepted)
+  abbrev settings : Settings
+  settings = m .state .settings
+
+  b : Block (atVersion 21 settings) words
+  b = block (atVersion 21 settings) words (st .accepted)
 
   -- the LR that acceptance tells of is the start's
   same : Lr (b .rd) (b .rs1) (b .width) ≡ Lr (lr .rd) (lr .rs1) (bytesOf (lr .width))
-  same = sym (b .lr-is) ∙ ap (viewOf (ofVersion 21)) (st .first .0 .decodes) ∙ lr-view (ofVersion 21) lr (st .first .1)
+  same =
+      sym (b .lr-is) ∙ sym (as-seen settings words 0) ∙ ap (viewOf (atVersion 21 settings)) (st .first .0 .decodes)
+      ∙ lr-view (atVersion 21 settings) lr (st .first .1)
 
   rd-same : b .rd ≡ lr .rd
   rd-same = cc same
@@ -497,13 +558,23 @@ module _ (base h p addr : ℕ) (words : List ℕ) (lr : Atomic) (m : Machine) (s
   -- Demand 3: from a start, every list of events is safe for as many steps of the hart as the block has words.
   pub retry : Finishes base h p addr words lr (Harmless base h p addr words lr) m
   retry es =
-      safe base h p addr words lr (b .sc) (st .aligned) (st .first .0 .decodes) (st .first .1)
+      safe settings base h p addr words lr (b .sc) (st .aligned) (st .first .0 .decodes) (st .first .1)
       (λ q. let f : b .rs1 ≡ 0 = b .keeps (rs1-same ∙ q ∙ sym rd-same) in sym rs1-same ∙ f) (b .later) (b .inBlock)
-      (b .sc-is-first ∙ ap₂ Sc rs1-same width-same)
-      (λ k z l. subst (λ (r : ℕ). Before r (viewAt (ofVersion 21) words k)) rs1-same (b .before k z l)) (b .after) es m 0 _
+      (as-seen settings words (b .sc) ∙ b .sc-is-first ∙ ap₂ Sc rs1-same width-same)
+      (λ k z l. subst (Before (lr .rs1)) (sym (as-seen settings words k))
+      (subst (λ (r : ℕ). Before r (viewAt (atVersion 21 settings) words k)) rs1-same (b .before k z l)))
+      (λ k z l. subst (After k) (sym (as-seen settings words k)) (b .after k z l)) es m 0 _
       (record {
         ground =
-            record { valid = st .valid; shaped = st .shaped; used = st .used; placed = st .placed; mapped = st .mapped; reachable = st .reachable };
+            record {
+              valid = st .valid;
+              set-so = refl;
+              shaped = st .shaped;
+              used = st .used;
+              placed = st .placed;
+              mapped = st .mapped;
+              reachable = st .reachable;
+            };
         here = omega (arith, st .here);
         inLoop = omega (arith, b .inBlock);
         source = λ l. st .address;

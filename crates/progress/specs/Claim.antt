@@ -10,7 +10,7 @@ use lib.Dec.{eqb}
 use lib.ListN.{length, getD}
 use Rattle.word.specs.Bytes.{toLe}
 use Rattle.word.specs.Memory.{part}
-use Rattle.settings.specs.Settings.{ofVersion}
+use Rattle.settings.specs.Settings.{atVersion}
 use Rattle.settings.specs.declared.Settings.{Settings}
 use Rattle.reserve.specs.Range.{Touch, Inside, setOf}
 use Rattle.reserve.specs.declared.Notice.the-variants as N
@@ -21,7 +21,7 @@ use Rattle.effect.specs.Execute.{regAt}
 use Rattle.effect.specs.Memory.{valueAt}
 use Rattle.events.specs.declared.Event.{Event}
 use Rattle.events.specs.declared.Event.the-variants.{Step, Device, Yield}
-use Rattle.model.specs.Perform.{Machine, setSize, nextOf, runOf, outcomeAt}
+use Rattle.model.specs.Perform.{Machine, setSize, xlen, nextOf, runOf, outcomeAt}
 use Rattle.model.specs.Valid.{Valid}
 use Rattle.model.specs.Trace.{noticeAt, WritesInto}
 use Rattle.model.specs.declared.Outcome.{Outcome}
@@ -64,7 +64,7 @@ module _ (base h p addr : ℕ) (words : List ℕ) (lr : Atomic) where
     -- "every word of the block inside memory"
     pub mapped : (k : ℕ) → k < length words → Inside base (length (m .mem)) (p + 4 * k) 4
     -- "The LR's address is the value of its rs1 in this state"
-    pub first : LrAt words 0 lr
+    pub first : LrAt (xlen m) words 0 lr
     pub address : regAt (m .state .x) h (lr .rs1) ≡ addr
     -- "aligned to the LR's width"
     pub aligned : addr % bytesOf (lr .width) ≡ 0
@@ -73,9 +73,9 @@ module _ (base h p addr : ℕ) (words : List ℕ) (lr : Atomic) where
 
   -- The claim is of blocks that A 2.1 accepts, whichever version the state has. 02 [7]: "Demand 3 stands for 2.1 as before, and for 2.0 only for loops with
   -- no JALR"; these "are exactly the loops that 2.1 accepts" (retry/proofs/VersionLaws: without-jalr).
-  -- The checker looks at the version alone, so the set size in ofVersion plays no part (checked-same).
+  -- The checker looks at the version and the kind alone, so the set size plays no part (checked-same).
   abbrev pub Start : Machine → Type 0
-  Start m = StartUnder (ofVersion 21) m
+  Start m = StartUnder (atVersion 21 (m .state .settings)) m
 
   -- The event leaves the loop alone: it writes into neither the loop's words nor the reserved set, and is no yield of the hart. The reserved set is "the
   -- set around it, from the first event on": as many bytes as the state's set size (02 [5]), which no event changes. "Something writes into bytes if it

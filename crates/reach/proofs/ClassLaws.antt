@@ -7,6 +7,8 @@ use Rattle.word.specs.Choose.{select}
 use Rattle.word.proofs.ChooseLaws.{cond-all, select-rows, select-all, select-keyed, _also_}
 use Rattle.isa.specs.Fields.{bits, rdOf, rs1Of, rs2Of, funct3Of, funct5Of, funct6Of, funct7Of, immI}
 use Rattle.isa.specs.Decode as D
+use Rattle.isa.specs.Narrow.{decodeAt}
+use Rattle.isa.proofs.NarrowLaws.{at-width}
 use Rattle.isa.specs.declared.AluOp.the-variants.{Add}
 use Rattle.isa.specs.declared.AtomicOp.{AtomicOp}
 use Rattle.isa.specs.declared.AtomicOp.the-variants.{Lr, Sc, Cas, CasPair}
@@ -17,36 +19,36 @@ use Rattle.reach.specs.Rd.{shownRd}
 use Rattle.reach.specs.Reach.{writesAt, reachRows, reachIn}
 use Rattle.reach.specs.declared.Reach.{Reach}
 
--- what c says of an instruction; nothing is asked of what always traps
-abbrev pub Shows : Reach → (ℕ → ℕ) → Instr → Type 0
-Shows c x Illegal = Unit {0}
-Shows c x Ecall = Unit {0}
-Shows c x Ebreak = Unit {0}
-Shows c x (Lui rd imm) = c ≡ record { rd = shownRd (Lui rd imm); at = writesAt (Lui rd imm) x }
-Shows c x (Auipc rd imm) = c ≡ record { rd = shownRd (Auipc rd imm); at = writesAt (Auipc rd imm) x }
-Shows c x (Jal rd imm) = c ≡ record { rd = shownRd (Jal rd imm); at = writesAt (Jal rd imm) x }
-Shows c x (Jalr rd rs1 imm) = c ≡ record { rd = shownRd (Jalr rd rs1 imm); at = writesAt (Jalr rd rs1 imm) x }
-Shows c x (Branch op rs1 rs2 imm) = c ≡ record { rd = shownRd (Branch op rs1 rs2 imm); at = writesAt (Branch op rs1 rs2 imm) x }
-Shows c x (Load op rd rs1 imm) = c ≡ record { rd = shownRd (Load op rd rs1 imm); at = writesAt (Load op rd rs1 imm) x }
-Shows c x (Store op rs1 rs2 imm) = c ≡ record { rd = shownRd (Store op rs1 rs2 imm); at = writesAt (Store op rs1 rs2 imm) x }
-Shows c x (OpImm op rd rs1 imm) = c ≡ record { rd = shownRd (OpImm op rd rs1 imm); at = writesAt (OpImm op rd rs1 imm) x }
-Shows c x (OpImm32 op rd rs1 imm) = c ≡ record { rd = shownRd (OpImm32 op rd rs1 imm); at = writesAt (OpImm32 op rd rs1 imm) x }
-Shows c x (Op op rd rs1 rs2) = c ≡ record { rd = shownRd (Op op rd rs1 rs2); at = writesAt (Op op rd rs1 rs2) x }
-Shows c x (Op32 op rd rs1 rs2) = c ≡ record { rd = shownRd (Op32 op rd rs1 rs2); at = writesAt (Op32 op rd rs1 rs2) x }
-Shows c x (Fence rd rs1 imm) = c ≡ record { rd = shownRd (Fence rd rs1 imm); at = writesAt (Fence rd rs1 imm) x }
-Shows c x (Amo m) = c ≡ record { rd = shownRd (Amo m); at = writesAt (Amo m) x }
+-- what c says of an instruction where registers have xlen bits; nothing is asked of what always traps
+abbrev pub Shows : ℕ → Reach → (ℕ → ℕ) → Instr → Type 0
+Shows xlen c x Illegal = Unit {0}
+Shows xlen c x Ecall = Unit {0}
+Shows xlen c x Ebreak = Unit {0}
+Shows xlen c x (Lui rd imm) = c ≡ record { rd = shownRd (Lui rd imm); at = writesAt xlen (Lui rd imm) x }
+Shows xlen c x (Auipc rd imm) = c ≡ record { rd = shownRd (Auipc rd imm); at = writesAt xlen (Auipc rd imm) x }
+Shows xlen c x (Jal rd imm) = c ≡ record { rd = shownRd (Jal rd imm); at = writesAt xlen (Jal rd imm) x }
+Shows xlen c x (Jalr rd rs1 imm) = c ≡ record { rd = shownRd (Jalr rd rs1 imm); at = writesAt xlen (Jalr rd rs1 imm) x }
+Shows xlen c x (Branch op rs1 rs2 imm) = c ≡ record { rd = shownRd (Branch op rs1 rs2 imm); at = writesAt xlen (Branch op rs1 rs2 imm) x }
+Shows xlen c x (Load op rd rs1 imm) = c ≡ record { rd = shownRd (Load op rd rs1 imm); at = writesAt xlen (Load op rd rs1 imm) x }
+Shows xlen c x (Store op rs1 rs2 imm) = c ≡ record { rd = shownRd (Store op rs1 rs2 imm); at = writesAt xlen (Store op rs1 rs2 imm) x }
+Shows xlen c x (OpImm op rd rs1 imm) = c ≡ record { rd = shownRd (OpImm op rd rs1 imm); at = writesAt xlen (OpImm op rd rs1 imm) x }
+Shows xlen c x (OpImm32 op rd rs1 imm) = c ≡ record { rd = shownRd (OpImm32 op rd rs1 imm); at = writesAt xlen (OpImm32 op rd rs1 imm) x }
+Shows xlen c x (Op op rd rs1 rs2) = c ≡ record { rd = shownRd (Op op rd rs1 rs2); at = writesAt xlen (Op op rd rs1 rs2) x }
+Shows xlen c x (Op32 op rd rs1 rs2) = c ≡ record { rd = shownRd (Op32 op rd rs1 rs2); at = writesAt xlen (Op32 op rd rs1 rs2) x }
+Shows xlen c x (Fence rd rs1 imm) = c ≡ record { rd = shownRd (Fence rd rs1 imm); at = writesAt xlen (Fence rd rs1 imm) x }
+Shows xlen c x (Amo m) = c ≡ record { rd = shownRd (Amo m); at = writesAt xlen (Amo m) x }
 
-module _ (w : ℕ) (x : ℕ → ℕ) where
+module _ (xlen w : ℕ) (x : ℕ → ℕ) where
   abbrev c : Reach
-  c = reachIn w x
+  c = reachIn xlen w x
 
   abbrev P : Instr → Type 0
-  P = Shows c x
+  P = Shows xlen c x
 
   -- what the code has for a class
-  at-class : (k : ℕ) → D.classOf w ≡ k → c ≡ select k (reachRows w x) D.same (record { rd = rdOf w; at = 0 })
+  at-class : (k : ℕ) → D.classOf w ≡ k → c ≡ select k (reachRows xlen w x) D.same (record { rd = rdOf w; at = 0 })
   unfolding reachIn
-  at-class k e = ap (λ (n : ℕ). select n (reachRows w x) D.same (record { rd = rdOf w; at = 0 })) e
+  at-class k e = ap (λ (n : ℕ). select n (reachRows xlen w x) D.same (record { rd = rdOf w; at = 0 })) e
 
   -- most instructions: their rd, and no memory
   abbrev Plain : Type 0
@@ -129,11 +131,16 @@ module _ (w : ℕ) (x : ℕ → ℕ) where
       also sized e _ also sized e _ also sized e _ also sized e _ also sized e _ also tt)
       tt
 
-  pub shows : Shows (reachIn w x) x (D.decodeOf w)
+  shows-64 : P (D.decodeOf w)
   unfolding D.decodeOf shownRd writesAt
-  shows =
+  shows-64 =
       select-keyed P (D.classOf w) D.decoders (D.of w) Illegal
       ((λ e. loads (at-class 1 e)) also fences also (λ e. op-imms (at-class 3 e)) also (λ e. at-class 4 e) also (λ e. op-imms-32 (at-class 5 e))
       also stores also (λ e. atomics (at-class 7 e)) also (λ e. ops (at-class 8 e)) also (λ e. at-class 9 e) also (λ e. ops-32 (at-class 10 e))
       also branches also (λ e. jalrs (at-class 12 e)) also (λ e. at-class 13 e) also (λ e. systems) also tt)
       (λ o. tt)
+
+  -- narrowed, it has the same rd and address, or it traps
+  pub shows : Shows xlen (reachIn xlen w x) x (decodeAt xlen w)
+  unfolding shownRd writesAt
+  shows = at-width P tt (λ a e. e) xlen w shows-64

@@ -13,9 +13,9 @@ use Rattle.word.specs.Bytes.{toLe}
 use Rattle.word.proofs.BytesLaws.{length-toLe}
 use Rattle.word.proofs.ChooseLaws.{cond-all, cond-cases}
 use Rattle.isa.specs.Wf.{Regs}
-use Rattle.isa.specs.Decode.{decodeOf}
-use Rattle.isa.proofs.DecodeLaws.{regs-below}
-use Rattle.isa.specs.Width.{bitsOf, bytesOf}
+use Rattle.isa.specs.Narrow.{decodeAt}
+use Rattle.isa.proofs.NarrowLaws.{regs-at}
+use Rattle.isa.specs.Width.{bitsOf, bytesOf, pairBytes}
 use Rattle.isa.specs.declared.Width.{Width}
 use Rattle.isa.specs.declared.Width.the-variants.{Word, Double}
 use Rattle.isa.specs.declared.StoreOp.{StoreOp}
@@ -61,15 +61,19 @@ width-most : (w : Width) → (1 ≤ bytesOf w) × (bytesOf w ≤ 16)
 width-most Word = (omega arith, omega arith)
 width-most Double = (omega arith, omega arith)
 
+pair-most : (w : Width) → (1 ≤ pairBytes w) × (pairBytes w ≤ 16)
+pair-most Word = (omega arith, omega arith)
+pair-most Double = (omega arith, omega arith)
+
 store-most : (op : StoreOp) → (1 ≤ storeBytes op) × (storeBytes op ≤ 16)
 store-most Sb = (omega arith, omega arith)
 store-most Sh = (omega arith, omega arith)
 store-most Sw = (omega arith, omega arith)
 store-most Sd = (omega arith, omega arith)
 
-pair-sets : (d v : ℕ) → d < 32 → SetsRd d (pairWrites d v)
-pair-sets d v l =
-    cond-cases (SetsRd d) (eqb (d % 32) 0) none (pair (d % 32) (v % 2 ^ 64) (d % 32 + 1) (v / 2 ^ 64))
+pair-sets : (w : Width) (d v : ℕ) → d < 32 → SetsRd d (pairWrites w d v)
+pair-sets w d v l =
+    cond-cases (SetsRd d) (eqb (d % 32) 0) none (pair (d % 32) (low (bitsOf w) v) (d % 32 + 1) (low (bitsOf w) (v / 2 ^ bitsOf w)))
     (λ t. omega (arith, eqb-true (d % 32) 0 t)) (λ f. (omega arith, omega arith, refl))
 
 module _ (d a : ℕ) where
@@ -79,25 +83,25 @@ module _ (d a : ℕ) where
       let cause = faultOf misaligned outside b n base len in
       cond-all (Reaches d a) (eqb cause 0) e (trap cause b) h tt
 
-  reach-jump : (to pc : ℕ) → Reaches d a (execJump 64 d to pc)
+  reach-jump : (xlen to pc : ℕ) → Reaches d a (execJump xlen d to pc)
   unfolding execJump
-  reach-jump to pc = cond-all (Reaches d a) (eqb (to % 4) 0) _ _ (refl, tt) tt
+  reach-jump xlen to pc = cond-all (Reaches d a) (eqb (to % 4) 0) _ _ (refl, tt) tt
 
-reach-branch : (a : ℕ) (taken : Bool) (to pc : ℕ) → Reaches 0 a (execBranch 64 taken to pc)
+reach-branch : (xlen a : ℕ) (taken : Bool) (to pc : ℕ) → Reaches 0 a (execBranch xlen taken to pc)
 unfolding execBranch
-reach-branch a true to pc = cond-all (Reaches 0 a) (eqb (to % 4) 0) _ _ (refl, tt) tt
-reach-branch a false to pc = (refl, tt)
+reach-branch xlen a true to pc = cond-all (Reaches 0 a) (eqb (to % 4) 0) _ _ (refl, tt) tt
+reach-branch xlen a false to pc = (refl, tt)
 
 -- ---- by instruction
 
-module _ (pc base : ℕ) (mem : List ℕ) (covered : ℕ → ℕ → Bool) where
-  reach-sc : (w : Width) (rd a v : ℕ) → Reaches rd a (execSc 64 w rd a v pc base mem covered)
+module _ (xlen pc base : ℕ) (mem : List ℕ) (covered : ℕ → ℕ → Bool) where
+  reach-sc : (w : Width) (rd a v : ℕ) → Reaches rd a (execSc xlen w rd a v pc base mem covered)
   unfolding execSc
   reach-sc w rd a v =
       reach-checked rd a 6 7 _ _ base (length mem) _
       (cond-all (Reaches rd a) (covered a (bytesOf w)) _ _ (refl, sized a (bytesOf w) v (width-most w .0) (width-most w .1)) (refl, tt))
 
-  reach-atomic : (op : AtomicOp) (m : Atomic) → m .rd < 32 → (x : ℕ → ℕ) → Reaches (m .rd) (x (m .rs1)) (atomicBy 64 op m x pc base mem covered)
+  reach-atomic : (op : AtomicOp) (m : Atomic) → m .rd < 32 → (x : ℕ → ℕ) → Reaches (m .rd) (x (m .rs1)) (atomicBy xlen op m x pc base mem covered)
   unfolding execLr execAmo execCas execCasPair
   reach-atomic Lr m l x = reach-checked (m .rd) (x (m .rs1)) 4 5 _ _ base (length mem) _ (refl, tt)
   reach-atomic Sc m l x = reach-sc (m .width) (m .rd) (x (m .rs1)) (x (m .rs2))
@@ -109,13 +113,17 @@ module _ (pc base : ℕ) (mem : List ℕ) (covered : ℕ → ℕ → Bool) where
       (refl, swap-from a n (valueAt base mem a n) want (x (m .rs2)) (width-most (m .width) .0) (width-most (m .width) .1))
   reach-atomic CasPair m l x =
       let a = x (m .rs1) in
-      reach-checked (m .rd) a 6 7 _ 16 base (length mem) _
-      (pair-sets (m .rd) (valueAt base mem a 16) l, swap-from a 16 (valueAt base mem a 16) (pairAt x (m .rd)) (pairAt x (m .rs2)) (omega arith) (omega arith))
+      let w = m .width in
+      let n = pairBytes w in
+      reach-checked (m .rd) a 6 7 _ n base (length mem) _ (
+        pair-sets w (m .rd) (valueAt base mem a n) l,
+        swap-from a n (valueAt base mem a n) (pairAt w x (m .rd)) (pairAt w x (m .rs2)) (pair-most w .0) (pair-most w .1),
+      )
   reach-atomic (Rmw op) m l x =
       reach-checked (m .rd) (x (m .rs1)) 6 7 _ _ base (length mem) _
       (refl, sized (x (m .rs1)) (bytesOf (m .width)) _ (width-most (m .width) .0) (width-most (m .width) .1))
 
-  pub reaches : (i : Instr) → Regs i → (word : ℕ) (x : ℕ → ℕ) → Reaches (shownRd i) (writesAt i x) (execute 64 i word x pc base mem covered)
+  pub reaches : (i : Instr) → Regs i → (word : ℕ) (x : ℕ → ℕ) → Reaches (shownRd i) (writesAt xlen i x) (execute xlen i word x pc base mem covered)
   unfolding execute execAtomic execLoad execStore shownRd writesAt
   reaches Illegal l word x = tt
   reaches Ecall l word x = tt
@@ -123,12 +131,12 @@ module _ (pc base : ℕ) (mem : List ℕ) (covered : ℕ → ℕ → Bool) where
   reaches (Fence rd rs1 imm) l word x = (refl, tt)
   reaches (Lui rd imm) l word x = (refl, tt)
   reaches (Auipc rd imm) l word x = (refl, tt)
-  reaches (Jal rd imm) l word x = reach-jump rd 0 (offset 64 pc imm) pc
-  reaches (Jalr rd rs1 imm) l word x = reach-jump rd 0 (clearBit0 (offset 64 (x rs1) imm)) pc
-  reaches (Branch op rs1 rs2 imm) l word x = reach-branch 0 (holdsOf 64 op (x rs1) (x rs2)) (offset 64 pc imm) pc
+  reaches (Jal rd imm) l word x = reach-jump rd 0 xlen (offset xlen pc imm) pc
+  reaches (Jalr rd rs1 imm) l word x = reach-jump rd 0 xlen (clearBit0 (offset xlen (x rs1) imm)) pc
+  reaches (Branch op rs1 rs2 imm) l word x = reach-branch xlen 0 (holdsOf xlen op (x rs1) (x rs2)) (offset xlen pc imm) pc
   reaches (Load op rd rs1 imm) l word x = reach-checked rd 0 4 5 _ _ base (length mem) _ (refl, tt)
   reaches (Store op rs1 rs2 imm) l word x =
-      let a = offset 64 (x rs1) imm in
+      let a = offset xlen (x rs1) imm in
       reach-checked 0 a 6 7 _ _ base (length mem) _ (refl, sized a (storeBytes op) (x rs2) (store-most op .0) (store-most op .1))
   reaches (OpImm op rd rs1 imm) l word x = (refl, tt)
   reaches (OpImm32 op rd rs1 imm) l word x = (refl, tt)
@@ -138,13 +146,13 @@ module _ (pc base : ℕ) (mem : List ℕ) (covered : ℕ → ℕ → Bool) where
 
 -- ---- the same by the word's class
 
-module _ (pc base : ℕ) (mem : List ℕ) (covered : ℕ → ℕ → Bool) (word : ℕ) (x : ℕ → ℕ) (c : Reach) where
-  same-reach : (i : Instr) → Regs i → c ≡ record { rd = shownRd i; at = writesAt i x }
-      → Reaches (c .rd) (c .at) (execute 64 i word x pc base mem covered)
+module _ (xlen pc base : ℕ) (mem : List ℕ) (covered : ℕ → ℕ → Bool) (word : ℕ) (x : ℕ → ℕ) (c : Reach) where
+  same-reach : (i : Instr) → Regs i → c ≡ record { rd = shownRd i; at = writesAt xlen i x }
+      → Reaches (c .rd) (c .at) (execute xlen i word x pc base mem covered)
   same-reach i l s =
-      subst (λ (q : Reach). Reaches (q .rd) (q .at) (execute 64 i word x pc base mem covered)) (sym s) (reaches pc base mem covered i l word x)
+      subst (λ (q : Reach). Reaches (q .rd) (q .at) (execute xlen i word x pc base mem covered)) (sym s) (reaches xlen pc base mem covered i l word x)
 
-  by-class : (i : Instr) → Regs i → Shows c x i → Reaches (c .rd) (c .at) (execute 64 i word x pc base mem covered)
+  by-class : (i : Instr) → Regs i → Shows xlen c x i → Reaches (c .rd) (c .at) (execute xlen i word x pc base mem covered)
   unfolding execute
   by-class Illegal l s = tt
   by-class Ecall l s = tt
@@ -163,9 +171,10 @@ module _ (pc base : ℕ) (mem : List ℕ) (covered : ℕ → ℕ → Bool) (word
   by-class (Op32 op rd rs1 rs2) l s = same-reach (Op32 op rd rs1 rs2) l s
   by-class (Amo m) l s = same-reach (Amo m) l s
 
-pub reaches-in : (pc base : ℕ) (mem : List ℕ) (covered : ℕ → ℕ → Bool) (word : ℕ) (x : ℕ → ℕ)
-    → (let c = reachIn word x in Reaches (c .rd) (c .at) (execute 64 (decodeOf word) word x pc base mem covered))
-reaches-in pc base mem covered word x = by-class pc base mem covered word x (reachIn word x) (decodeOf word) (regs-below word) (shows word x)
+pub reaches-in : (xlen pc base : ℕ) (mem : List ℕ) (covered : ℕ → ℕ → Bool) (word : ℕ) (x : ℕ → ℕ)
+    → (let c = reachIn xlen word x in Reaches (c .rd) (c .at) (execute xlen (decodeAt xlen word) word x pc base mem covered))
+reaches-in xlen pc base mem covered word x =
+    by-class xlen pc base mem covered word x (reachIn xlen word x) (decodeAt xlen word) (regs-at xlen word) (shows xlen word x)
 
 -- ---- rd is a register
 

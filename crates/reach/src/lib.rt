@@ -1,6 +1,6 @@
 // What a step may change, saved before it and put back: the register that a row shows of it and the one behind it, the pc, and at most 16
 // bytes, from one address on.
-use dispatch::plus;
+use alu::integer::add;
 use dispatch::reg;
 use isa::class;
 use isa::fields;
@@ -29,16 +29,16 @@ pub struct Saved {
     pub high: u64,
 }
 
-// What hart h's word may change, by its class. Decoding it here too would cost as much as all else of a row.
-pub fn reach_in(word: u32, x: &[u64; 256], h: usize) -> Reach
-    requires { ⌜ h < 8 ⌝ }
-    ensures { λ r. ⌜ r ≡ reachIn word (regAt (now (x .entry)) h) ⌝ }
+// What hart h's word may change, by its class, where registers have xlen bits. Decoding it here too would cost as much as all else of a row.
+pub fn reach_in(xlen: u32, word: u32, x: &[u64; 256], h: usize) -> Reach
+    requires { ⌜ (h < 8) × (xlen ≤ 64) ⌝ }
+    ensures { λ r. ⌜ r ≡ reachIn xlen word (regAt (now (x .entry)) h) ⌝ }
 {
     match class::class_of(word) {
         class::MISC_MEM => Reach { rd: 0, at: 0 },
         class::STORE => Reach {
             rd: 0,
-            at: plus(reg(x, h, fields::rs1(word)), fields::imm_s(word)),
+            at: add(reg(x, h, fields::rs1(word)), fields::imm_s(word), xlen),
         },
         class::AMO => Reach {
             rd: fields::rd(word),

@@ -7,10 +7,11 @@ use lib.Dec.{eqb}
 use lib.ListN.{length, take, drop}
 use Rattle.word.proofs.TestLaws.{bool-cases}
 use Rattle.reserve.specs.Range.{insideOf}
+use Rattle.settings.specs.Settings.{xlenOf}
 use Rattle.machine.specs.Rules.{Shaped}
 use Rattle.machine.specs.State.{refusalOf}
 use Rattle.machine.specs.declared.State.{State}
-use Rattle.isa.specs.Decode.{decodeOf}
+use Rattle.isa.specs.Narrow.{decodeAt}
 use Rattle.effect.specs.Execute.{regAt}
 use Rattle.effect.specs.Memory.{valueAt}
 use Rattle.events.specs.declared.Event.the-variants.{Step}
@@ -54,7 +55,7 @@ module _ (base : ℕ) (m n : Machine) (p : Shaped (m .state)) (q : Shaped (n .st
     same-fetched = ap₂ (λ (mem : List ℕ) (pc : ℕ). insideOf base (length mem) pc 4) (a .memory) same-pc
 
     same-rd : rdAt base m h ≡ rdAt base n h
-    same-rd = ap (λ (w : ℕ). shownRd (decodeOf w)) same-word
+    same-rd = ap₂ (λ (k w : ℕ). shownRd (decodeAt k w)) (ap xlenOf (a .states .settings)) same-word
 
     same-value : valueAfter base m h ≡ valueAfter base n h
     same-value =

@@ -5,11 +5,11 @@ use native.Mathlib.Omega.{arith}
 use lib.ListN.{getD}
 use Rattle.word.proofs.TestLaws.{bool-cases}
 use Rattle.reserve.proofs.RangeLaws.{inside-of}
-use Rattle.isa.specs.Decode.{decodeOf}
+use Rattle.isa.specs.Narrow.{decodeAt}
 use Rattle.effect.specs.Effect.{Writes, Access, Exec, trap, effect}
 use Rattle.effect.specs.Execute.{regAt}
 use Rattle.events.specs.declared.Event.the-variants.{Step}
-use Rattle.model.specs.Perform.{Machine, fetchOf, stepOf, nextOf}
+use Rattle.model.specs.Perform.{Machine, xlen, fetchOf, stepOf, nextOf}
 use Rattle.model.specs.Valid.{Valid}
 use Rattle.model.proofs.Valid.{valid-next}
 use Rattle.model.proofs.Frame.{count-next}
@@ -26,7 +26,7 @@ module _ (base : ℕ) (m : Machine) (v : Valid base m) (h : ℕ) (l : h < m .sta
   shows-rd ws to t e =
       bool-cases (fetchable base m h)
       (λ f.
-      let a = writesAt (decodeOf (wordAt base m h)) (regAt (m .state .x) h) in
+      let a = writesAt (xlen m) (decodeAt (xlen m) (wordAt base m h)) (regAt (m .state .x) h) in
       subst (Reaches (rdAt base m h) a) e (exec-reaches base m v h l (inside-of _ _ _ _ f)) .0)
       (λ f.
       let traps : stepOf base (m .mem) (m .state) h ≡ trap 1 (pcAt base m h) = rw f in

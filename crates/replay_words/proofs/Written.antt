@@ -2,7 +2,7 @@
 -- that a state's numbers have 64 bits and a memory is of bytes (Ranged, IsBytes), which the first theorem asks, their types say.
 use mathlib.Core.Path.{_≡_, refl, sym, ap, ap₂, subst, _∙_}
 use mathlib.Core.List.{List, [], _∷_, _++_}
-use Prim.Native.Nat.{ℕ, zero, suc, _+_, _-_, _*_, _/_, _<_}
+use Prim.Native.Nat.{ℕ, zero, suc, _-_, _*_, _/_, _<_}
 use native.Mathlib.Omega.{arith}
 use lib.Dec.{eqb, ltb}
 use borrow.Author.Tests.{eqb-true, ltb-true}
@@ -11,8 +11,8 @@ use lib.Seq.{take-at, drop-at}
 use Rattle.word.specs.Bytes.{IsBytes}
 use Rattle.word.proofs.MemoryLaws.{part-lt}
 use Rattle.word.proofs.TestLaws.{bool-cases}
-use Rattle.isa.specs.Decode.{decodeOf}
-use Rattle.isa.proofs.DecodeLaws.{regs-below}
+use Rattle.isa.specs.Narrow.{decodeAt}
+use Rattle.isa.proofs.NarrowLaws.{regs-at}
 use Rattle.reserve.specs.Range.{Inside}
 use Rattle.reserve.proofs.RangeLaws.{inside-of}
 use Rattle.machine.specs.State.{refusalOf}
@@ -23,7 +23,7 @@ use Rattle.effect.specs.Effect.{Exec, trap, doneOf}
 use Rattle.effect.specs.Execute.{regAt}
 use Rattle.effect.specs.Memory.{valueAt}
 use Rattle.events.specs.declared.Event.the-variants.{Step}
-use Rattle.model.specs.Perform.{Machine, fetchOf, stepOf, actOn, actOf, answerOf, outcomeAt, nextOf, runOf}
+use Rattle.model.specs.Perform.{Machine, xlen, fetchOf, stepOf, actOn, actOf, answerOf, outcomeAt, nextOf, runOf}
 use Rattle.model.specs.Valid.{Valid}
 use Rattle.model.specs.Advance.{outcomeBy}
 use Rattle.model.specs.Retired.{IsRetired}
@@ -69,7 +69,7 @@ model-fits : (base : ℕ) (m : Machine) (h : ℕ) → Ranged (m .state) → IsBy
 unfolding valueAt regAt nextOf
 model-fits base m h ranged bytes i =
     let v = retired-valid base m h i in
-    let rd = rd-below (decodeOf (wordAt base m h)) (regs-below (wordAt base m h)) in
+    let rd = rd-below (decodeAt (xlen m) (wordAt base m h)) (regs-at (xlen m) (wordAt base m h)) in
     record {
       counted = v .1;
       hart = omega (arith, v .1, v .0 .1 .1);

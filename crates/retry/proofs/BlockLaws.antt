@@ -10,7 +10,7 @@ use borrow.Author.Tests.{le-ltb, lt-ltb}
 use Rattle.word.specs.Bytes.{le, IsBytes}
 use Rattle.word.specs.Memory.{part}
 use Rattle.word.proofs.BytesLaws.{le-lt, bytes-drop}
-use Rattle.settings.specs.Settings.{versionOk}
+use Rattle.settings.specs.Settings.{readingOk}
 use Rattle.settings.specs.declared.Settings.{Settings}
 use Rattle.retry.specs.declared.LoopAnswer.the-variants.{Refused}
 use Rattle.retry.specs.Loop.{checkOf, wordsOf}
@@ -34,7 +34,7 @@ length-words bytes zero = refl
 length-words bytes (suc n) =
     length-append (wordsOf bytes n) (le (part bytes (4 * n) 4) ∷ []) ∙ let e = length-words bytes n in omega arith
 
-pub too-long : (settings : Settings) (bytes : List ℕ) (n : ℕ) → versionOk settings ≡ true → 16 < n → Refused 6 ≡ checkOf settings (wordsOf bytes n)
+pub too-long : (settings : Settings) (bytes : List ℕ) (n : ℕ) → readingOk settings ≡ true → 16 < n → Refused 6 ≡ checkOf settings (wordsOf bytes n)
 unfolding checkOf
 too-long settings bytes n v h =
     let e = length-words bytes n in

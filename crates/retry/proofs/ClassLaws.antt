@@ -13,12 +13,14 @@ use Rattle.settings.specs.Settings.{jalrPermitted}
 use Rattle.settings.specs.declared.Settings.{Settings}
 use Rattle.isa.specs.Fields.{bits, rdOf, rs1Of, rs2Of, funct3Of, funct5Of, funct6Of, funct7Of, immI}
 use Rattle.isa.specs.Decode as D
+use Rattle.isa.specs.Narrow.{decodeAt}
 use Rattle.isa.specs.declared.AluOp.the-variants.{Add}
 use Rattle.isa.specs.declared.AtomicOp.{AtomicOp}
 use Rattle.isa.specs.declared.AtomicOp.the-variants as A
 use Rattle.isa.specs.declared.Width.the-variants.{Double}
 use Rattle.isa.specs.declared.Instr.{Instr}
 use Rattle.isa.specs.declared.Instr.the-variants as I
+use Rattle.isa.proofs.NarrowLaws.{at-width}
 use Rattle.retry.specs.Loop.{viewOf, fieldsOf, lookedAt}
 use Rattle.retry.specs.declared.View.the-variants.{Other}
 
@@ -126,14 +128,18 @@ module _ (c w : ℕ) where
       select-rows (InClass c) (funct5Of w) D.atomics (D.of w) I.Illegal
       (s _, (s _, (from-lr e, (s _, (s _, (from-cas e, (s _, (s _, (s _, (s _, (s _, (s _, tt)))))))))))) tt
 
-pub in-class : (w : ℕ) → InClass (D.classOf w) (D.decodeOf w)
+in-class-64 : (w : ℕ) → InClass (D.classOf w) (D.decodeOf w)
 unfolding D.decodeOf
-in-class w =
+in-class-64 w =
     let c = D.classOf w in
     select-at (InClass c) c D.decoders (D.of w) I.Illegal
     (from-load c w also from-misc-mem c w also from-op-imm c w also (λ e. e) also from-op-imm-32 c w also from-store c w also from-atomic c w
     also from-op c w also (λ e. e) also from-op-32 c w also from-branch c w also from-jalr c w also (λ e. e) also from-system c w also tt)
     tt
+
+-- a narrowed instruction is Illegal or of the same class
+pub in-class : (xlen w : ℕ) → InClass (D.classOf w) (decodeAt xlen w)
+in-class xlen w = at-width (InClass (D.classOf w)) tt (λ a p. p) xlen w (in-class-64 w)
 
 either : (t : Bool) → cond t Other Other ≡ Other
 either true = refl
@@ -159,10 +165,11 @@ by-class settings c I.Ebreak e = rw e
 by-class settings c (I.Amo a) e = rw e
 
 -- what the code sees, by the class, is what the definition sees
-pub looked : (settings : Settings) (w : ℕ) → lookedAt settings (D.classOf w) ≡ true → fieldsOf (D.decodeOf w) ≡ viewOf settings (D.decodeOf w)
-looked settings w t =
-    ap (λ (b : Bool). cond b (fieldsOf (D.decodeOf w)) Other) (sym t) ∙ by-class settings (D.classOf w) (D.decodeOf w) (in-class w)
+module _ (settings : Settings) (xlen w : ℕ) where
+  pub looked : lookedAt settings (D.classOf w) ≡ true → fieldsOf (decodeAt xlen w) ≡ viewOf settings (decodeAt xlen w)
+  looked t =
+      ap (λ (b : Bool). cond b (fieldsOf (decodeAt xlen w)) Other) (sym t) ∙ by-class settings (D.classOf w) (decodeAt xlen w) (in-class xlen w)
 
-pub passed-over : (settings : Settings) (w : ℕ) → lookedAt settings (D.classOf w) ≡ false → Other ≡ viewOf settings (D.decodeOf w)
-passed-over settings w t =
-    ap (λ (b : Bool). cond b (fieldsOf (D.decodeOf w)) Other) (sym t) ∙ by-class settings (D.classOf w) (D.decodeOf w) (in-class w)
+  pub passed-over : lookedAt settings (D.classOf w) ≡ false → Other ≡ viewOf settings (decodeAt xlen w)
+  passed-over t =
+      ap (λ (b : Bool). cond b (fieldsOf (decodeAt xlen w)) Other) (sym t) ∙ by-class settings (D.classOf w) (decodeAt xlen w) (in-class xlen w)

@@ -9,9 +9,10 @@ use lib.Dec.{ltb, eqb}
 use lib.ListN.{length, getD}
 use borrow.Author.Tests.{lt-ltb, ltb-true, ltb-false, eq-eqb, eqb-true, eqb-false, ne-eqb, not-true, not-false}
 use Rattle.word.proofs.TestLaws.{bool-cases, contrary, and-both, or-either}
+use Rattle.settings.specs.Settings.{xlenOf}
 use Rattle.settings.specs.declared.Settings.{Settings}
 use Rattle.isa.specs.Width.{bytesOf}
-use Rattle.isa.specs.Decode.{decodeOf}
+use Rattle.isa.specs.Narrow.{decodeAt}
 use Rattle.isa.specs.declared.Atomic.{Atomic}
 use Rattle.isa.specs.declared.AtomicOp.the-variants as A
 use Rattle.isa.specs.declared.Instr.{Instr}
@@ -113,28 +114,31 @@ seen-sc i (Branch offset) s t = contrary t refl
 seen-sc i Other s t = contrary t refl
 
 module _ (settings : Settings) (ws : List ℕ) where
-  abbrev word : ℕ → Instr
-  word p = decodeOf (getD ws p 0)
+  abbrev xlen : ℕ
+  xlen = xlenOf settings
 
-  pub sc-is : (p : ℕ) → AnSc ws p → isSc (viewAt settings ws p) ≡ true
+  abbrev word : ℕ → Instr
+  word p = decodeAt xlen (getD ws p 0)
+
+  pub sc-is : (p : ℕ) → AnSc xlen ws p → isSc (viewAt settings ws p) ≡ true
   sc-is p s =
       ap (λ (i : Instr). isSc (viewOf settings i)) (s .1 .0 .decodes) ∙ ap isSc (sc-view settings (s .0) (s .1 .1))
 
-  pub is-sc : (p : ℕ) → p < length ws → isSc (viewAt settings ws p) ≡ true → AnSc ws p
+  pub is-sc : (p : ℕ) → p < length ws → isSc (viewAt settings ws p) ≡ true → AnSc xlen ws p
   is-sc p h t =
       let s = seen-sc (word p) (viewOf settings (word p)) (seen settings (word p)) t in
       (s .0, (record { inBlock = h; decodes = s .1 }, s .2))
 
-  pub past-none : (p : ℕ) → pastSc settings ws p ≡ false → (k : ℕ) → k < p → AnSc ws k → ⊥
+  pub past-none : (p : ℕ) → pastSc settings ws p ≡ false → (k : ℕ) → k < p → AnSc xlen ws k → ⊥
   unfolding pastSc
   past-none zero t k h s = omega arith
   past-none (suc p) t k h s =
       bool-cases (ltb k p) (λ l. past-none p (or-left (pastSc settings ws p) (isSc (viewAt settings ws p)) t) k (ltb-true k p l) s)
       (λ l.
       let e : k ≡ p = omega (arith, ltb-false k p l) in
-      contrary (sc-is p (subst (λ (n : ℕ). AnSc ws n) e s)) (or-right (pastSc settings ws p) (isSc (viewAt settings ws p)) t))
+      contrary (sc-is p (subst (λ (n : ℕ). AnSc xlen ws n) e s)) (or-right (pastSc settings ws p) (isSc (viewAt settings ws p)) t))
 
-  pub past-first : (p : ℕ) → p ≤ length ws → pastSc settings ws p ≡ true → AfterSc ws p
+  pub past-first : (p : ℕ) → p ≤ length ws → pastSc settings ws p ≡ true → AfterSc xlen ws p
   unfolding pastSc
   past-first zero l t = contrary t refl
   past-first (suc p) l t =
@@ -147,30 +151,30 @@ module _ (settings : Settings) (ws : List ℕ) where
       last false b e f = f
 
   -- a first SC has none before it
-  pub first-past : (p : ℕ) → p ≤ length ws → FirstSc ws p → pastSc settings ws p ≡ false
+  pub first-past : (p : ℕ) → p ≤ length ws → FirstSc xlen ws p → pastSc settings ws p ≡ false
   first-past p l f =
       bool-cases (pastSc settings ws p) (λ t. let s = past-first p l t in absurd (f .1 (s .0) (s .2) (s .1 .0))) (λ t. t)
 
-  pub after-past : (p : ℕ) → AfterSc ws p → pastSc settings ws p ≡ true
+  pub after-past : (p : ℕ) → AfterSc xlen ws p → pastSc settings ws p ≡ true
   after-past p s =
       bool-cases (pastSc settings ws p) (λ t. t) (λ t. absurd (past-none p t (s .0) (s .2) (s .1 .0)))
 
-  pub before-past : (p : ℕ) → p ≤ length ws → BeforeSc ws p → pastSc settings ws p ≡ false
+  pub before-past : (p : ℕ) → p ≤ length ws → BeforeSc xlen ws p → pastSc settings ws p ≡ false
   before-past p l b =
       bool-cases (pastSc settings ws p) (λ t. let s = past-first p l t in absurd (omega (arith, b (s .0) (s .1), s .2))) (λ t. t)
 
   -- a place that is no SC and has none before it stands before the first SC
-  pub past-before : (p : ℕ) → pastSc settings ws p ≡ false → isSc (viewAt settings ws p) ≡ false → BeforeSc ws p
+  pub past-before : (p : ℕ) → pastSc settings ws p ≡ false → isSc (viewAt settings ws p) ≡ false → BeforeSc xlen ws p
   past-before p t n first f =
       bool-cases (ltb p first) (λ l. ltb-true p first l)
       (λ l.
       bool-cases (ltb first p) (λ m. absurd (past-none p t first (ltb-true first p m) (f .0)))
       (λ m.
       let e : first ≡ p = omega (arith, ltb-false p first l, ltb-false first p m) in
-      contrary (sc-is p (subst (λ (k : ℕ). AnSc ws k) e (f .0))) n))
+      contrary (sc-is p (subst (λ (k : ℕ). AnSc xlen ws k) e (f .0))) n))
 
   -- an SC is not before the first SC
-  pub sc-late : (p : ℕ) → p < length ws → isSc (viewAt settings ws p) ≡ true → BeforeSc ws p → ⊥
+  pub sc-late : (p : ℕ) → p < length ws → isSc (viewAt settings ws p) ≡ true → BeforeSc xlen ws p → ⊥
   unfolding pastSc
   sc-late p l t b =
       let s = past-first (suc p) l (second-of (pastSc settings ws p) (isSc (viewAt settings ws p)) t) in omega (arith, b (s .0) (s .1), s .2)
@@ -181,13 +185,13 @@ module _ (settings : Settings) (ws : List ℕ) where
     abbrev past : Bool
     past = pastSc settings ws p
 
-    abbrev stands : (i : Instr) → word p ≡ i → Stands ws p i
+    abbrev stands : (i : Instr) → word p ≡ i → Stands xlen ws p i
     stands i e = record { inBlock = l; decodes = e }
 
     body : (v : View) → viewAt settings ws p ≡ v → Permitted settings (getD ws p 0) → Body v
     body v q h = subst Body q (permitted-body settings (getD ws p 0) h)
 
-    no-first : (v : View) → viewAt settings ws p ≡ v → isSc v ≡ false → FirstSc ws p → ⊥
+    no-first : (v : View) → viewAt settings ws p ≡ v → isSc v ≡ false → FirstSc xlen ws p → ⊥
     no-first v q n f = contrary (sc-is p (f .0)) (ap isSc q ∙ n)
 
     pub two-true : (v : View) → viewAt settings ws p ≡ v → reason2 past p v ≡ true → NotPermitted settings ws p
@@ -212,17 +216,17 @@ module _ (settings : Settings) (ws : List ℕ) where
     two-false (Branch off) q t n = allowed (Branch off) q tt n
     two-false Other q t n = contrary (lt-ltb 0 p (n .0)) t
 
-    is-bad : (offset : ℕ) → WrongBy (past ≡ true) p offset → (offset % 4 ≡ 0 → ⊥) ⊎ ((Above offset → ⊥) × (AfterSc ws p × ToStart p offset → ⊥))
+    is-bad : (offset : ℕ) → WrongBy (past ≡ true) p offset → (offset % 4 ≡ 0 → ⊥) ⊎ ((Above offset → ⊥) × (AfterSc xlen ws p × ToStart p offset → ⊥))
     unfolding WrongBy
     is-bad offset (inl odd) = inl odd
     is-bad offset (inr low) = inr (low .0, λ h. low .1 (after-past p (h .0), h .1))
 
-    bad-is : (offset : ℕ) → (offset % 4 ≡ 0 → ⊥) ⊎ ((Above offset → ⊥) × (AfterSc ws p × ToStart p offset → ⊥)) → WrongBy (past ≡ true) p offset
+    bad-is : (offset : ℕ) → (offset % 4 ≡ 0 → ⊥) ⊎ ((Above offset → ⊥) × (AfterSc xlen ws p × ToStart p offset → ⊥)) → WrongBy (past ≡ true) p offset
     unfolding WrongBy
     bad-is offset (inl odd) = inl odd
     bad-is offset (inr low) = inr (low .0, λ h. low .1 (past-first p (omega arith) (h .0), h .1))
 
-    pub three-true : (v : View) → viewAt settings ws p ≡ v → reason3 past p v ≡ true → BadOffset ws p
+    pub three-true : (v : View) → viewAt settings ws p ≡ v → reason3 past p v ≡ true → BadOffset xlen ws p
     three-true (Lr rd s u) q t = contrary t refl
     three-true (Sc s u) q t = contrary t refl
     three-true (Plain rd) q t = contrary t refl
@@ -234,24 +238,24 @@ module _ (settings : Settings) (ws : List ℕ) where
         (off, inr (e .0, e .1, e .2, stands (I.Branch (e .0) (e .1) (e .2) off) (e .3)), is-bad off (wrong past p off t))
     three-true Other q t = contrary t refl
 
-    leads : (offset : ℕ) → LeadsBy ws p offset → reason3 past p (viewAt settings ws p) ≡ wrongOffset past p offset
+    leads : (offset : ℕ) → LeadsBy xlen ws p offset → reason3 past p (viewAt settings ws p) ≡ wrongOffset past p offset
     unfolding viewOf
     leads offset (inl j) = ap (λ (i : Instr). reason3 past p (viewOf settings i)) (j .1 .decodes)
     leads offset (inr b) = ap (λ (i : Instr). reason3 past p (viewOf settings i)) (b .3 .decodes)
 
-    pub three-false : reason3 past p (viewAt settings ws p) ≡ false → BadOffset ws p → ⊥
+    pub three-false : reason3 past p (viewAt settings ws p) ≡ false → BadOffset xlen ws p → ⊥
     three-false t b = right past p (b .0) (sym (leads (b .0) (b .1)) ∙ t) (bad-is (b .0) (b .2))
 
     -- ---- with the LR at place 0
 
-    module _ (lr : Atomic) (first : LrAt ws 0 lr) where
+    module _ (lr : Atomic) (first : LrAt xlen ws 0 lr) where
       abbrev rs1 : ℕ
       rs1 = lr .rs1
 
       abbrev width : ℕ
       width = bytesOf (lr .width)
 
-      same-lr : (a : Atomic) → LrAt ws 0 a → a ≡ lr
+      same-lr : (a : Atomic) → LrAt xlen ws 0 a → a ≡ lr
       same-lr a s = let e : I.Amo a ≡ I.Amo lr = sym (s .0 .decodes) ∙ first .0 .decodes in cc
 
       -- what stands at place 0
@@ -259,13 +263,14 @@ module _ (settings : Settings) (ws : List ℕ) where
       at-start e =
           ap (λ (n : ℕ). viewAt settings ws n) e ∙ ap (viewOf settings) (first .0 .decodes) ∙ lr-view settings lr (first .1)
 
-      writes : (v : View) → viewAt settings ws p ≡ v → isSc v ≡ false → (rd : ℕ) → HasRd (word p) rd → (not past && clobbers rs1 rd) ≡ true → Overwrites ws p
+      writes : (v : View) → viewAt settings ws p ≡ v → isSc v ≡ false → (rd : ℕ) → HasRd (word p) rd → (not past && clobbers rs1 rd) ≡ true
+          → Overwrites xlen ws p
       writes v q n rd h t =
           let s = and-both (not past) (clobbers rs1 rd) t in
           let c = clobbers-true rs1 rd (s .1) in
           (lr, word p, first, inr (past-before p (not-true past (s .0)) (ap isSc q ∙ n)), stands (word p) refl, subst (HasRd (word p)) (c .0) h, c .1)
 
-      pub four-true : (v : View) → viewAt settings ws p ≡ v → reason4 rs1 past v ≡ true → Overwrites ws p
+      pub four-true : (v : View) → viewAt settings ws p ≡ v → reason4 rs1 past v ≡ true → Overwrites xlen ws p
       four-true (Lr rd s u) q t =
           let e : Seen (word p) (Lr rd s u) = subst (Seen (word p)) q (seen settings (word p)) in
           writes (Lr rd s u) q refl rd (subst (λ (i : Instr). HasRd i rd) (sym (e .is)) (e .rd-is)) t
@@ -277,7 +282,7 @@ module _ (settings : Settings) (ws : List ℕ) where
       four-true (Branch off) q t = contrary t refl
       four-true Other q t = contrary t refl
 
-      early : (p ≡ 0) ⊎ BeforeSc ws p → past ≡ false
+      early : (p ≡ 0) ⊎ BeforeSc xlen ws p → past ≡ false
       unfolding pastSc
       early (inl z) = rw z
       early (inr b) = before-past p (omega arith) b
@@ -289,7 +294,7 @@ module _ (settings : Settings) (ws : List ℕ) where
       caught rd e h n t = contrary (both (not past) (clobbers rs1 rd) (not-of past e) (true-clobbers rs1 rd h n)) t
 
       overwritten : (v : View) → viewAt settings ws p ≡ v → reason2 past p v ≡ false → reason4 rs1 past v ≡ false
-          → (p ≡ 0) ⊎ BeforeSc ws p → RdSeen v rs1 → (rs1 ≡ 0 → ⊥) → ⊥
+          → (p ≡ 0) ⊎ BeforeSc xlen ws p → RdSeen v rs1 → (rs1 ≡ 0 → ⊥) → ⊥
       overwritten (Lr rd s u) q t f b h n = caught rd (early b) h n f
       overwritten (Sc s u) q t f (inl z) h n = not-first (Sc s u) q (λ e. let z′ : _≡_ {A = ℕ} 0 1 = cc in omega arith) z
       overwritten (Sc s u) q t f (inr b) h n = sc-late p l (ap isSc q) b
@@ -299,19 +304,19 @@ module _ (settings : Settings) (ws : List ℕ) where
       overwritten Other q t f b h n =
           not-first Other q (λ e. let z′ : _≡_ {A = ℕ} 0 1 = cc in omega arith) (omega (arith, ltb-false 0 p t))
 
-      pub four-false : (v : View) → viewAt settings ws p ≡ v → reason2 past p v ≡ false → reason4 rs1 past v ≡ false → Overwrites ws p → ⊥
+      pub four-false : (v : View) → viewAt settings ws p ≡ v → reason2 past p v ≡ false → reason4 rs1 past v ≡ false → Overwrites xlen ws p → ⊥
       four-false v q t f o =
           let e : o .0 .rs1 ≡ rs1 = ap (λ (a : Atomic). a .rs1) (same-lr (o .0) (o .2)) in
           let i : word p ≡ o .1 = o .4 .decodes in
           let h : HasRd (word p) rs1 = subst (λ (j : Instr). HasRd j rs1) (sym i) (subst (HasRd (o .1)) e (o .5)) in
           overwritten v q t f (o .3) (subst (λ (u : View). RdSeen u rs1) q (rd-seen settings (word p) rs1 h)) (λ z. o .6 (e ∙ z))
 
-      pub five-true : (v : View) → viewAt settings ws p ≡ v → reason5 rs1 width past v ≡ true → OtherSc ws p
+      pub five-true : (v : View) → viewAt settings ws p ≡ v → reason5 rs1 width past v ≡ true → OtherSc xlen ws p
       five-true (Lr rd s u) q t = contrary t refl
       five-true (Sc s u) q t =
           let e : SeenSc (word p) s u = subst (Seen (word p)) q (seen settings (word p)) in
           let b = and-both (not past) (not (eqb u width) || not (eqb s rs1)) t in
-          let sc : ScAt ws p (e .of) = (stands (I.Amo (e .of)) (e .is), e .kind) in (
+          let sc : ScAt xlen ws p (e .of) = (stands (I.Amo (e .of)) (e .is), e .kind) in (
             lr,
             e .of,
             first,
@@ -328,7 +333,7 @@ module _ (settings : Settings) (ws : List ℕ) where
       five-true (Branch off) q t = contrary t refl
       five-true Other q t = contrary t refl
 
-      pub five-false : reason5 rs1 width past (viewAt settings ws p) ≡ false → OtherSc ws p → ⊥
+      pub five-false : reason5 rs1 width past (viewAt settings ws p) ≡ false → OtherSc xlen ws p → ⊥
       five-false t o =
           let lr-is : o .0 ≡ lr = same-lr (o .0) (o .2) in
           let sc = o .1 in

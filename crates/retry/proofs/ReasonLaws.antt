@@ -9,11 +9,11 @@ use lib.Dec.{ltb}
 use lib.ListN.{length, getD}
 use borrow.Author.Tests.{ltb-true, ltb-false}
 use Rattle.word.proofs.TestLaws.{bool-cases, contrary, never}
-use Rattle.settings.specs.Settings.{VersionRules, versionOk}
+use Rattle.settings.specs.Settings.{xlenOf, ReadingRules, readingOk}
 use Rattle.settings.specs.declared.Settings.{Settings}
-use Rattle.settings.proofs.SettingsLaws.{version-exact}
+use Rattle.settings.proofs.SettingsLaws.{reading-exact}
 use Rattle.isa.specs.Width.{bytesOf}
-use Rattle.isa.specs.Decode.{decodeOf}
+use Rattle.isa.specs.Narrow.{decodeAt}
 use Rattle.isa.specs.declared.Atomic.{Atomic}
 use Rattle.retry.specs.declared.View.{View}
 use Rattle.retry.specs.declared.View.the-variants.{Lr, Sc, Plain, Jump, Branch, Other}
@@ -21,15 +21,19 @@ use Rattle.retry.specs.declared.LoopAnswer.{LoopAnswer}
 use Rattle.retry.specs.declared.LoopAnswer.the-variants.{Accepted, Rejected, Refused}
 use Rattle.retry.specs.Loop.{loopRefusal, viewOf, viewAt, pastSc, reason2, reason3, reason4, reason5, lowestOf, orElse, scanOf, startOf, checkOf}
 use Rattle.retry.specs.Reasons.{LrAt, NotLr, NotPermitted, BadOffset, LeadsBy, Overwrites, OtherSc, NoSc}
-use Rattle.retry.specs.Reasons.{Reason, one, two, three, four, five, six, Unreasoned, Lowest, Sized, RefusedBy, byVersion, byLength, Exactly}
+use Rattle.retry.specs.Reasons.{Reason, one, two, three, four, five, six, Unreasoned, Lowest, Sized, RefusedBy, bySetting, byLength, Exactly}
 use Rattle.retry.proofs.ViewLaws.{SeenLr, seen, Seen, lr-view}
 use Rattle.retry.proofs.PlaceLaws.{past-none, past-first, two-true, two-false, three-true, three-false, four-true, four-false, five-true, five-false}
 
 -- ---- reasons by their numbers
 
 module _ (settings : Settings) (ws : List ℕ) (p : ℕ) where
-  below : (n : ℕ) → (1 < n → NotLr ws p → ⊥) → (2 < n → NotPermitted settings ws p → ⊥) → (3 < n → BadOffset ws p → ⊥)
-      → (4 < n → Overwrites ws p → ⊥) → (5 < n → OtherSc ws p → ⊥) → (6 < n → NoSc ws p → ⊥) → (r : ℕ) → r < n → Reason settings ws p r → ⊥
+  abbrev xlen : ℕ
+  xlen = xlenOf settings
+
+  below : (n : ℕ) → (1 < n → NotLr xlen ws p → ⊥) → (2 < n → NotPermitted settings ws p → ⊥) → (3 < n → BadOffset xlen ws p → ⊥)
+      → (4 < n → Overwrites xlen ws p → ⊥) → (5 < n → OtherSc xlen ws p → ⊥) → (6 < n → NoSc xlen ws p → ⊥)
+      → (r : ℕ) → r < n → Reason settings ws p r → ⊥
   below n a b c d e f r l (one q x) = a (omega arith) x
   below n a b c d e f r l (two q x) = b (omega arith) x
   below n a b c d e f r l (three q x) = c (omega arith) x
@@ -56,25 +60,25 @@ Decides settings ws Accepted = Unreasoned settings ws
 Decides settings ws (Rejected p r) = Lowest settings ws p r
 Decides settings ws (Refused n) = ⊥
 
-leads-in : (ws : List ℕ) (p offset : ℕ) → LeadsBy ws p offset → p < length ws
-leads-in ws p offset (inl j) = j .1 .inBlock
-leads-in ws p offset (inr b) = b .3 .inBlock
+leads-in : (xlen : ℕ) (ws : List ℕ) (p offset : ℕ) → LeadsBy xlen ws p offset → p < length ws
+leads-in xlen ws p offset (inl j) = j .1 .inBlock
+leads-in xlen ws p offset (inr b) = b .3 .inBlock
 
-module _ (settings : Settings) (ws : List ℕ) (lr : Atomic) (first : LrAt ws 0 lr) where
+module _ (settings : Settings) (ws : List ℕ) (lr : Atomic) (first : LrAt (xlenOf settings) ws 0 lr) where
   abbrev rs1 : ℕ
   rs1 = lr .rs1
 
   abbrev width : ℕ
   width = bytesOf (lr .width)
 
-  is-lr : (p : ℕ) → NotLr ws p → ⊥
+  is-lr : (p : ℕ) → NotLr (xlenOf settings) ws p → ⊥
   is-lr p n = n .1 lr first
 
   module _ (p : ℕ) (l : p < length ws) where
     v : View
     v = viewAt settings ws p
 
-    inside : NoSc ws p → ⊥
+    inside : NoSc (xlenOf settings) ws p → ⊥
     inside n = omega (arith, n .0)
 
     pub at-place : At settings ws p (lowestOf rs1 width (pastSc settings ws p) p (viewAt settings ws p))
@@ -120,10 +124,10 @@ module _ (settings : Settings) (ws : List ℕ) (lr : Atomic) (first : LrAt ws 0 
         by-two false e = by-three (reason3 past p v) refl e
 
   -- at the end of the block, and behind it, only reason 6 can apply
-  at-end : (p : ℕ) → length ws ≤ p → (r : ℕ) → Reason settings ws p r → (r ≡ 6) × NoSc ws p
+  at-end : (p : ℕ) → length ws ≤ p → (r : ℕ) → Reason settings ws p r → (r ≡ 6) × NoSc (xlenOf settings) ws p
   at-end p l r (one q x) = absurd (is-lr p x)
   at-end p l r (two q x) = absurd (omega (arith, x .1))
-  at-end p l r (three q x) = absurd (omega (arith, leads-in ws p (x .0) (x .1)))
+  at-end p l r (three q x) = absurd (omega (arith, leads-in (xlenOf settings) ws p (x .0) (x .1)))
   at-end p l r (four q x) = absurd (omega (arith, x .4 .inBlock))
   at-end p l r (five q x) = absurd (omega (arith, x .4 .0 .inBlock))
   at-end p l r (six q x) = (q, x)
@@ -165,13 +169,13 @@ module _ (settings : Settings) (ws : List ℕ) (lr : Atomic) (first : LrAt ws 0 
 -- ---- the whole block
 
 lr-at : (settings : Settings) (ws : List ℕ) (rd s u : ℕ) → 0 < length ws → viewAt settings ws 0 ≡ Lr rd s u
-    → (a : Atomic) × LrAt ws 0 a × (a .rs1 ≡ s) × (bytesOf (a .width) ≡ u)
+    → (a : Atomic) × LrAt (xlenOf settings) ws 0 a × (a .rs1 ≡ s) × (bytesOf (a .width) ≡ u)
 lr-at settings ws rd s u l q =
-    let i = decodeOf (getD ws 0 0) in
+    let i = decodeAt (xlenOf settings) (getD ws 0 0) in
     let e : SeenLr i rd s u = subst (Seen i) q (seen settings i) in
     (e .of, (record { inBlock = l; decodes = e .is }, e .kind), e .rs1-is, e .width-is)
 
-lowest-one : (settings : Settings) (ws : List ℕ) → ((a : Atomic) → LrAt ws 0 a → ⊥) → Lowest settings ws 0 1
+lowest-one : (settings : Settings) (ws : List ℕ) → ((a : Atomic) → LrAt (xlenOf settings) ws 0 a → ⊥) → Lowest settings ws 0 1
 lowest-one settings ws n =
     record {
       applies = one refl (refl, n);
@@ -202,32 +206,32 @@ Unsized ws = (length ws < 2) ⊎ (16 < length ws)
 
 -- the answer with what it says
 pub data Checked (settings : Settings) (ws : List ℕ) (r : LoopAnswer) : Type 0 where
-  judged : VersionRules settings → Sized ws → Decides settings ws r → Checked settings ws r
+  judged : ReadingRules settings → Sized ws → Decides settings ws r → Checked settings ws r
   turned : (n : ℕ) → RefusedBy settings ws n → r ≡ Refused n → Checked settings ws r
 
 pub checked : (settings : Settings) (ws : List ℕ) → Checked settings ws (checkOf settings ws)
 unfolding checkOf
-checked settings ws = by-version (versionOk settings) refl
+checked settings ws = by-setting (readingOk settings) refl
   where
-    long : VersionRules settings → (t : Bool) → ltb 16 (length ws) ≡ t → 2 ≤ length ws
+    long : ReadingRules settings → (t : Bool) → ltb 16 (length ws) ≡ t → 2 ≤ length ws
         → Checked settings ws (cond t (Refused 6) (startOf settings (viewAt settings ws 0) ws))
     long v true e h = turned 6 (byLength refl v (inr (ltb-true 16 (length ws) e))) refl
     long v false e h = judged v (h, ltb-false 16 (length ws) e) (started settings ws (viewAt settings ws 0) refl (omega arith))
 
-    short : VersionRules settings → (t : Bool) → ltb (length ws) 2 ≡ t
+    short : ReadingRules settings → (t : Bool) → ltb (length ws) 2 ≡ t
         → Checked settings ws (cond t (Refused 6) (cond (ltb 16 (length ws)) (Refused 6) (startOf settings (viewAt settings ws 0) ws)))
     short v true e = turned 6 (byLength refl v (inl (ltb-true (length ws) 2 e))) refl
     short v false e = long v (ltb 16 (length ws)) refl (ltb-false (length ws) 2 e)
 
-    by-version : (t : Bool) → versionOk settings ≡ t
+    by-setting : (t : Bool) → readingOk settings ≡ t
         → Checked settings ws
         (cond t (cond (ltb (length ws) 2) (Refused 6) (cond (ltb 16 (length ws)) (Refused 6) (startOf settings (viewAt settings ws 0) ws))) (Refused 2))
-    by-version true e = short (version-exact settings .0 e) (ltb (length ws) 2) refl
-    by-version false e = turned 2 (byVersion refl (λ v. contrary (version-exact settings .1 v) e)) refl
+    by-setting true e = short (reading-exact settings .0 e) (ltb (length ws) 2) refl
+    by-setting false e = turned 2 (bySetting refl (λ v. contrary (reading-exact settings .1 v) e)) refl
 
 -- what is refused isn't judged
-judged-not : (settings : Settings) (ws : List ℕ) (n : ℕ) → VersionRules settings → Sized ws → RefusedBy settings ws n → ⊥
-judged-not settings ws n v s (byVersion q b) = b v
+judged-not : (settings : Settings) (ws : List ℕ) (n : ℕ) → ReadingRules settings → Sized ws → RefusedBy settings ws n → ⊥
+judged-not settings ws n v s (bySetting q b) = b v
 judged-not settings ws n v s (byLength q w u) = sized-not u
   where
     sized-not : Unsized ws → ⊥
@@ -236,13 +240,13 @@ judged-not settings ws n v s (byLength q w u) = sized-not u
 
 -- by one number
 same-number : (settings : Settings) (ws : List ℕ) (m n : ℕ) → RefusedBy settings ws m → RefusedBy settings ws n → m ≡ n
-same-number settings ws m n (byVersion p b) (byVersion q c) = omega arith
-same-number settings ws m n (byVersion p b) (byLength q v u) = absurd (b v)
-same-number settings ws m n (byLength p v u) (byVersion q c) = absurd (c v)
+same-number settings ws m n (bySetting p b) (bySetting q c) = omega arith
+same-number settings ws m n (bySetting p b) (byLength q v u) = absurd (b v)
+same-number settings ws m n (byLength p v u) (bySetting q c) = absurd (c v)
 same-number settings ws m n (byLength p v u) (byLength q w o) = omega arith
 
 some-number : (settings : Settings) (ws : List ℕ) (n : ℕ) → RefusedBy settings ws n → 0 < n
-some-number settings ws n (byVersion q b) = omega arith
+some-number settings ws n (bySetting q b) = omega arith
 some-number settings ws n (byLength q v u) = omega arith
 
 -- the lowest is one
@@ -265,22 +269,22 @@ same-lowest settings ws p r q s a b = (places, reasons)
         (λ u. omega (arith, ltb-false r s t, ltb-false s r u)))
 
 module _ (settings : Settings) (ws : List ℕ) where
-  accepts-to : (r : LoopAnswer) → Checked settings ws r → r ≡ Accepted → VersionRules settings × Sized ws × Unreasoned settings ws
+  accepts-to : (r : LoopAnswer) → Checked settings ws r → r ≡ Accepted → ReadingRules settings × Sized ws × Unreasoned settings ws
   accepts-to r (judged v s d) e = (v, s, subst (Decides settings ws) e d)
   accepts-to r (turned n u q) e = absurd (let z : _≡_ {A = ℕ} 0 1 = cc in omega arith)
 
-  to-accepts : (r : LoopAnswer) → Checked settings ws r → VersionRules settings × Sized ws × Unreasoned settings ws → r ≡ Accepted
+  to-accepts : (r : LoopAnswer) → Checked settings ws r → ReadingRules settings × Sized ws × Unreasoned settings ws → r ≡ Accepted
   to-accepts Accepted c h = refl
   to-accepts (Rejected p r) (judged v s d) h = absurd (h .2 p r (d .applies))
   to-accepts (Rejected p r) (turned n u q) h = absurd (judged-not settings ws n (h .0) (h .1) u)
   to-accepts (Refused m) (judged v s d) h = absurd d
   to-accepts (Refused m) (turned n u q) h = absurd (judged-not settings ws n (h .0) (h .1) u)
 
-  rejects-to : (p r : ℕ) (a : LoopAnswer) → Checked settings ws a → a ≡ Rejected p r → VersionRules settings × Sized ws × Lowest settings ws p r
+  rejects-to : (p r : ℕ) (a : LoopAnswer) → Checked settings ws a → a ≡ Rejected p r → ReadingRules settings × Sized ws × Lowest settings ws p r
   rejects-to p r a (judged v s d) e = (v, s, subst (Decides settings ws) e d)
   rejects-to p r a (turned n u q) e = absurd (let z : _≡_ {A = ℕ} 0 1 = cc in omega arith)
 
-  to-rejects : (p r : ℕ) (a : LoopAnswer) → Checked settings ws a → VersionRules settings × Sized ws × Lowest settings ws p r → a ≡ Rejected p r
+  to-rejects : (p r : ℕ) (a : LoopAnswer) → Checked settings ws a → ReadingRules settings × Sized ws × Lowest settings ws p r → a ≡ Rejected p r
   to-rejects p r Accepted (judged v s d) h = absurd (d p r (h .2 .applies))
   to-rejects p r Accepted (turned n u q) h = absurd (judged-not settings ws n (h .0) (h .1) u)
   to-rejects p r (Rejected k s) (judged v z d) h = let e = same-lowest settings ws k s p r d (h .2) in cc

@@ -9,12 +9,14 @@ use lib.Dec.{ltb, eqb}
 use lib.ListN.{length, getD}
 use borrow.Author.Tests.{lt-ltb, ltb-true, ltb-false, eqb-true, not-false}
 use Rattle.word.proofs.TestLaws.{bool-cases, contrary, and-both}
-use Rattle.settings.specs.Settings.{versionOk}
+use Rattle.settings.specs.Settings.{xlenOf, readingOk}
 use Rattle.settings.specs.declared.Settings.{Settings}
 use Rattle.isa.specs.Width.{bytesOf}
-use Rattle.isa.specs.Decode.{decodeOf}
+use Rattle.isa.specs.Narrow.{decodeAt}
 use Rattle.isa.specs.declared.Width.{Width}
 use Rattle.isa.specs.declared.Width.the-variants.{Word, Double}
+use Rattle.isa.specs.declared.Instr.{Instr}
+use Rattle.isa.proofs.NarrowLaws.{Short, Near, near-at}
 use Rattle.retry.specs.declared.View.{View}
 use Rattle.retry.specs.declared.View.the-variants.{Lr, Sc, Plain, Jump, Branch, Other}
 use Rattle.retry.specs.declared.LoopAnswer.{LoopAnswer}
@@ -25,9 +27,9 @@ use Rattle.retry.specs.Reasons.{FirstSc, Sized}
 use Rattle.retry.proofs.ViewLaws.{Seen, SeenLr, seen}
 use Rattle.retry.proofs.PlaceLaws.{not-of, or-left, or-right, and-second, above, true-clobbers, sc-is, is-sc, past-first, first-past, after-past}
 
--- the offset leads forward by whole words
+-- the offset leads forward by whole words, and not farther than a JAL can
 abbrev pub Ahead : ℕ → Type 0
-Ahead offset = (offset % 4 ≡ 0) × (0 < offset) × (offset < 2 ^ 63)
+Ahead offset = (offset % 4 ≡ 0) × (0 < offset) × (offset < 2 ^ 21)
 
 -- from this place the offset leads to place 0
 abbrev pub Home : ℕ → ℕ → Type 0
@@ -98,12 +100,30 @@ keeps-rs1 rs1 rd t e =
     bool-cases (eqb rs1 0) (λ z. eqb-true rs1 0 z)
     (λ z. contrary (true-clobbers rs1 rd (sym e) (λ n. contrary (subst (λ (k : ℕ). eqb k 0 ≡ true) (sym n) refl) z)) t)
 
-offset-right : (past : Bool) (place offset : ℕ) → wrongOffset past place offset ≡ false → Ahead offset ⊎ ((past ≡ true) × Home place offset)
+-- what every word shows: its offset, if it has one, is short
+abbrev ShortIn : View → Type 0
+ShortIn (Lr rd rs1 width) = Unit {0}
+ShortIn (Sc rs1 width) = Unit {0}
+ShortIn (Plain rd) = Unit {0}
+ShortIn (Jump rd offset) = Short offset
+ShortIn (Branch offset) = Short offset
+ShortIn Other = Unit {0}
+
+short-in : (i : Instr) (v : View) → Near i → Seen i v → ShortIn v
+short-in i (Lr rd rs1 width) n s = tt
+short-in i (Sc rs1 width) n s = tt
+short-in i (Plain rd) n s = tt
+short-in i (Jump rd offset) n s = subst Near s n
+short-in i (Branch offset) n s = subst Near (s .3) n
+short-in i Other n s = tt
+
+offset-right : (past : Bool) (place offset : ℕ) → Short offset → wrongOffset past place offset ≡ false
+    → Ahead offset ⊎ ((past ≡ true) × Home place offset)
 unfolding wrongOffset
-offset-right past place offset t =
+offset-right past place offset near t =
     let four : offset % 4 ≡ 0 = eqb-true (offset % 4) 0 (not-false (eqb (offset % 4) 0) (or-left (not (eqb (offset % 4) 0)) _ t)) in
     let f : (not (isAbove offset) && not (past && toStart place offset)) ≡ false = or-right (not (eqb (offset % 4) 0)) _ t in
-    bool-cases (isAbove offset) (λ a. let s = above offset a in inl (four, s .0, s .1))
+    bool-cases (isAbove offset) (λ a. let s = above offset a in inl (four, s .0, near (s .1)))
     (λ a.
     let home = not-false (past && toStart place offset) (and-second (not (isAbove offset)) _ f (not-of (isAbove offset) a)) in
     let s = and-both past (toStart place offset) home in
@@ -112,15 +132,15 @@ offset-right past place offset t =
 -- ---- one place
 
 module _ (rs1 width : ℕ) (past : Bool) (place : ℕ) (0<place : 0 < place) where
-  forward : past ≡ false → (offset : ℕ) → wrongOffset past place offset ≡ false → Ahead offset
-  forward e offset t = go (offset-right past place offset t)
+  forward : past ≡ false → (offset : ℕ) → Short offset → wrongOffset past place offset ≡ false → Ahead offset
+  forward e offset near t = go (offset-right past place offset near t)
     where
       go : Ahead offset ⊎ ((past ≡ true) × Home place offset) → Ahead offset
       go (inl a) = a
       go (inr b) = contrary (b .0) e
 
-  either-way : (offset : ℕ) → wrongOffset past place offset ≡ false → Ahead offset ⊎ Home place offset
-  either-way offset t = go (offset-right past place offset t)
+  either-way : (offset : ℕ) → Short offset → wrongOffset past place offset ≡ false → Ahead offset ⊎ Home place offset
+  either-way offset near t = go (offset-right past place offset near t)
     where
       go : Ahead offset ⊎ ((past ≡ true) × Home place offset) → Ahead offset ⊎ Home place offset
       go (inl a) = inl a
@@ -129,21 +149,21 @@ module _ (rs1 width : ℕ) (past : Bool) (place : ℕ) (0<place : 0 < place) whe
   kept : past ≡ false → (rd : ℕ) → (not past && clobbers rs1 rd) ≡ false → Keeps rs1 rd
   kept e rd t = keeps-rs1 rs1 rd (and-second (not past) (clobbers rs1 rd) t (not-of past e))
 
-  before-at : (v : View) → Clear rs1 width past place v → past ≡ false → isSc v ≡ false → Before rs1 v
-  before-at (Lr rd s u) c e n = contrary (lt-ltb 0 place 0<place) (c .no2)
-  before-at (Sc s u) c e n = contrary refl n
-  before-at (Plain rd) c e n = kept e rd (c .no4)
-  before-at (Jump rd offset) c e n = (forward e offset (c .no3), kept e rd (c .no4))
-  before-at (Branch offset) c e n = forward e offset (c .no3)
-  before-at Other c e n = contrary (lt-ltb 0 place 0<place) (c .no2)
+  before-at : (v : View) → ShortIn v → Clear rs1 width past place v → past ≡ false → isSc v ≡ false → Before rs1 v
+  before-at (Lr rd s u) near c e n = contrary (lt-ltb 0 place 0<place) (c .no2)
+  before-at (Sc s u) near c e n = contrary refl n
+  before-at (Plain rd) near c e n = kept e rd (c .no4)
+  before-at (Jump rd offset) near c e n = (forward e offset near (c .no3), kept e rd (c .no4))
+  before-at (Branch offset) near c e n = forward e offset near (c .no3)
+  before-at Other near c e n = contrary (lt-ltb 0 place 0<place) (c .no2)
 
-  after-at : (v : View) → Clear rs1 width past place v → past ≡ true → After place v
-  after-at (Lr rd s u) c e = contrary (lt-ltb 0 place 0<place) (c .no2)
-  after-at (Sc s u) c e = contrary e (and-second (ltb 0 place) past (c .no2) (lt-ltb 0 place 0<place))
-  after-at (Plain rd) c e = tt
-  after-at (Jump rd offset) c e = either-way offset (c .no3)
-  after-at (Branch offset) c e = either-way offset (c .no3)
-  after-at Other c e = contrary (lt-ltb 0 place 0<place) (c .no2)
+  after-at : (v : View) → ShortIn v → Clear rs1 width past place v → past ≡ true → After place v
+  after-at (Lr rd s u) near c e = contrary (lt-ltb 0 place 0<place) (c .no2)
+  after-at (Sc s u) near c e = contrary e (and-second (ltb 0 place) past (c .no2) (lt-ltb 0 place 0<place))
+  after-at (Plain rd) near c e = tt
+  after-at (Jump rd offset) near c e = either-way offset near (c .no3)
+  after-at (Branch offset) near c e = either-way offset near (c .no3)
+  after-at Other near c e = contrary (lt-ltb 0 place 0<place) (c .no2)
 
   sc-at : (v : View) → Clear rs1 width past place v → past ≡ false → isSc v ≡ true → v ≡ Sc rs1 width
   sc-at (Lr rd s u) c e n = contrary n refl
@@ -206,10 +226,13 @@ module _ (settings : Settings) (rs1 width : ℕ) (ws : List ℕ) where
         sc-is-first =
             sc-at rs1 width (pastSc settings ws j) j late (viewAt settings ws j) (clear-at j (s .2))
             (first-past settings ws j (omega (arith, s .2)) (s .1)) (sc-is settings ws j (s .1 .0));
-        before = λ k o h. before-at rs1 width (pastSc settings ws k) k o (viewAt settings ws k) (clear-at k (omega (arith, s .2))) (past-early k h) (no-sc k h);
+        before =
+            λ k o h.
+            before-at rs1 width (pastSc settings ws k) k o (viewAt settings ws k) (short-at k) (clear-at k (omega (arith, s .2))) (past-early k h) (no-sc k h);
         after =
             λ k h l.
-            after-at rs1 width (pastSc settings ws k) k (omega arith) (viewAt settings ws k) (clear-at k l) (after-past settings ws k (j, s .1, h));
+            after-at rs1 width (pastSc settings ws k) k (omega arith) (viewAt settings ws k) (short-at k) (clear-at k l)
+            (after-past settings ws k (j, s .1, h));
       }
     where
       r : ((k : ℕ) → 0 ≤ k → k < length ws → lowestOf rs1 width (pastSc settings ws k) k (viewAt settings ws k) ≡ 0) × (pastSc settings ws (length ws) ≡ true)
@@ -218,14 +241,20 @@ module _ (settings : Settings) (rs1 width : ℕ) (ws : List ℕ) where
       clear-at : (k : ℕ) → k < length ws → Clear rs1 width (pastSc settings ws k) k (viewAt settings ws k)
       clear-at k l = clear rs1 width (pastSc settings ws k) k (viewAt settings ws k) (r .0 k (omega arith) l)
 
-      s : (first : ℕ) × FirstSc ws first × (first < length ws)
+      s : (first : ℕ) × FirstSc (xlenOf settings) ws first × (first < length ws)
       s = past-first settings ws (length ws) (omega arith) (r .1)
 
       j : ℕ
       j = s .0
 
-      lr : SeenLr (decodeOf (getD ws 0 0)) rd rs1 width
-      lr = subst (Seen (decodeOf (getD ws 0 0))) q (seen settings (decodeOf (getD ws 0 0)))
+      word : ℕ → Instr
+      word k = decodeAt (xlenOf settings) (getD ws k 0)
+
+      short-at : (k : ℕ) → ShortIn (viewAt settings ws k)
+      short-at k = short-in (word k) (viewAt settings ws k) (near-at (xlenOf settings) (getD ws k 0)) (seen settings (word k))
+
+      lr : SeenLr (word 0) rd rs1 width
+      lr = subst (Seen (word 0)) q (seen settings (word 0))
 
       late : 0 < j
       late =
@@ -262,7 +291,7 @@ started settings ws Other q z a = absurd (let n : _≡_ {A = ℕ} 0 1 = cc in om
 
 pub block : (settings : Settings) (ws : List ℕ) → checkOf settings ws ≡ Accepted → Block settings ws
 unfolding checkOf
-block settings ws a = by-version (versionOk settings) a
+block settings ws a = by-setting (readingOk settings) a
   where
     long : (t : Bool) → ltb 16 (length ws) ≡ t → 2 ≤ length ws → cond t (Refused 6) (startOf settings (viewAt settings ws 0) ws) ≡ Accepted
         → Block settings ws
@@ -274,9 +303,9 @@ block settings ws a = by-version (versionOk settings) a
     short true e q = absurd (let n : _≡_ {A = ℕ} 0 1 = cc in omega arith)
     short false e q = long (ltb 16 (length ws)) refl (ltb-false (length ws) 2 e) q
 
-    by-version : (t : Bool)
+    by-setting : (t : Bool)
         → cond t (cond (ltb (length ws) 2) (Refused 6) (cond (ltb 16 (length ws)) (Refused 6) (startOf settings (viewAt settings ws 0) ws))) (Refused 2)
         ≡ Accepted
         → Block settings ws
-    by-version true q = short (ltb (length ws) 2) refl q
-    by-version false q = absurd (let n : _≡_ {A = ℕ} 0 1 = cc in omega arith)
+    by-setting true q = short (ltb (length ws) 2) refl q
+    by-setting false q = absurd (let n : _≡_ {A = ℕ} 0 1 = cc in omega arith)

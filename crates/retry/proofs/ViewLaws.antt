@@ -6,11 +6,12 @@ use Prim.Native.Nat.{ℕ}
 use native.Mathlib.Omega.{arith}
 use Rattle.word.proofs.TestLaws.{bool-cases, contrary}
 use Rattle.word.proofs.ChooseLaws.{cond-all, cond-cases}
-use Rattle.settings.specs.Settings.{jalrPermitted}
+use Rattle.settings.specs.Settings.{xlenOf, jalrPermitted}
 use Rattle.settings.specs.declared.Settings.{Settings}
 use Rattle.settings.proofs.SettingsLaws.{jalr-exact}
 use Rattle.isa.specs.Width.{bytesOf}
-use Rattle.isa.specs.Decode.{classOf, decodeOf}
+use Rattle.isa.specs.Decode.{classOf}
+use Rattle.isa.specs.Narrow.{decodeAt}
 use Rattle.isa.specs.declared.BranchOp.{BranchOp}
 use Rattle.isa.specs.declared.Width.{Width}
 use Rattle.isa.specs.declared.Width.the-variants.{Word, Double}
@@ -161,8 +162,10 @@ body-of settings c I.Ecall e t h = contrary t (ap (permittedClass settings) e)
 body-of settings c I.Ebreak e t h = contrary t (ap (permittedClass settings) e)
 body-of settings c (I.Amo a) e t h = contrary t (ap (permittedClass settings) e)
 
-pub permitted-body : (settings : Settings) (w : ℕ) → Permitted settings w → Body (viewOf settings (decodeOf w))
-permitted-body settings w p = body-of settings (classOf w) (decodeOf w) (in-class w) (tested settings (classOf w) (p .0)) (p .1)
+pub permitted-body : (settings : Settings) (w : ℕ) → Permitted settings w → Body (viewOf settings (decodeAt (xlenOf settings) w))
+permitted-body settings w p =
+    let xlen = xlenOf settings in
+    body-of settings (classOf w) (decodeAt xlen w) (in-class xlen w) (tested settings (classOf w) (p .0)) (p .1)
 
 atomic-no-body : (op : AtomicOp) (a : Atomic) → Body (atomicView op a) → ⊥
 atomic-no-body A.Lr a b = b
@@ -195,8 +198,10 @@ legal : (settings : Settings) (i : Instr) → Body (viewOf settings i) → i ≢
 unfolding viewOf
 legal settings i b e = subst (λ (j : Instr). Body (viewOf settings j)) e b
 
-pub body-permitted : (settings : Settings) (w : ℕ) → Body (viewOf settings (decodeOf w)) → Permitted settings w
-body-permitted settings w b = (class-of settings (classOf w) (decodeOf w) (in-class w) b, legal settings (decodeOf w) b)
+pub body-permitted : (settings : Settings) (w : ℕ) → Body (viewOf settings (decodeAt (xlenOf settings) w)) → Permitted settings w
+body-permitted settings w b =
+    let xlen = xlenOf settings in
+    (class-of settings (classOf w) (decodeAt xlen w) (in-class xlen w) b, legal settings (decodeAt xlen w) b)
 
 -- ---- widths
 

@@ -1,5 +1,5 @@
 -- Which blocks of words are accepted: 01, "A block is a list of words. It is accepted exactly if no reason below applies; otherwise the answer is the
--- lowest place with a reason, and at that place the lowest reason." By the version of A that the settings have (02 [7]).
+-- lowest place with a reason, and at that place the lowest reason." By the version of A and the register width that the settings have (02 [7], [10]).
 -- RULES 6.1.
 use mathlib.Core.Bool.{Bool, true, false, cond, not, _&&_, _||_}
 use mathlib.Core.List.{List, [], _∷_, _++_}
@@ -8,10 +8,11 @@ use lib.Dec.{ltb, eqb}
 use lib.ListN.{length, getD}
 use Rattle.word.specs.Bytes.{le}
 use Rattle.word.specs.Memory.{part}
-use Rattle.settings.specs.Settings.{versionOk, jalrPermitted}
+use Rattle.settings.specs.Settings.{xlenOf, readingOk, jalrPermitted}
 use Rattle.settings.specs.declared.Settings.{Settings}
 use Rattle.isa.specs.Width.{bytesOf}
-use Rattle.isa.specs.Decode.{AUIPC, LUI, JAL, JALR, BRANCH, OP, OP-IMM, OP-32, OP-IMM-32, AMO, decodeOf}
+use Rattle.isa.specs.Decode.{AUIPC, LUI, JAL, JALR, BRANCH, OP, OP-IMM, OP-32, OP-IMM-32, AMO}
+use Rattle.isa.specs.Narrow.{decodeAt}
 use Rattle.isa.specs.declared.Atomic.{Atomic}
 use Rattle.isa.specs.declared.AtomicOp.{AtomicOp}
 use Rattle.isa.specs.declared.AtomicOp.the-variants as A
@@ -56,9 +57,9 @@ viewOf settings I.Ecall = Other
 viewOf settings I.Ebreak = Other
 viewOf settings (I.Amo a) = atomicView (a .op) a
 
--- the word at a place of a block
+-- the word at a place of a block. 02 [10]: at a register width of 32 bits "loop words are read as RV32I"
 abbrev pub viewAt : Settings → List ℕ → ℕ → View
-viewAt settings ws place = viewOf settings (decodeOf (getD ws place 0))
+viewAt settings ws place = viewOf settings (decodeAt (xlenOf settings) (getD ws place 0))
 
 abbrev pub isSc : View → Bool
 isSc (Lr rd rs1 width) = false
@@ -151,11 +152,11 @@ startOf settings (Jump rd offset) ws = Rejected 0 1
 startOf settings (Branch offset) ws = Rejected 0 1
 startOf settings Other ws = Rejected 0 1
 
--- 01, refusal 6: "loop block of fewer than 2 or more than 16 words"; before it 02 [7], refusal 2: "any other version". Of the settings only the version is
--- looked at: no set size is refused here
+-- 01, refusal 6: "loop block of fewer than 2 or more than 16 words"; before it 02 [7], refusal 2: "any other version", and so any kind that is neither of
+-- [10]'s. Of the settings only version and kind are looked at: no set size is refused here
 unfoldable pub checkOf : Settings → List ℕ → LoopAnswer
 checkOf settings ws =
-    cond (versionOk settings)
+    cond (readingOk settings)
     (cond (ltb (length ws) 2) (Refused 6) (cond (ltb 16 (length ws)) (Refused 6) (startOf settings (viewAt settings ws 0) ws)))
     (Refused 2)
 

@@ -34,7 +34,7 @@ fn words(bytes: &[u8], n: usize) -> [u32; 16]
 pub fn check_bytes(settings: Settings, bytes: &[u8]) -> LoopAnswer
     ensures { λ r. ⌜ r ≡ checkOf settings (wordsOf (now (bytes .entry)) (length (now (bytes .entry)) / 4)) ⌝ }
 {
-    if !settings::version_ok(settings) {
+    if !settings::reading_ok(settings) {
         return LoopAnswer::Refused { number: 2 };
     }
     let n = bytes.len() / 4;

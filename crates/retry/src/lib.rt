@@ -1,4 +1,4 @@
-// The checker of retry loops: document 01, "Retry loops", by the version of A that the settings have.
+// The checker of retry loops: document 01, "Retry loops", by the version of A and the register width that the settings have.
 use settings::Settings;
 ghost use mathlib.Core.Path.{_≡_};
 ghost use Prim.Native.Nat.{_≤_};
@@ -56,7 +56,7 @@ fn scan(settings: Settings, words: &[u32], rs1: usize, width: usize) -> LoopAnsw
 pub fn check_loop(settings: Settings, words: &[u32]) -> LoopAnswer
     ensures { λ r. ⌜ r ≡ checkOf settings (now (words .entry)) ⌝ }
 {
-    if !settings::version_ok(settings) {
+    if !settings::reading_ok(settings) {
         return LoopAnswer::Refused { number: 2 };
     }
     if words.len() < 2 {

@@ -8,7 +8,8 @@ use settings::Settings;
 use settings::jalr_permitted;
 ghost use mathlib.Core.Path.{_≡_};
 ghost use Rattle.retry.specs.Loop.{atomicView, fieldsOf, viewOf, lookedAt, permittedClass};
-ghost use Rattle.isa.specs.Decode.{decodeOf};
+ghost use Rattle.isa.specs.Narrow.{decodeAt};
+ghost use Rattle.settings.specs.Settings.{xlenOf};
 
 // The classes of 01's reason 2, and that of JALR where the version permits it.
 fn permitted(settings: Settings, c: u8) -> bool
@@ -113,10 +114,10 @@ fn fields(i: Instr) -> View
 }
 
 pub fn look(settings: Settings, word: u32) -> View
-    ensures { λ r. ⌜ r ≡ viewOf settings (decodeOf word) ⌝ }
+    ensures { λ r. ⌜ r ≡ viewOf settings (decodeAt (xlenOf settings) word) ⌝ }
 {
     if looked_at(settings, class::class_of(word)) {
-        fields(isa::decode(word))
+        fields(isa::decode_at(word, settings::xlen(settings)))
     } else {
         View::Other
     }

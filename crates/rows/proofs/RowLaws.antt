@@ -11,16 +11,16 @@ use Rattle.word.specs.Memory.{part, splice}
 use Rattle.reserve.specs.Range.{Inside}
 use Rattle.reserve.specs.Reserve.{coversOf}
 use Rattle.reserve.proofs.RangeLaws.{of-inside}
-use Rattle.isa.specs.Decode.{decodeOf}
+use Rattle.isa.specs.Narrow.{decodeAt}
 use Rattle.isa.specs.declared.Instr.{Instr}
 use Rattle.isa.specs.declared.Instr.the-variants.{Illegal, Lui, Auipc, Jal, Jalr, Branch, Load, Store, OpImm, OpImm32, Op, Op32, Fence, Ecall, Ebreak, Amo}
-use Rattle.isa.proofs.DecodeLaws.{regs-below}
+use Rattle.isa.proofs.NarrowLaws.{regs-at}
 use Rattle.effect.specs.Effect.{Exec, trap, doneOf, memoryBy}
 use Rattle.effect.specs.Execute.{regAt, execute, executeWord}
 use Rattle.effect.specs.declared.Done.the-variants.{Trap}
 use Rattle.events.specs.declared.Event.the-variants.{Step}
 use Rattle.model.specs.Act.{setReg, outcomeOf, registersAfter, pcsAfter, leaves, apply}
-use Rattle.model.specs.Perform.{Machine, reservationOf, fetchOf, stepOf, ofExec, actOn, actOf, answerOf, memoryOf, nextOf, outcomeAt}
+use Rattle.model.specs.Perform.{Machine, xlen, reservationOf, fetchOf, stepOf, ofExec, actOn, actOf, answerOf, memoryOf, nextOf, outcomeAt}
 use Rattle.model.specs.Valid.{Valid}
 use Rattle.model.specs.Advance.{registersBy, pcsBy, outcomeBy}
 use Rattle.model.specs.declared.Outcome.{Outcome}
@@ -75,20 +75,22 @@ module _ (base : ℕ) (m : Machine) (v : Valid base m) (h : ℕ) (l : h < m .sta
     word = wordAt base m h
 
     fetched : exec
-        ≡ execute 64 (decodeOf word) word (regAt (m .state .x) h) (pcAt base m h) base (m .mem) (coversOf (m .state .settings) (reservationOf (m .state) h))
+        ≡ execute (xlen m) (decodeAt (xlen m) word) word (regAt (m .state .x) h) (pcAt base m h) base (m .mem)
+        (coversOf (m .state .settings) (reservationOf (m .state) h))
     unfolding fetchOf executeWord
     fetched = rw (of-inside base (length (m .mem)) (pcAt base m h) 4 inside)
 
     -- of every word, what the code takes from its class
-    exec-reaches-in : (let c = reachIn word (regAt (m .state .x) h) in Reaches (c .rd) (c .at) exec)
+    exec-reaches-in : (let c = reachIn (xlen m) word (regAt (m .state .x) h) in Reaches (c .rd) (c .at) exec)
     exec-reaches-in =
-        rw fetched (reaches-in (pcAt base m h) base (m .mem) (coversOf (m .state .settings) (reservationOf (m .state) h)) word (regAt (m .state .x) h))
+        rw fetched
+        (reaches-in (xlen m) (pcAt base m h) base (m .mem) (coversOf (m .state .settings) (reservationOf (m .state) h)) word (regAt (m .state .x) h))
 
-    pub exec-reaches : Reaches (rdAt base m h) (writesAt (decodeOf word) (regAt (m .state .x) h)) exec
+    pub exec-reaches : Reaches (rdAt base m h) (writesAt (xlen m) (decodeAt (xlen m) word) (regAt (m .state .x) h)) exec
     exec-reaches =
         rw fetched
-        (reaches (pcAt base m h) base (m .mem) (coversOf (m .state .settings) (reservationOf (m .state) h)) (decodeOf word) (regs-below word) word
-        (regAt (m .state .x) h))
+        (reaches (xlen m) (pcAt base m h) base (m .mem) (coversOf (m .state .settings) (reservationOf (m .state) h)) (decodeAt (xlen m) word)
+        (regs-at (xlen m) word) word (regAt (m .state .x) h))
 
 -- a row whose word can't be fetched
 pub told-unfetched : (base : ℕ) (m : Machine) (r : Row) → r .pc ≡ pcAt base m (r .hart) → Valid base m → r .hart < m .state .count
@@ -100,12 +102,12 @@ told-unfetched base m r same v l out =
     let o = step-outcome base m v h l ∙ ap (λ (e : Exec). outcomeBy (doneOf h e)) traps in
     sym (past-pc base m r same ∙ past-fetch base m r out ∙ ap (λ (q : Outcome). toldBy q r (rdAt base m h) (valueAfter base m h)) o)
 
--- what is told by the code's rd is what is told by the instruction's: a word whose rd the code doesn't know traps
-module _ (r : Row) (h word pc base : ℕ) (mem : List ℕ) (covered : ℕ → ℕ → Bool) (x : ℕ → ℕ) (c : Reach) (o : Outcome) (after : List ℕ) where
+-- what is told by the code's rd is what is told by the instruction's, where registers have k bits: a word whose rd the code doesn't know traps
+module _ (k : ℕ) (r : Row) (h word pc base : ℕ) (mem : List ℕ) (covered : ℕ → ℕ → Bool) (x : ℕ → ℕ) (c : Reach) (o : Outcome) (after : List ℕ) where
   abbrev told : ℕ → Told
   told d = toldBy o r d (regAt after h d)
 
-  told-same : (i : Instr) → Shows c x i → o ≡ outcomeBy (doneOf h (execute 64 i word x pc base mem covered)) → told (c .rd) ≡ told (shownRd i)
+  told-same : (i : Instr) → Shows k c x i → o ≡ outcomeBy (doneOf h (execute k i word x pc base mem covered)) → told (c .rd) ≡ told (shownRd i)
   unfolding execute outcomeBy toldBy
   told-same Illegal s e = rw e refl
   told-same Ecall s e = rw e refl
@@ -125,7 +127,7 @@ module _ (r : Row) (h word pc base : ℕ) (mem : List ℕ) (covered : ℕ → �
   told-same (Amo m) s e = ap (λ (q : Reach). told (q .rd)) s
 
 -- a row whose pc and word are the model's: the code has c for what its step may change, and m′ is the machine after it
-module _ (base : ℕ) (m : Machine) (r : Row) (ready : Ready base m r) {c : Reach} (reached : c ≡ reachIn (r .word) (regAt (m .state .x) (r .hart)))
+module _ (base : ℕ) (m : Machine) (r : Row) (ready : Ready base m r) {c : Reach} (reached : c ≡ reachIn (xlen m) (r .word) (regAt (m .state .x) (r .hart)))
     {m′ : Machine} (stepped′ : m′ ≡ nextOf base m (Step (r .hart))) where
   abbrev h : ℕ
   h = r .hart
@@ -145,8 +147,8 @@ module _ (base : ℕ) (m : Machine) (r : Row) (ready : Ready base m r) {c : Reac
   within : Inside base (length (m .mem)) (pcAt base m h) 4
   within = subst (λ (p : ℕ). Inside base (length (m .mem)) p 4) (ready .pc) (ready .inside)
 
-  model-reach : reachIn (wordAt base m h) x ≡ c
-  model-reach = sym (reached ∙ ap (λ (w : ℕ). reachIn w x) (ready .word))
+  model-reach : reachIn (xlen m) (wordAt base m h) x ≡ c
+  model-reach = sym (reached ∙ ap (λ (w : ℕ). reachIn (xlen m) w x) (ready .word))
 
   step-reaches : Reaches d (c .at) (exec base m v h l)
   step-reaches = subst (λ (q : Reach). Reaches (q .rd) (q .at) (exec base m v h l)) model-reach (exec-reaches-in base m v h l within)
@@ -158,10 +160,10 @@ module _ (base : ℕ) (m : Machine) (r : Row) (ready : Ready base m r) {c : Reac
       let after = nextOf base m (Step h) .state .x in
       let covered = coversOf (m .state .settings) (reservationOf (m .state) h) in
       let value = ev ∙ ap (λ (n : Machine). regAt (n .state .x) h d) stepped′ in
-      let shown = subst (λ (q : Reach). Shows q x (decodeOf word)) model-reach (shows word x) in
+      let shown = subst (λ (q : Reach). Shows (xlen m) q x (decodeAt (xlen m) word)) model-reach (shows (xlen m) word x) in
       let answer = eo ∙ step-outcome base m v h l ∙ ap (λ (e : Exec). outcomeBy (doneOf h e)) (fetched base m v h l within) in
       et ∙ ap (toldBy o r d) value
-      ∙ told-same r h word (pcAt base m h) base (m .mem) covered x c o after (decodeOf word) shown answer
+      ∙ told-same (xlen m) r h word (pcAt base m h) base (m .mem) covered x c o after (decodeAt (xlen m) word) shown answer
       ∙ ap (λ (q : Outcome). toldBy q r (rdAt base m h) (valueAfter base m h)) eo
 
   -- what a step may change, put back

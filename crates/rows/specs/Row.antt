@@ -4,11 +4,11 @@ use mathlib.Core.Bool.{Bool, cond, _&&_, not}
 use lib.Dec.{eqb}
 use lib.ListN.{length, getD}
 use Rattle.reserve.specs.Range.{insideOf}
-use Rattle.isa.specs.Decode.{decodeOf}
+use Rattle.isa.specs.Narrow.{decodeAt}
 use Rattle.effect.specs.Memory.{valueAt}
 use Rattle.effect.specs.Execute.{regAt}
 use Rattle.events.specs.declared.Event.the-variants.{Step}
-use Rattle.model.specs.Perform.{Machine, outcomeAt, nextOf}
+use Rattle.model.specs.Perform.{Machine, xlen, outcomeAt, nextOf}
 use Rattle.model.specs.declared.Outcome.{Outcome}
 use Rattle.model.specs.declared.Outcome.the-variants as O
 use Rattle.steplog.specs.declared.Row.{Row}
@@ -47,7 +47,7 @@ module _ (base : ℕ) (m : Machine) where
   fetchable h = insideOf base (length (m .mem)) (pcAt h) 4
 
   abbrev pub rdAt : ℕ → ℕ
-  rdAt h = shownRd (decodeOf (wordAt h))
+  rdAt h = shownRd (decodeAt (xlen m) (wordAt h))
 
   -- "the value in rd afterwards": what the register holds after the step
   abbrev pub valueAfter : ℕ → ℕ

@@ -69,7 +69,8 @@ fn perform(
         ⌝ }
 {
     let h = r.hart;
-    let c = reach::reach_in(r.word, x, h);
+    let xlen = settings::xlen(settings);
+    let c = reach::reach_in(xlen, r.word, x, h);
     let rd = c.rd;
     let place = reach::window(base, mem.len(), c.at);
     let saved = reach::save(mem, place);

@@ -78,7 +78,7 @@ module _ (base h : ℕ) (m : Machine) (v : Valid base m) (u : h < m .state .coun
     unfolding Spares
     leaves =
         ⊎-elim (λ (q : version m ≡ 20). under20 q harts-leave)
-        (λ (q : version m ≡ 21). under21 q harts-leave (λ b n c t. spare (N.DeviceWrite b n) c q t)) (v .1 .3)
+        (λ (q : version m ≡ 21). under21 q harts-leave (λ b n c t. spare (N.DeviceWrite b n) c q t)) (v .1 .3 .0)
 
   pub leaves-exact : LeavesReserved base h m e a w ↔ Spares (m .state .settings) h a w (noticeAt base m e)
   leaves-exact = (λ l. spared l (noticeAt base m e) (notice-exact base m v e (noticeAt base m e) .0 refl), leaves)

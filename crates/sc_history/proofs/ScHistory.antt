@@ -28,7 +28,7 @@ use Rattle.effect.proofs.TrapLaws as T
 use Rattle.events.specs.declared.Event.{Event}
 use Rattle.events.specs.declared.Event.the-variants.{Step}
 use Rattle.model.specs.Act.{Act, actNotice, outcomeOf, setReg, apply, leaves}
-use Rattle.model.specs.Perform.{Machine, reservationOf, ofExec, actOf, answerOf, memoryOf, nextOf, runOf, outcomeAt}
+use Rattle.model.specs.Perform.{Machine, xlen, reservationOf, ofExec, actOf, answerOf, memoryOf, nextOf, runOf, outcomeAt}
 use Rattle.model.specs.Valid.{Valid}
 use Rattle.model.specs.Retired.{Traps}
 use Rattle.model.specs.Trace.{traceOf}
@@ -51,7 +51,7 @@ module _ (base : ℕ) (m : Machine) (v : Valid base m) (h : ℕ) (u : h < m .sta
   covered = coversOf (m .state .settings) (reservationOf (m .state) h)
 
   exec : Exec
-  exec = execSc 64 (sc .width) (sc .rd) (atomicAddress m h sc) (regAt (m .state .x) h (sc .rs2)) (getD (m .state .pc) h 0) base (m .mem) covered
+  exec = execSc (xlen m) (sc .width) (sc .rd) (atomicAddress m h sc) (regAt (m .state .x) h (sc .rs2)) (getD (m .state .pc) h 0) base (m .mem) covered
 
   act-sc : actOf base (m .mem) (m .state) (Step h) ≡ ofExec h exec
   unfolding exec covered execute execAtomic
@@ -64,11 +64,11 @@ module _ (base : ℕ) (m : Machine) (v : Valid base m) (h : ℕ) (u : h < m .sta
   -- what it comes to, by its address, and by what the reservation covers
   exec-misaligned : MisalignedSc m h sc → exec ≡ trap 6 (atomicAddress m h sc)
   unfolding exec
-  exec-misaligned d = T.exec-sc-misaligned 64 (getD (m .state .pc) h 0) (sc .width) (sc .rd) (atomicAddress m h sc) _ base (m .mem) covered d
+  exec-misaligned d = T.exec-sc-misaligned (xlen m) (getD (m .state .pc) h 0) (sc .width) (sc .rd) (atomicAddress m h sc) _ base (m .mem) covered d
 
   exec-outside : atomicAddress m h sc % atomicSize sc ≡ 0 → OutsideSc base m h sc → exec ≡ trap 7 (atomicAddress m h sc)
   unfolding exec
-  exec-outside al d = T.exec-sc-outside 64 (getD (m .state .pc) h 0) (sc .width) (sc .rd) (atomicAddress m h sc) _ base (m .mem) covered al d
+  exec-outside al d = T.exec-sc-outside (xlen m) (getD (m .state .pc) h 0) (sc .width) (sc .rd) (atomicAddress m h sc) _ base (m .mem) covered al d
 
   -- 01: cause 6, "address not aligned to its width", value "address"
   pub sc-misaligned : MisalignedSc m h sc → outcomeAt base m (Step h) ≡ Trap 6 (atomicAddress m h sc)
@@ -80,13 +80,13 @@ module _ (base : ℕ) (m : Machine) (v : Valid base m) (h : ℕ) (u : h < m .sta
 
   module _ (al : atomicAddress m h sc % atomicSize sc ≡ 0) where
     exec-stored : coversOf (m .state .settings) (reservationOf (m .state) h) (atomicAddress m h sc) (atomicSize sc) ≡ true
-        → exec ≡ effect (one (sc .rd) 0) (nextPc 64 (getD (m .state .pc) h 0))
+        → exec ≡ effect (one (sc .rd) 0) (nextPc (xlen m) (getD (m .state .pc) h 0))
         (scStored (atomicAddress m h sc) (toLe (atomicSize sc) (regAt (m .state .x) h (sc .rs2))))
     unfolding exec covered
     exec-stored c =
         let i = covered-in-memory (m .state .settings) base (length (m .mem)) (v .0) (reservationOf (m .state) h) (v .1 .2 h u .2) (atomicAddress m h sc)
         (atomicSize sc) c in
-        T.exec-sc-stored 64 (getD (m .state .pc) h 0) (sc .width) (sc .rd) (atomicAddress m h sc) _ base (m .mem) covered al i c
+        T.exec-sc-stored (xlen m) (getD (m .state .pc) h 0) (sc .width) (sc .rd) (atomicAddress m h sc) _ base (m .mem) covered al i c
 
     -- an aligned SC whose bytes the reservation's set contains doesn't trap: it stores
     pub sc-covered : coversOf (m .state .settings) (reservationOf (m .state) h) (atomicAddress m h sc) (atomicSize sc) ≡ true
@@ -95,9 +95,9 @@ module _ (base : ℕ) (m : Machine) (v : Valid base m) (h : ℕ) (u : h < m .sta
 
     module _ (i : Inside base (length (m .mem)) (atomicAddress m h sc) (atomicSize sc)) where
       exec-failed : coversOf (m .state .settings) (reservationOf (m .state) h) (atomicAddress m h sc) (atomicSize sc) ≡ false
-          → exec ≡ effect (one (sc .rd) 1) (nextPc 64 (getD (m .state .pc) h 0)) scFailed
+          → exec ≡ effect (one (sc .rd) 1) (nextPc (xlen m) (getD (m .state .pc) h 0)) scFailed
       unfolding exec covered
-      exec-failed c = T.exec-sc-failed 64 (getD (m .state .pc) h 0) (sc .width) (sc .rd) (atomicAddress m h sc) _ base (m .mem) covered al i c
+      exec-failed c = T.exec-sc-failed (xlen m) (getD (m .state .pc) h 0) (sc .width) (sc .rd) (atomicAddress m h sc) _ base (m .mem) covered al i c
 
       pub sc-uncovered : coversOf (m .state .settings) (reservationOf (m .state) h) (atomicAddress m h sc) (atomicSize sc) ≡ false
           → outcomeAt base m (Step h) ≡ ScFailed

@@ -1,7 +1,7 @@
 -- Sizes that are powers of two: the test says what the rule says, and what is a multiple of the larger of 64 and the size is one of the size. Proved over
 -- the exponent and over the digits. And the versions of A. Assumes nothing.
 use mathlib.Core.Path.{_≡_, refl, sym, ap, _∙_, subst}
-use mathlib.Core.Bool.{true, _&&_, _||_}
+use mathlib.Core.Bool.{true, cond, _&&_, _||_}
 use mathlib.Core.Logic.{_↔_, inl, inr, ⊎-elim}
 use Prim.Native.Nat.{ℕ, zero, suc, _+_, _*_, _-_, _/_, _%_, _^_, _≤_, _<_, min, max}
 use native.Mathlib.Nat.{pow-suc, one-mul, zero-mod}
@@ -13,7 +13,10 @@ use lib.Pow.{pow-lt, pow-mono, mod-mod-pow, ones-lt}
 use borrow.Author.Tests.{eqb-true, leb-true, eq-eqb, le-leb}
 use Rattle.word.proofs.TestLaws.{and-both, or-either}
 use Rattle.word.proofs.WordLaws.{split-lt}
-use Rattle.settings.specs.Settings.{PowerOfTwo, defaults, SizeRules, sizeOk, granuleOf, VersionRules, versionOk}
+use Rattle.word.specs.Word.{Xlen}
+use Rattle.word.proofs.ChooseLaws.{cond-all}
+use Rattle.settings.specs.Settings.{PowerOfTwo, defaults, atVersion, xlenOf, SizeRules, sizeOk, granuleOf}
+use Rattle.settings.specs.Settings.{VersionRules, versionOk, KindRules, kindOk, ReadingRules, readingOk}
 use Rattle.settings.specs.Settings.{DevicesBreak, devicesBreak, JalrPermitted, jalrPermitted}
 use Rattle.settings.specs.declared.Settings.{Settings}
 
@@ -109,6 +112,54 @@ jalr-exact s = (λ e. eqb-true (s .version) 20 e, λ q. eq-eqb (s .version) 20 q
 pub not-both : (s : Settings) → DevicesBreak s → JalrPermitted s → ⊥
 not-both s d j = omega (arith, d, j)
 
+-- the test of the kind passes exactly if the rule holds
+pub kind-exact : (s : Settings) → (kindOk s ≡ true) ↔ KindRules s
+unfolding kindOk
+kind-exact s = (
+  λ e.
+      ⊎-elim (λ (t : eqb (s .kind) 0 ≡ true). inl (eqb-true (s .kind) 0 t)) (λ (t : eqb (s .kind) 1 ≡ true). inr (eqb-true (s .kind) 1 t))
+      (or-either (eqb (s .kind) 0) (eqb (s .kind) 1) e),
+  λ r. ⊎-elim (λ (e : s .kind ≡ 0). rw e) (λ (e : s .kind ≡ 1). rw e) r,
+)
+
+pub reading-exact : (s : Settings) → (readingOk s ≡ true) ↔ ReadingRules s
+unfolding readingOk
+reading-exact s = (
+  λ e. let b = and-both (versionOk s) (kindOk s) e in (version-exact s .0 (b .0), kind-exact s .0 (b .1)),
+  λ r. rw (version-exact s .1 (r .0), kind-exact s .1 (r .1)),
+)
+
 -- the defaults are allowed
-pub defaults-allowed : SizeRules defaults × VersionRules defaults
-defaults-allowed = (((6, refl), omega arith, omega arith), inr refl)
+pub defaults-allowed : SizeRules defaults × ReadingRules defaults
+defaults-allowed = (((6, refl), omega arith, omega arith), (inr refl, inl refl))
+
+-- the register width is one of the two, by the kind
+pub xlen-is : (s : Settings) → Xlen (xlenOf s)
+unfolding xlenOf
+xlen-is s = cond-all Xlen (eqb (s .kind) 1) 32 64 (inl refl) (inr refl)
+
+pub xlen-64 : (s : Settings) → s .kind ≡ 0 → xlenOf s ≡ 64
+unfolding xlenOf
+xlen-64 s e = rw e
+
+pub xlen-32 : (s : Settings) → s .kind ≡ 1 → xlenOf s ≡ 32
+unfolding xlenOf
+xlen-32 s e = rw e
+
+-- and by nothing else
+pub kind-xlen : (s t : Settings) → s .kind ≡ t .kind → xlenOf s ≡ xlenOf t
+unfolding xlenOf
+kind-xlen s t e = ap (λ (k : ℕ). cond (eqb k 1) 32 64) e
+
+pub kind-rules : (s t : Settings) → s .kind ≡ t .kind → KindRules s → KindRules t
+kind-rules s t e = ⊎-elim (λ (z : s .kind ≡ 0). inl (sym e ∙ z)) (λ (o : s .kind ≡ 1). inr (sym e ∙ o))
+
+-- no version changes it
+pub at-version-xlen : (version : ℕ) (s : Settings) → xlenOf (atVersion version s) ≡ xlenOf s
+unfolding xlenOf
+at-version-xlen version s = refl
+
+-- 01's registers have 64 bits
+pub defaults-64 : xlenOf defaults ≡ 64
+unfolding xlenOf
+defaults-64 = refl

@@ -1,20 +1,32 @@
--- What a machine is set to (02 [5], [7]): which settings are allowed, and what a state has that is not set otherwise.
+-- What a machine is set to (02 [5], [7], [10]): which settings are allowed, and what a state has that is not set otherwise.
 -- RULES 1.6; `granuleOf` 1.2.
 use mathlib.Core.Path.{_≡_}
 use mathlib.Core.Logic.{_⊎_}
 use Prim.Native.Nat.{ℕ, _-_, _^_, _≤_, max}
-use mathlib.Core.Bool.{Bool, _&&_, _||_}
+use mathlib.Core.Bool.{Bool, cond, _&&_, _||_}
 use lib.Bits.{bitAnd}
 use lib.Dec.{eqb, leb}
 use Rattle.settings.specs.declared.Settings.{Settings}
 
--- 02 [5]: "a power of two from 8 to 4,096, the same for all harts, default 64"; [7]: "2.1 the default"
+-- 02 [5]: "a power of two from 8 to 4,096, the same for all harts, default 64"; [7]: "2.1 the default"; [10]: "0 is 64-bit, 1 is 32-bit", and 01's machine
+-- is the first
 abbrev pub defaults : Settings
-defaults = record { size = 64; version = 21 }
+defaults = record { size = 64; version = 21; kind = 0 }
 
--- the same with another version of A
+-- the same with another version of A, and with another kind too
 abbrev pub ofVersion : ℕ → Settings
-ofVersion version = record { size = 64; version = version }
+ofVersion version = record { size = 64; version = version; kind = 0 }
+
+abbrev pub ofKind : ℕ → ℕ → Settings
+ofKind version kind = record { size = 64; version = version; kind = kind }
+
+-- these settings with another version of A
+abbrev pub atVersion : ℕ → Settings → Settings
+atVersion version s = record { size = s .size; version = version; kind = s .kind }
+
+-- the bits of registers, the pc and addresses. 01: "x0 to x31 (64 bits, x0 zero)"; 02 [10]: "registers and addresses of 32 bits"
+unfoldable pub xlenOf : Settings → ℕ
+xlenOf s = cond (eqb (s .kind) 1) 32 64
 
 abbrev pub PowerOfTwo : ℕ → Type 0
 PowerOfTwo n = (k : ℕ) × (n ≡ 2 ^ k)
@@ -38,6 +50,22 @@ VersionRules s = (s .version ≡ 20) ⊎ (s .version ≡ 21)
 -- the same as a test
 unfoldable pub versionOk : Settings → Bool
 versionOk s = eqb (s .version) 20 || eqb (s .version) 21
+
+-- 02 [10]: a "second kind of machine": 0 is the 64-bit core and 1 the 32-bit one
+abbrev pub KindRules : Settings → Type 0
+KindRules s = (s .kind ≡ 0) ⊎ (s .kind ≡ 1)
+
+-- the same as a test
+unfoldable pub kindOk : Settings → Bool
+kindOk s = eqb (s .kind) 0 || eqb (s .kind) 1
+
+-- how the machine reads words: refusal 2 asks for a version and a kind that there are
+abbrev pub ReadingRules : Settings → Type 0
+ReadingRules s = VersionRules s × KindRules s
+
+-- the same as a test
+unfoldable pub readingOk : Settings → Bool
+readingOk s = versionOk s && kindOk s
 
 -- "Under 2.0 a device write breaks no reservation, because 004 speaks only of harts": under 2.1 it can break one
 abbrev pub DevicesBreak : Settings → Type 0

@@ -1,5 +1,5 @@
-// Writes the line of each block on standard input. A block is a byte with the version of A, one with the number of its words, then the words, 4 bytes
-// each and the lowest first.
+// Writes the line of each block on standard input. A block is a byte with the version of A, one with the kind of core, one with the number of its words,
+// then the words, 4 bytes each and the lowest first.
 // The lines that are expected were made by an independent model of document 01.
 use libc::STDIN_FILENO;
 use libc::STDOUT_FILENO;
@@ -17,12 +17,12 @@ fn one(blocks: &[u8], at: usize) -> usize
     requires { ⌜ at < length (now blocks) ⌝ }
     ensures { λ r. ⌜ at < r ⌝ }
 {
-    if blocks.len() - at < 2 {
+    if blocks.len() - at < 3 {
         return blocks.len();
     }
-    let settings = settings::of_version(wide(blocks[at]) as u64);
-    let n = wide(blocks[at + 1]);
-    let from = at + 2;
+    let settings = settings::of_kind(wide(blocks[at]) as u64, wide(blocks[at + 1]) as u64);
+    let n = wide(blocks[at + 2]);
+    let from = at + 3;
     if blocks.len() - from < 4 * n {
         return blocks.len();
     }

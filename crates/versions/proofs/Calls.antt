@@ -22,7 +22,7 @@ use Rattle.rows.specs.Replay as Replay
 use Rattle.rows.specs.declared.Told.{Told}
 use Rattle.rows.specs.declared.Told.the-variants.{Agrees, Stops}
 use Rattle.versions.specs.Versions.{stateUnder, under, DevicesSpare, SameVerdict, ranUnder, replayedUnder}
-use Rattle.versions.proofs.Versions.{refusal-same, same-answer, next-same, new-stays, same-run}
+use Rattle.versions.proofs.Versions.{width-same, refusal-same, same-answer, next-same, new-stays, same-run}
 
 -- two choices by one test
 both : {A : Type 0} (R : A → A → Type 0) (t : Bool) (a b c d : A) → (t ≡ true → R a c) → (t ≡ false → R b d) → R (cond t a b) (cond t c d)
@@ -92,7 +92,7 @@ module _ (base : ℕ) (m : Machine) (body : List ℕ) (budget : ℕ) where
 told-same : (base : ℕ) (m : Machine) (r : Reading) → toldOf base (under 20 m) r ≡ toldOf base (under 21 m) r
 unfolding toldOf toldByPc toldByWord
 told-same base m Form = refl
-told-same base m (Read r) = let a = same-answer base m (Step (r .hart)) in rw (a .outcome, a .registers)
+told-same base m (Read r) = let a = same-answer base m (Step (r .hart)) in rw (width-same base m, a .outcome, a .registers)
 
 -- and its step leads to the same machine but for the version
 stepped-same : (base : ℕ) (m : Machine) (r : Reading) → stepped base (under 20 m) r ≡ under 20 (stepped base (under 21 m) r)

@@ -12,7 +12,8 @@ use native.Mathlib.Nat.{zero-div}
 use Rattle.word.proofs.TestLaws.{bool-cases}
 use Rattle.word.specs.Each.{each}
 use Rattle.word.specs.Bytes.{toLe}
-use Rattle.settings.specs.Settings.{devicesBreak, sizeOk, versionOk}
+use Rattle.settings.specs.Settings.{devicesBreak, sizeOk, versionOk, kindOk, readingOk, atVersion}
+use Rattle.settings.proofs.SettingsLaws.{at-version-xlen}
 use Rattle.settings.specs.declared.Settings.{Settings}
 use Rattle.reserve.specs.Reserve.{slot, coversOf, breaksOf, ownOf, observeOf, observeSlot, brokenOf, Observed, observeAllOf}
 use Rattle.reserve.specs.declared.Reservation.{Reservation}
@@ -24,11 +25,13 @@ use Rattle.reserve.proofs.BrokenLaws.{bit-exact}
 use Rattle.reserve.proofs.NoticeLaws.{BreaksNone, each-none, spared-broken}
 use Rattle.machine.specs.State.{lentOk, memoryOk, stateOk, refusalOf}
 use Rattle.machine.specs.declared.State.{State}
+use Rattle.machine.proofs.StateLaws.{top-same, harts-same}
 use Rattle.effect.specs.Effect.{Writes, Access, nothing, reserve, store, scStored, scFailed, Exec, noticeOf}
 use Rattle.events.specs.declared.Event.{Event}
 use Rattle.events.specs.declared.Event.the-variants.{Step, Device, Yield}
 use Rattle.model.specs.Act.{Act, refuse, fault, change, put, release, outcomeOf, registersAfter, pcsAfter, slotsAfter, brokenAfter, apply, leaves}
-use Rattle.model.specs.Perform.{Machine, setSize, version, reservationOf, stepOf, ofExec, actOn, actOf, outcomeAt, brokeAt, answerOf, memoryOf, nextOf, runOf}
+use Rattle.model.specs.Perform.{Machine, setSize, version, xlen, reservationOf, stepOf, ofExec, actOn, actOf}
+use Rattle.model.specs.Perform.{outcomeAt, brokeAt, answerOf, memoryOf, nextOf, runOf}
 use Rattle.model.proofs.Frame.{acts}
 use Rattle.versions.specs.Versions.{under, IsDevice, DeviceSpares, DevicesSpare, LeavesState, SameAnswer, SameReservations}
 
@@ -104,13 +107,13 @@ Silent (N.Write g b n) = Unit {0}
 Silent (N.DeviceWrite b n) = ⊥
 Silent (N.Yield g) = Unit {0}
 
--- settings of one size
-module _ (size v w : ℕ) where
+-- settings of one size and one kind
+module _ (settings : Settings) (v w : ℕ) where
   abbrev s : Settings
-  s = record { size = size; version = v }
+  s = atVersion v settings
 
   abbrev t : Settings
-  t = record { size = size; version = w }
+  t = atVersion w settings
 
   covers-same : (r : Reservation) (b n : ℕ) → coversOf s r b n ≡ coversOf t r b n
   unfolding coversOf
@@ -156,15 +159,24 @@ module _ (base : ℕ) (m : Machine) where
   abbrev new : Machine
   new = under 21 m
 
+  -- registers are as wide
+  pub width-same : xlen old ≡ xlen new
+  width-same = at-version-xlen 20 (new .state .settings)
+
   pub refusal-same : refusalOf base (length (m .mem)) (old .state) ≡ refusalOf base (length (m .mem)) (new .state)
-  unfolding refusalOf memoryOk sizeOk lentOk stateOk versionOk
-  refusal-same = refl
+  unfolding refusalOf memoryOk sizeOk lentOk stateOk versionOk kindOk readingOk
+  refusal-same =
+      let s = m .state in
+      let one = old .state .settings in
+      let other = new .state .settings in
+      let len = length (m .mem) in
+      rw (top-same one other width-same base len, harts-same one other width-same base len (s .x) (s .pc) (s .res))
 
   step-same : (h : ℕ) → stepOf base (m .mem) (old .state) h ≡ stepOf base (m .mem) (new .state) h
   step-same h =
       let c : coversOf (old .state .settings) (reservationOf (m .state) h) ≡ coversOf (new .state .settings) (reservationOf (m .state) h) =
-      fun-ext (λ b. fun-ext (λ n. covers-same (setSize m) 20 21 (reservationOf (m .state) h) b n)) in
-      rw c
+      fun-ext (λ b. fun-ext (λ n. covers-same (m .state .settings) 20 21 (reservationOf (m .state) h) b n)) in
+      rw (c, width-same)
 
   on-same : (e : Event) → actOn base (m .mem) (old .state) e ≡ actOn base (m .mem) (new .state) e
   unfolding actOn
@@ -197,7 +209,7 @@ module _ (base : ℕ) (m : Machine) where
 
   noticed : (n : Notice) → Silent n
       → observeAllOf (old .state .settings) (m .state .count) n (m .state .res) ≡ observeAllOf (new .state .settings) (m .state .count) n (m .state .res)
-  noticed n d = observed-same (setSize m) 20 21 n d (m .state .count) (m .state .res)
+  noticed n d = observed-same (m .state .settings) 20 21 n d (m .state .count) (m .state .res)
 
   -- a device write that breaks no reservation under 2.1 leaves them all
   untouched : (e : Event) → IsDevice e → brokeAt base new e ≡ 0 → nextOf base new e .state .res ≡ m .state .res

@@ -3,6 +3,7 @@
 use mathlib.Core.Path.{_≡_}
 use mathlib.Core.List.{List, [], _∷_}
 use Prim.Native.Nat.{ℕ}
+use Rattle.settings.specs.Settings.{atVersion}
 use Rattle.machine.specs.declared.State.{State}
 use Rattle.events.specs.declared.Event.{Event}
 use Rattle.events.specs.declared.Event.the-variants.{Step, Device, Yield}
@@ -13,7 +14,7 @@ use Rattle.rows.specs.Replay as Replay
 -- the state with another version of A
 abbrev pub stateUnder : ℕ → State → State
 stateUnder version s =
-    record { count = s .count; settings = record { size = s .settings .size; version = version }; x = s .x; pc = s .pc; res = s .res }
+    record { count = s .count; settings = atVersion version (s .settings); x = s .x; pc = s .pc; res = s .res }
 
 -- the machine
 abbrev pub under : ℕ → Machine → Machine

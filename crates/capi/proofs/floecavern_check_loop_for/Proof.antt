@@ -5,8 +5,8 @@ use borrow.Author.Needs.{needs}
 use Rattle.capi.proofs.floecavern_check_loop_for.Statement.{statement}
 use Rattle.capi.proofs.floecavern_check_loop_for.Tie as tie
 
-of-version-requires : tie.Need-of-version-requires
-of-version-requires c κs = search needs
+of-kind-requires : tie.Need-of-kind-requires
+of-kind-requires c κs = search needs
 
 check-words-requires : tie.Need-check-words-requires
 check-words-requires c κs = search needs
@@ -14,7 +14,7 @@ check-words-requires c κs = search needs
 returns : tie.Need-returns
 returns c =
     let words = c .before .before .before .args .words .now in
-    c .check-words .ensures ∙ ap (λ (settings : Settings). loopAnswer settings words) (c .before .of-version .ensures)
+    c .check-words .ensures ∙ ap (λ (settings : Settings). loopAnswer settings words) (c .before .of-kind .ensures)
 
 pub floecavern-check-loop-for-spec : {M : Type 1} → statement M
-floecavern-check-loop-for-spec = tie.close (tie.spec of-version-requires check-words-requires returns)
+floecavern-check-loop-for-spec = tie.close (tie.spec of-kind-requires check-words-requires returns)

@@ -37,12 +37,22 @@ field-requires-2 c κs = search needs
 pcs-ok-requires : tie.Need-pcs-ok-requires
 pcs-ok-requires c κs = search needs
 
+halves-ok-requires : tie.Need-halves-ok-requires
+halves-ok-requires c κs = search needs
+
 returns-3 : tie.Need-returns-3
 unfolding hartsOk
 returns-3 c =
-    let count = c .before .before .before .before .field .ensures .0 in
-    let size = c .before .before .before .if2 .left ∙ ap (λ (n : ℕ). 16 + 256 * n) count in
-    rw (c .pcs-ok .ensures, c .before .field2 .ensures .0, c .before .before .load-at .ensures, eq-eqb _ _ size, count)
+    let count = c .before .before .before .before .before .field .ensures .0 in
+    let size = c .before .before .before .before .if2 .left ∙ ap (λ (n : ℕ). 16 + 256 * n) count in
+    rw (
+      c .halves-ok .ensures,
+      c .before .pcs-ok .ensures,
+      c .before .before .field2 .ensures .0,
+      c .before .before .before .load-at .ensures,
+      eq-eqb _ _ size,
+      count,
+    )
 
 pub harts-ok-spec : {M : Type 1} → statement M
 harts-ok-spec =
@@ -56,4 +66,5 @@ harts-ok-spec =
     load-at-requires
     field-requires-2
     pcs-ok-requires
+    halves-ok-requires
     returns-3)

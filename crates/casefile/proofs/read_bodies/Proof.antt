@@ -10,7 +10,7 @@ use Rattle.word.specs.Memory.{part}
 use Rattle.events.specs.Events.{checkedOf, Within}
 use Rattle.events.specs.declared.Checked.{Checked}
 use Rattle.casefile.specs.Harts.{baseOf, countOf, hartsOk, HartsRules}
-use Rattle.casefile.specs.Case.{lengthOk, bodiesOf}
+use Rattle.casefile.specs.Case.{memoryBodyOk, bodiesOf}
 use Rattle.casefile.proofs.HartsLaws.{harts-exact}
 use borrow.Author.Needs.{needs}
 use Rattle.casefile.proofs.read_bodies.Statement.{statement}
@@ -26,13 +26,17 @@ right c = sym (c .before .harts-ok .ensures) ∙ not-false _ (c .if1 .left)
 rules : (c : tie.Else1) → HartsRules (harts c)
 rules c = harts-exact (harts c) .0 (right c)
 
-abbrev memory : (c : tie.Else2) → List ℕ
+abbrev memory : (c : tie.Else1) → List ℕ
 memory c =
-    let x = c .before .before .before .before .before .before .before .args in
+    let x = c .before .before .before .before .args in
     take (x .events - x .memory) (drop (x .memory) (x .file .now))
 
-long : (c : tie.Else2) → lengthOk (length (memory c)) ≡ true
-long c = sym (c .before .memory-ok .ensures) ∙ not-false _ (c .if2 .left)
+-- the memory body has as many bytes as its places say
+size : (c : tie.Else1) → length (memory c) ≡ c .before .before .before .before .args .events - c .before .before .before .before .args .memory
+size c = simp (length-take, length-drop) (omega arith)
+
+long : (c : tie.Else2) → memoryBodyOk (harts (c .before .before)) (length (memory (c .before .before))) ≡ true
+long c = rw (size (c .before .before)) (sym (c .before .memory-ok .ensures) ∙ not-false _ (c .if2 .left))
 
 -- `&file[events..]` is what follows that place
 rest : (file : List ℕ) (e : ℕ) → take (length file - e) (drop e file) ≡ drop e file
@@ -41,15 +45,15 @@ rest file e = take-all (length file - e) (drop e file) (rw length-drop (omega ar
 -- what is checked
 abbrev checked : (c : tie.Else2) → Checked
 checked c =
-    let x = c .before .before .before .before .before .before .before .args in
-    let body = harts (c .before .before .before) in
-    checkedOf (countOf body) (baseOf body) (length (memory c)) (drop (x .events) (x .file .now))
+    let x = c .before .before .before .before .before .before .args in
+    let body = harts (c .before .before) in
+    checkedOf (countOf body) (baseOf body) (length (memory (c .before .before))) (drop (x .events) (x .file .now))
 
 seen : (c : tie.After-check) → checked (c .before .before .before .before) ≡ c .check .result
 seen c =
-    let x = c .before .before .before .before .before .before .before .before .before .before .before .args in
-    let size : length (memory (c .before .before .before .before)) ≡ x .events - x .memory = simp (length-take, length-drop) (omega arith) in
-    sym (c .check .ensures .0 ∙ rw (c .before .before .field .ensures .0, c .before .before .before .load-at .ensures, size, rest (x .file .now) (x .events)))
+    let x = c .before .before .before .before .before .before .before .before .before .before .args in
+    let same = size (c .before .before .before .before .before .before) in
+    sym (c .check .ensures .0 ∙ rw (c .before .before .field .ensures .0, c .before .before .before .load-at .ensures, same, rest (x .file .now) (x .events)))
 
 sub-harts : tie.Need-sub-harts
 sub-harts c = search needs
@@ -73,14 +77,8 @@ returns c = rw (sym (c .before .before .harts-ok .ensures) ∙ not-true _ (c .be
 sub-memory-ok : tie.Need-sub-memory-ok
 sub-memory-ok c = search needs
 
-part-memory-ok-start : tie.Need-part-memory-ok-start
-part-memory-ok-start c = search needs
-
-part-memory-ok-end : tie.Need-part-memory-ok-end
-part-memory-ok-end c = search needs
-
 memory-ok-requires : tie.Need-memory-ok-requires
-memory-ok-requires c κs = search needs
+memory-ok-requires c κs = rules c
 
 refused-requires-2 : tie.Need-refused-requires-2
 refused-requires-2 c κs = search needs
@@ -88,14 +86,15 @@ refused-requires-2 c κs = search needs
 returns-2 : tie.Need-returns-2
 unfolding bodiesOf part
 returns-2 c =
+    let kept = c .before .before .before in
     let short = sym (c .before .before .memory-ok .ensures) ∙ not-true _ (c .before .if2 .taken) in
-    rw (right (c .before .before .before .before), short) (c .refused2 .ensures)
+    rw (right kept, size kept, short) (c .refused2 .ensures)
 
 load-at-requires : tie.Need-load-at-requires
-load-at-requires c κs = (omega (arith, rules (c .before .before .before) .0), omega arith)
+load-at-requires c κs = (omega (arith, rules (c .before .before) .0), omega arith)
 
 field-requires : tie.Need-field-requires
-field-requires c κs = omega (arith, rules (c .before .before .before .before) .0)
+field-requires c κs = omega (arith, rules (c .before .before .before) .0)
 
 sub-check : tie.Need-sub-check
 sub-check c = search needs
@@ -117,7 +116,7 @@ enum-known-place c = search needs
 
 add-refused : tie.Need-add-refused
 add-refused c =
-    let x = c .before .before .before .before .before .before .before .before .before .before .before .before .before .before .args in
+    let x = c .before .before .before .before .before .before .before .before .before .before .before .before .before .args in
     let body = take (length (x .file .now) - x .events) (drop (x .events) (x .file .now)) in
     let w = subst (λ (r : Checked). Within r (length body)) (c .before .place .given .1) (c .before .before .before .check .ensures .1) in
     let l : length body ≤ length (x .file .now) = simp (length-take, length-drop) (omega arith) in
@@ -131,7 +130,7 @@ enum-told c = search needs
 
 read-state-requires : tie.Need-read-state-requires
 read-state-requires c κs =
-    let r = rules (c .before .before .before .before .before .before .before .before .before) in
+    let r = rules (c .before .before .before .before .before .before .before .before) in
     let f = c .before .before .before .before .field .ensures .0 in
     (rw f (r .2), rw f (r .0))
 
@@ -140,7 +139,7 @@ unfolding bodiesOf part
 returns-3 c =
     let told = c .before .before .before .before in
     let passed = told .before .before .before .before in
-    rw (right (passed .before .before .before), long passed, seen told ∙ c .before .before .place .given .1) (c .refused3 .ensures)
+    rw (right (passed .before .before), long passed, seen told ∙ c .before .before .place .given .1) (c .refused3 .ensures)
 
 returns-4 : tie.Need-returns-4
 unfolding bodiesOf part
@@ -148,7 +147,7 @@ returns-4 c =
     let told = c .before .before .before in
     let passed = told .before .before .before .before in
     rw (
-      right (passed .before .before .before),
+      right (passed .before .before),
       long passed,
       seen told ∙ c .before .enum-told .given .1,
       c .read-state .ensures,
@@ -167,8 +166,6 @@ read-bodies-spec =
     refused-requires
     returns
     sub-memory-ok
-    part-memory-ok-start
-    part-memory-ok-end
     memory-ok-requires
     refused-requires-2
     returns-2

@@ -9,12 +9,12 @@ registers-requires c κs = search needs
 pcs-requires : tie.Need-pcs-requires
 pcs-requires c κs = search needs
 
-defaults-requires : tie.Need-defaults-requires
-defaults-requires c κs = search needs
+read-settings-requires : tie.Need-read-settings-requires
+read-settings-requires c κs = search needs
 
 returns : tie.Need-returns
 unfolding stateOf
-returns c = rw (c .defaults .ensures, c .before .pcs .ensures, c .before .before .registers .ensures)
+returns c = rw (c .read-settings .ensures, c .before .pcs .ensures, c .before .before .registers .ensures)
 
 pub read-state-spec : {M : Type 1} → statement M
-read-state-spec = tie.close (tie.spec registers-requires pcs-requires defaults-requires returns)
+read-state-spec = tie.close (tie.spec registers-requires pcs-requires read-settings-requires returns)

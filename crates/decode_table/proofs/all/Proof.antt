@@ -5,10 +5,10 @@ use Rattle.decode_table.proofs.all.Statement.{statement}
 use Rattle.decode_table.proofs.all.Tie as tie
 
 abbrev Inv-loop : tie.InvT-loop
-Inv-loop words i₀ i = i ≤ length words / 4
+Inv-loop words xlen i₀ i = i ≤ length words / 4
 
 abbrev μ-loop : tie.MeasureT-loop
-μ-loop words i₀ i = length words / 4 - i
+μ-loop words xlen i₀ i = length words / 4 - i
 
 loop-holds : tie.Need-loop-holds Inv-loop μ-loop
 loop-holds c = search needs

@@ -8,6 +8,9 @@ use Rattle.dispatch.proofs.atomic.Tie as tie
 reg-requires : tie.Need-reg-requires
 reg-requires c κs = search needs
 
+reg-requires-2 : tie.Need-reg-requires-2
+reg-requires-2 c κs = search needs
+
 enum-told : tie.Need-enum-told
 enum-told c = search needs
 
@@ -16,9 +19,6 @@ lr-requires c κs = search needs
 
 enum-told-2 : tie.Need-enum-told-2
 enum-told-2 c = search needs
-
-reg-requires-2 : tie.Need-reg-requires-2
-reg-requires-2 c κs = search needs
 
 sc-requires : tie.Need-sc-requires
 sc-requires c κs = search needs
@@ -29,29 +29,17 @@ enum-told-3 c = search needs
 reg-requires-3 : tie.Need-reg-requires-3
 reg-requires-3 c κs = search needs
 
-reg-requires-4 : tie.Need-reg-requires-4
-reg-requires-4 c κs = search needs
-
 cas-requires : tie.Need-cas-requires
 cas-requires c κs = search needs
 
 enum-told-4 : tie.Need-enum-told-4
 enum-told-4 c = search needs
 
-reg-pair-requires : tie.Need-reg-pair-requires
-reg-pair-requires c κs = search needs
-
-reg-pair-requires-2 : tie.Need-reg-pair-requires-2
-reg-pair-requires-2 c κs = search needs
-
 cas-pair-requires : tie.Need-cas-pair-requires
 cas-pair-requires c κs = search needs
 
 enum-known-op : tie.Need-enum-known-op
 enum-known-op c = search needs
-
-reg-requires-5 : tie.Need-reg-requires-5
-reg-requires-5 c κs = search needs
 
 amo-requires : tie.Need-amo-requires
 amo-requires c κs = search needs
@@ -62,8 +50,8 @@ same-length c = search needs
 returns : tie.Need-returns
 unfolding execAtomic
 returns c =
-    rw (c .before .before .enum-told .given .1, ← c .before .before .before .before .reg .ensures)
-    (record { answer = c .lr .ensures; memory = sym (memoryBy-lr _ _ 64 _ _ _ _) })
+    rw (c .before .before .enum-told .given .1, ← c .before .before .before .before .before .reg .ensures)
+    (record { answer = c .lr .ensures; memory = sym (memoryBy-lr _ _ _ _ _ _ _) })
 
 same-length-2 : tie.Need-same-length-2
 same-length-2 c = search needs
@@ -71,9 +59,8 @@ same-length-2 c = search needs
 returns-2 : tie.Need-returns-2
 unfolding execAtomic
 returns-2 c =
-    let read = c .before .before .before .before in
-    let told = read .before in
-    rw (told .enum-told2 .given .1, ← told .before .before .reg .ensures, ← read .reg2 .ensures) (c .before .before .sc .ensures)
+    let told = c .before .before .before .before in
+    rw (told .enum-told2 .given .1, ← told .before .before .before .reg .ensures, ← told .before .before .reg2 .ensures) (c .before .before .sc .ensures)
 
 same-length-3 : tie.Need-same-length-3
 same-length-3 c = search needs
@@ -82,8 +69,8 @@ returns-3 : tie.Need-returns-3
 unfolding execAtomic
 returns-3 c =
     let read = c .before .before .before .before in
-    let told = read .before .before in
-    rw (told .enum-told3 .given .1, ← told .before .before .reg .ensures, ← read .before .reg3 .ensures, ← read .reg4 .ensures)
+    let told = read .before in
+    rw (told .enum-told3 .given .1, ← told .before .before .before .reg .ensures, ← read .reg3 .ensures, ← told .before .before .reg2 .ensures)
     (c .before .before .cas .ensures)
 
 same-length-4 : tie.Need-same-length-4
@@ -92,10 +79,8 @@ same-length-4 c = search needs
 returns-4 : tie.Need-returns-4
 unfolding execAtomic
 returns-4 c =
-    let read = c .before .before .before .before in
-    let told = read .before .before in
-    rw (told .enum-told4 .given .1, ← told .before .before .reg .ensures, ← read .before .reg-pair .ensures, ← read .reg-pair2 .ensures)
-    (c .before .before .cas-pair .ensures)
+    let told = c .before .before .before .before in
+    rw (told .enum-told4 .given .1) (c .before .before .cas-pair .ensures)
 
 same-length-5 : tie.Need-same-length-5
 same-length-5 c = search needs
@@ -103,30 +88,25 @@ same-length-5 c = search needs
 returns-5 : tie.Need-returns-5
 unfolding execAtomic
 returns-5 c =
-    let read = c .before .before .before .before in
-    let told = read .before .before in
-    rw (told .op .given .1, ← told .before .before .reg .ensures, ← read .reg5 .ensures) (c .before .before .amo .ensures)
+    let told = c .before .before .before .before .before in
+    rw (told .op .given .1, ← told .before .before .before .reg .ensures, ← told .before .before .reg2 .ensures) (c .before .before .amo .ensures)
 
 pub atomic-spec : {M : Type 1} → statement M
 atomic-spec =
     tie.close
     (tie.spec
     reg-requires
+    reg-requires-2
     enum-told
     lr-requires
     enum-told-2
-    reg-requires-2
     sc-requires
     enum-told-3
     reg-requires-3
-    reg-requires-4
     cas-requires
     enum-told-4
-    reg-pair-requires
-    reg-pair-requires-2
     cas-pair-requires
     enum-known-op
-    reg-requires-5
     amo-requires
     same-length
     returns

@@ -1,5 +1,6 @@
 use mathlib.Core.Path.{subst}
 use Rattle.reserve.specs.Reserve.{coversOf}
+use Rattle.isa.specs.Narrow.{narrowedAt, decodeAt}
 use Rattle.isa.specs.declared.Instr.{Instr}
 use Rattle.effect.specs.Effect.{Meets}
 use Rattle.effect.specs.Execute.{regAt, execute, executeWord}
@@ -17,13 +18,13 @@ same-length : tie.Need-same-length
 same-length c = search needs
 
 returns : tie.Need-returns
-unfolding executeWord
+unfolding executeWord decodeAt
 returns c =
     let a = c .before .before .before .before .before .before .args in
     let done = c .before .before .execute in
     subst (λ (i : Instr).
-    Meets (a .h) (execute 64 i (a .word) (regAt (a .x .now) (a .h)) (a .pc) (a .base) (a .mem .now) (coversOf (a .settings) (a .res))) (a .base) (a .mem .now)
-    (done .result) (done .last .1 .1 .1 .1 .1 .1 .1 .1 .0))
+    Meets (a .h) (execute (a .xlen) (narrowedAt (a .xlen) i) (a .word) (regAt (a .x .now) (a .h)) (a .pc) (a .base) (a .mem .now) (coversOf (a .settings) (a .res))) (a .base) (a .mem .now)
+    (done .result) (done .last .1 .1 .1 .1 .1 .1 .1 .1 .1 .0))
     (c .before .before .before .before .decode .ensures) (done .ensures)
 
 pub execute-word-spec : {M : Type 1} → statement M

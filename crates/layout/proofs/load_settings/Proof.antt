@@ -9,8 +9,11 @@ load-at-requires c κs = search needs
 load-at-requires-2 : tie.Need-load-at-requires-2
 load-at-requires-2 c κs = search needs
 
+load-at-requires-3 : tie.Need-load-at-requires-3
+load-at-requires-3 c κs = search needs
+
 returns : tie.Need-returns
-returns c = rw (c .before .load-at .ensures, c .load-at2 .ensures) refl
+returns c = rw (c .before .before .load-at .ensures, c .before .load-at2 .ensures, c .load-at3 .ensures) refl
 
 pub load-settings-spec : {M : Type 1} → statement M
-load-settings-spec = tie.close (tie.spec load-at-requires load-at-requires-2 returns)
+load-settings-spec = tie.close (tie.spec load-at-requires load-at-requires-2 load-at-requires-3 returns)

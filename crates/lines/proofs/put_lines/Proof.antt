@@ -115,7 +115,10 @@ put-line-requires c κs =
     rw length-take-le (omega (arith, turn .before .before .before .before .before .before .before .before .pre, turn .loop .inv))
 
 add-i : tie.Need-add-i Inv-loop μ-loop
-add-i c = omega arith
+add-i c =
+    let turn = c .before .before .before .before .before .before .before .before .before .before .before .before .before in
+    let below = turn .loop-test .taken in
+    omega (arith, below)
 
 loop-less : tie.Need-loop-less Inv-loop μ-loop
 loop-less c = omega arith

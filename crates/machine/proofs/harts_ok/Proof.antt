@@ -1,6 +1,6 @@
 use borrow.Author.Needs.{needs}
 use mathlib.Core.Bool.{true}
-use mathlib.Core.Path.{_≡_, sym, _∙_}
+use mathlib.Core.Path.{_≡_, sym}
 use Prim.Native.Nat.{_-_, _≤_}
 use native.Mathlib.Omega.{arith}
 use borrow.Author.Tests.{not-true, not-false}
@@ -11,11 +11,11 @@ use Rattle.machine.proofs.harts_ok.Statement.{statement}
 use Rattle.machine.proofs.harts_ok.Tie as tie
 
 abbrev Inv-loop : tie.InvT-loop
-Inv-loop base len count x pc res k₀ k =
-    (k ≤ count) × (allBelow (hartAt base len x pc res) k ≡ true)
+Inv-loop settings base len count x pc res k₀ k =
+    (k ≤ count) × (allBelow (hartAt settings base len x pc res) k ≡ true)
 
 abbrev μ-loop : tie.MeasureT-loop
-μ-loop base len count x pc res k₀ k = count - k
+μ-loop settings base len count x pc res k₀ k = count - k
 
 loop-holds : tie.Need-loop-holds Inv-loop μ-loop
 loop-holds c = (search needs, all-none _)
@@ -44,12 +44,15 @@ element-copy-out-hart-ok-2 c = search needs
 hart-ok-requires : tie.Need-hart-ok-requires Inv-loop μ-loop
 hart-ok-requires c κs = search needs
 
+upper-ok-requires : tie.Need-upper-ok-requires Inv-loop μ-loop
+upper-ok-requires c κs = search needs
+
 returns : tie.Need-returns Inv-loop μ-loop
 returns c =
-    let a = c .before .before .before .before .before .before .before .args in
-    sym (all-fails (hartAt (a .base) (a .len) (a .x .now) (a .pc .now) (a .t6)) (c .before .before .before .before .before .before .loop .k) (a .count)
-    (omega arith)
-    (sym (c .before .hart-ok .ensures) ∙ not-true _ (c .if1 .taken)))
+    let turn = c .before .before .before .before .before .before .before in
+    let a = turn .before .args in
+    sym (all-fails (hartAt (a .settings) (a .base) (a .len) (a .x .now) (a .pc .now) (a .t7)) (turn .loop .k) (a .count) (omega arith)
+    (rw (← c .before .before .hart-ok .ensures, ← c .before .upper-ok .ensures) (not-true _ (c .if1 .taken))))
 
 add-k : tie.Need-add-k Inv-loop μ-loop
 add-k c = search needs
@@ -59,11 +62,11 @@ loop-less c = search needs
 
 loop-again : tie.Need-loop-again Inv-loop μ-loop
 loop-again c =
-    let turn = c .before .before .before .before .before .before in
+    let turn = c .before .before .before .before .before .before .before in
     let a = turn .before .args in (
       search needs,
-      all-more (hartAt (a .base) (a .len) (a .x .now) (a .pc .now) (a .t6)) (turn .loop .k) (turn .loop .inv .1)
-          (sym (c .before .hart-ok .ensures) ∙ not-false _ (c .if1 .left)),
+      all-more (hartAt (a .settings) (a .base) (a .len) (a .x .now) (a .pc .now) (a .t7)) (turn .loop .k) (turn .loop .inv .1)
+          (rw (← c .before .before .hart-ok .ensures, ← c .before .upper-ok .ensures) (not-false _ (c .if1 .left))),
     )
 
 returns-2 : tie.Need-returns-2 Inv-loop μ-loop
@@ -86,6 +89,7 @@ harts-ok-spec =
     mul-hart-ok-3
     element-copy-out-hart-ok-2
     hart-ok-requires
+    upper-ok-requires
     returns
     add-k
     loop-less

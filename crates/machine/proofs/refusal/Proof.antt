@@ -27,8 +27,8 @@ returns-3 c =
       lt-leb _ _ (c .if3 .taken),
     )
 
-version-ok-requires : tie.Need-version-ok-requires
-version-ok-requires c κs = search needs
+reading-ok-requires : tie.Need-reading-ok-requires
+reading-ok-requires c κs = search needs
 
 returns-4 : tie.Need-returns-4
 unfolding refusalOf stateOk
@@ -39,7 +39,7 @@ returns-4 c =
       sym (counted .before .memory-ok .ensures) ∙ not-false _ (counted .if1 .left),
       le-leb 1 (a .count) (omega arith),
       le-leb (a .count) 8 (omega arith),
-      sym (c .before .version-ok .ensures) ∙ not-true _ (c .if4 .taken),
+      sym (c .before .reading-ok .ensures) ∙ not-true _ (c .if4 .taken),
     )
 
 harts-ok-requires : tie.Need-harts-ok-requires
@@ -55,7 +55,7 @@ returns-5 c =
       sym (counted .before .memory-ok .ensures) ∙ not-false _ (counted .if1 .left),
       le-leb 1 (a .count) (omega arith),
       le-leb (a .count) 8 (omega arith),
-      sym (versioned .before .version-ok .ensures) ∙ not-false _ (versioned .if4 .left),
+      sym (versioned .before .reading-ok .ensures) ∙ not-false _ (versioned .if4 .left),
       sym (c .before .harts-ok .ensures) ∙ c .if5 .taken,
     )
 
@@ -69,7 +69,7 @@ returns-6 c =
       sym (counted .before .memory-ok .ensures) ∙ not-false _ (counted .if1 .left),
       le-leb 1 (a .count) (omega arith),
       le-leb (a .count) 8 (omega arith),
-      sym (versioned .before .version-ok .ensures) ∙ not-false _ (versioned .if4 .left),
+      sym (versioned .before .reading-ok .ensures) ∙ not-false _ (versioned .if4 .left),
       sym (c .before .harts-ok .ensures) ∙ c .if5 .left,
     )
 
@@ -81,7 +81,7 @@ refusal-spec =
     returns
     returns-2
     returns-3
-    version-ok-requires
+    reading-ok-requires
     returns-4
     harts-ok-requires
     returns-5

@@ -20,8 +20,8 @@ reg-requires c κs = search needs
 imm-s-requires : tie.Need-imm-s-requires
 imm-s-requires c κs = search needs
 
-plus-requires : tie.Need-plus-requires
-plus-requires c κs = search needs
+add-requires : tie.Need-add-requires
+add-requires c κs = search needs
 
 rd-requires : tie.Need-rd-requires
 rd-requires c κs = search needs
@@ -43,7 +43,16 @@ returns-2 : tie.Need-returns-2
 unfolding reachIn
 returns-2 c =
     let m = c .before .before .before .before in
-    rw (← m .before .class-of .ensures, m .match .keys2, c .plus .ensures, c .before .before .reg .ensures, c .before .before .before .rs1 .ensures, c .before .imm-s .ensures) refl
+    let base = c .before .before in
+    rw (
+      ← m .before .class-of .ensures,
+      m .match .keys2,
+      c .add .ensures,
+      base .reg .ensures,
+      base .before .rs1 .ensures,
+      c .before .imm-s .ensures,
+    )
+    refl
 
 returns-3 : tie.Need-returns-3
 unfolding reachIn
@@ -60,7 +69,7 @@ unfolding reachIn
 returns-5 c =
     let m = c .before in
     let a = m .before .before .args in
-    let rows = reachRows (a .word) (regAt (a .x .now) (a .h)) in
+    let rows = reachRows (a .xlen) (a .word) (regAt (a .x .now) (a .h)) in
     rw (← m .before .class-of .ensures, c .rd2 .ensures)
     (sym (select-none (m .before .class-of .result) rows same (record { rd = rdOf (a .word); at = 0 }) (m .match .rest)))
 
@@ -72,7 +81,7 @@ reach-in-spec =
     rs1-requires
     reg-requires
     imm-s-requires
-    plus-requires
+    add-requires
     rd-requires
     rs1-requires-2
     reg-requires-2

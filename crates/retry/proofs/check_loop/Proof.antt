@@ -26,22 +26,22 @@ no-lr settings (Jump rd offset) ws h = refl
 no-lr settings (Branch offset) ws h = refl
 no-lr settings Other ws h = refl
 
-version-ok-requires : tie.Need-version-ok-requires
-version-ok-requires c κs = search needs
+reading-ok-requires : tie.Need-reading-ok-requires
+reading-ok-requires c κs = search needs
 
 returns : tie.Need-returns
 unfolding checkOf
-returns c = rw (sym (c .before .version-ok .ensures) ∙ not-true _ (c .if1 .taken))
+returns c = rw (sym (c .before .reading-ok .ensures) ∙ not-true _ (c .if1 .taken))
 
 returns-2 : tie.Need-returns-2
 unfolding checkOf
-returns-2 c = rw (sym (c .before .before .version-ok .ensures) ∙ not-false _ (c .before .if1 .left), lt-ltb _ _ (c .if2 .taken))
+returns-2 c = rw (sym (c .before .before .reading-ok .ensures) ∙ not-false _ (c .before .if1 .left), lt-ltb _ _ (c .if2 .taken))
 
 returns-3 : tie.Need-returns-3
 unfolding checkOf
 returns-3 c =
     rw (
-      sym (c .before .before .before .version-ok .ensures) ∙ not-false _ (c .before .before .if1 .left),
+      sym (c .before .before .before .reading-ok .ensures) ∙ not-false _ (c .before .before .if1 .left),
       le-ltb _ _ (c .before .if2 .left),
       lt-ltb _ _ (c .if3 .taken),
     )
@@ -62,7 +62,7 @@ returns-4 c =
     let short = long .before in
     let kept = short .before in
     rw (
-      sym (kept .before .version-ok .ensures) ∙ not-false _ (kept .if1 .left),
+      sym (kept .before .reading-ok .ensures) ∙ not-false _ (kept .if1 .left),
       le-ltb _ _ (short .if2 .left),
       le-ltb _ _ (long .if3 .left),
       ← c .before .look .ensures,
@@ -80,7 +80,7 @@ returns-5 c =
     let short = long .before in
     let kept = short .before in
     rw (
-      sym (kept .before .version-ok .ensures) ∙ not-false _ (kept .if1 .left),
+      sym (kept .before .reading-ok .ensures) ∙ not-false _ (kept .if1 .left),
       le-ltb _ _ (short .if2 .left),
       le-ltb _ _ (long .if3 .left),
       ← seen .look .ensures,
@@ -91,7 +91,7 @@ pub check-loop-spec : {M : Type 1} → statement M
 check-loop-spec =
     tie.close
     (tie.spec
-    version-ok-requires
+    reading-ok-requires
     returns
     returns-2
     returns-3

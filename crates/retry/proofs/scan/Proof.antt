@@ -42,7 +42,7 @@ returns c =
     let i = c .before .before .before .before .before .loop .inv in
     let v = a .words .now in
     let e : c .before .lowest .result ≡ lowestOf (a .rs1) (a .width) (pastSc (a .settings) v p) p (viewAt (a .settings) v p) =
-    c .before .lowest .ensures ∙ rw (i .1, c .before .before .look .ensures) in
+    rw (← i .1, ← c .before .before .look .ensures) (c .before .lowest .ensures) in
     ap (λ (r : ℕ). Rejected p r) e
     ∙ sym (scan-stop (a .settings) (a .rs1) (a .width) v p (omega arith) (λ z. c .if1 .taken (e ∙ z))) ∙ i .2
 
@@ -64,7 +64,7 @@ loop-again c =
     let v = a .words .now in
     let seen = c .before .before .before .look .ensures in
     let e : lowestOf (a .rs1) (a .width) (pastSc (a .settings) v p) p (viewAt (a .settings) v p) ≡ 0 =
-    rw (← i .1, ← seen) (sym (c .before .before .lowest .ensures) ∙ c .before .if1 .left) in
+    rw (← i .1, ← seen, ← c .before .before .lowest .ensures) (c .before .if1 .left) in
     (omega arith, rw (add-one, i .1, c .is-sc .ensures, seen), rw add-one (scan-on (a .settings) (a .rs1) (a .width) v p (omega arith) e ∙ i .2))
 
 returns-2 : tie.Need-returns-2 Inv-loop μ-loop

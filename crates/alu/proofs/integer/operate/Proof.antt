@@ -3,6 +3,8 @@ use Prim.Native.Nat.{ℕ, _*_, _/_, _%_, _^_}
 use lib.Dec.{ltb}
 use lib.Signed.{shrZ}
 use Rattle.word.specs.Word.{toInt, ofInt}
+use native.Mathlib.Omega.{arith}
+use Rattle.word.proofs.WordLaws.{xlen-bounds}
 use Rattle.alu.specs.Alu.{aluOf}
 use Rattle.alu.proofs.AluLaws.{byte-is}
 use borrow.Author.Needs.{needs}
@@ -13,13 +15,13 @@ enum-told : tie.Need-enum-told
 enum-told c = search needs
 
 add-requires : tie.Need-add-requires
-add-requires c κs = search needs
+add-requires c κs = xlen-bounds _ (c .before .before .pre .0) .1
 
 enum-told-2 : tie.Need-enum-told-2
 enum-told-2 c = search needs
 
 subtract-requires : tie.Need-subtract-requires
-subtract-requires c κs = search needs
+subtract-requires c κs = (xlen-bounds _ (c .before .before .pre .0) .1, c .before .before .pre .1 .1)
 
 enum-told-3 : tie.Need-enum-told-3
 enum-told-3 c = search needs
@@ -28,13 +30,13 @@ amount-requires : tie.Need-amount-requires
 amount-requires c κs = search needs
 
 shift-left-requires : tie.Need-shift-left-requires
-shift-left-requires c κs = search needs
+shift-left-requires c κs = (c .amount .ensures .1, xlen-bounds _ (c .before .before .before .pre .0) .1)
 
 enum-told-4 : tie.Need-enum-told-4
 enum-told-4 c = search needs
 
 less-requires : tie.Need-less-requires
-less-requires c κs = search needs
+less-requires c κs = let b = xlen-bounds _ (c .before .before .pre .0) in ((omega arith, b .1), c .before .before .pre .1)
 
 cast-result : tie.Need-cast-result
 cast-result c = search needs
@@ -55,7 +57,7 @@ amount-requires-2 : tie.Need-amount-requires-2
 amount-requires-2 c κs = search needs
 
 shr-result : tie.Need-shr-result
-shr-result c = search needs
+shr-result c = let b = xlen-bounds _ (c .before .before .before .pre .0) in omega (arith, b, c .amount2 .ensures .1)
 
 enum-told-8 : tie.Need-enum-told-8
 enum-told-8 c = search needs
@@ -64,7 +66,7 @@ amount-requires-3 : tie.Need-amount-requires-3
 amount-requires-3 c κs = search needs
 
 shift-signed-requires : tie.Need-shift-signed-requires
-shift-signed-requires c κs = search needs
+shift-signed-requires c κs = ((c .amount3 .ensures .1, xlen-bounds _ (c .before .before .before .pre .0) .1), c .before .before .before .pre .1 .0)
 
 enum-told-9 : tie.Need-enum-told-9
 enum-told-9 c = search needs

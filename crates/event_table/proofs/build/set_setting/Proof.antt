@@ -9,7 +9,10 @@ returns c =
       | inl t ↦ rw (t .1, t .0 .keys1)
       | inr u ↦ elim u [
         | inl t ↦ rw (t .1, t .0 .keys2)
-        | inr t ↦ rw (t .1, ne-eqb _ _ (t .0 .rest .0 .1), ne-eqb _ _ (t .0 .rest .1))
+        | inr v ↦ elim v [
+          | inl t ↦ rw (t .1, t .0 .keys3)
+          | inr t ↦ rw (t .1, ne-eqb _ _ (t .0 .rest .0 .0 .1), ne-eqb _ _ (t .0 .rest .0 .1), ne-eqb _ _ (t .0 .rest .1))
+        ]
       ]
     ]
 

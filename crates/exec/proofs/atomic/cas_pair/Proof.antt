@@ -1,4 +1,5 @@
 use native.Mathlib.Omega.{arith}
+use Rattle.isa.specs.Width.{pairBytes}
 use Rattle.alu.specs.Pair.{joined}
 use Rattle.effect.specs.Memory.{valueAt}
 use Rattle.effect.specs.Atomic.{execCasPair}
@@ -7,12 +8,15 @@ use borrow.Author.Needs.{needs}
 use Rattle.exec.proofs.atomic.cas_pair.Statement.{statement}
 use Rattle.exec.proofs.atomic.cas_pair.Tie as tie
 
+pair-bytes-of-requires : tie.Need-pair-bytes-of-requires
+pair-bytes-of-requires c κs = search needs
+
 fault-requires : tie.Need-fault-requires
 fault-requires c κs = search needs
 
 returns : tie.Need-returns
 unfolding execCasPair
-returns c = met-trap 6 7 _ _ _ _ _ (c .before .fault .ensures) _ (c .if1 .taken)
+returns c = rw (← c .before .before .pair-bytes-of .ensures .0) (met-trap 6 7 _ _ _ _ _ (c .before .fault .ensures) _ (c .if1 .taken))
 
 sub-compare-swap-pair-at : tie.Need-sub-compare-swap-pair-at
 sub-compare-swap-pair-at c =
@@ -22,7 +26,8 @@ sub-compare-swap-pair-at c =
 compare-swap-pair-at-requires : tie.Need-compare-swap-pair-at-requires
 compare-swap-pair-at-requires c κs =
     let i = room 6 7 _ _ _ _ _ (c .before .before .fault .ensures) (omega arith) (omega arith) (c .before .if1 .left) in
-    omega arith
+    let pre = c .before .before .before .before .before .pre in
+    (rw (← c .before .before .before .pair-bytes-of .ensures .0) (omega arith), (pre .1, pre .2))
 
 same-requires : tie.Need-same-requires
 same-requires c κs = search needs
@@ -39,18 +44,22 @@ same-length c = search needs
 returns-2 : tie.Need-returns-2
 unfolding execCasPair valueAt
 returns-2 c =
-    let x = c .before .before .before .before .before .before .before .before .before .before .args in
+    let x = c .before .before .before .before .before .before .before .before .before .before .before .args in
     let swap = c .before .before .before .before .before .compare-swap-pair-at in
     let tested = c .before .before .before .before .before .before .before in
-    met-done 6 7 _ _ _ _ _ (tested .before .fault .ensures) _ (tested .if1 .left)
-    (met-swap _ _ _ _ 16 (valueAt (x .base) (x .mem .now) (x .a) 16) (joined (x .want)) (joined (x .new)) (x .base) (x .mem .now) _ _
-    (rw (← swap .ensures .0, ← c .before .before .same .ensures, ← c .before .swap-notice .ensures) (c .retire-pair .ensures))
+    let n = tested .before .before .pair-bytes-of .ensures .0 in
+    let f = rw n at (tested .before .fault .ensures) in
+    met-done 6 7 _ _ _ _ _ f _ (tested .if1 .left)
+    (met-swap _ _ _ _ (pairBytes (x .w)) (valueAt (x .base) (x .mem .now) (x .a) (pairBytes (x .w))) (joined (x .w) (x .want)) (joined (x .w) (x .new))
+    (x .base) (x .mem .now) _ _
+    (rw (← swap .ensures .0 .0, ← c .before .before .same .ensures, ← n, ← c .before .swap-notice .ensures) (c .retire-pair .ensures))
     (swap .ensures .1))
 
 pub cas-pair-spec : {M : Type 1} → statement M
 cas-pair-spec =
     tie.close
     (tie.spec
+    pair-bytes-of-requires
     fault-requires
     returns
     sub-compare-swap-pair-at

@@ -1,7 +1,10 @@
-use mathlib.Core.Path.{_≡_}
-use native.Mathlib.Omega.{arith}
-use Prim.Native.Nat.{_+_, _*_, _^_, _%_, _/_}
+use mathlib.Core.Path.{_≡_, ap, _∙_}
+use Prim.Native.Nat.{_/_, _^_}
 use borrow.Author.Tests.{eq-eqb, ne-eqb}
+use Rattle.word.specs.Word.{low}
+use Rattle.word.proofs.WordLaws.{low-id}
+use Rattle.isa.specs.Width.{bitsOf}
+use Rattle.alu.specs.Pair.{joined}
 use Rattle.alu.proofs.PairLaws.{low-half, high-half}
 use borrow.Author.Needs.{needs}
 use Rattle.exec.proofs.atomic.retire_pair.Statement.{statement}
@@ -13,25 +16,22 @@ retire-requires c κs = search needs
 returns : tie.Need-returns
 returns c = rw (eq-eqb _ _ (c .before .if1 .taken)) (c .retire .ensures)
 
-add-t7 : tie.Need-add-t7
-add-t7 c = search needs
+add-t9 : tie.Need-add-t9
+add-t9 c = search needs
 
-wrapping-add-u64-requires : tie.Need-wrapping-add-u64-requires
-wrapping-add-u64-requires c κs = search needs
+add-requires : tie.Need-add-requires
+add-requires c κs = search needs
 
 returns-2 : tie.Need-returns-2
+unfolding low
 returns-2 c =
-    let p = c .before .before .args .old in
-    let lo : (p .low + 2 ^ 64 * p .high) % 2 ^ 64 ≡ p .low = low-half (2 ^ 64) (p .low) (p .high) (omega arith) in
-    let hi : (p .low + 2 ^ 64 * p .high) / 2 ^ 64 ≡ p .high = high-half (2 ^ 64) (p .low) (p .high) (omega arith) in
-    simp (ne-eqb _ _ (c .before .if1 .left), lo, hi, c .wrapping-add-u64 .ensures)
+    let x = c .before .before .args in
+    let pre = c .before .before .pre in
+    let p = x .old in
+    let k = bitsOf (x .w) in
+    let lo : low k (joined (x .w) p) ≡ p .low = low-half (2 ^ k) (p .low) (p .high) (pre .1) in
+    let hi : low k (joined (x .w) p / 2 ^ k) ≡ p .high = ap (low k) (high-half (2 ^ k) (p .low) (p .high) (pre .1)) ∙ low-id k (p .high) (pre .2) in
+    simp (ne-eqb _ _ (c .before .if1 .left), lo, hi, c .add .ensures)
 
 pub retire-pair-spec : {M : Type 1} → statement M
-retire-pair-spec =
-    tie.close
-    (tie.spec
-    retire-requires
-    returns
-    add-t7
-    wrapping-add-u64-requires
-    returns-2)
+retire-pair-spec = tie.close (tie.spec retire-requires returns add-t9 add-requires returns-2)

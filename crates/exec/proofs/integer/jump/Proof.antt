@@ -8,17 +8,17 @@ returns : tie.Need-returns
 unfolding execJump
 returns c = λ h. simp (ne-eqb _ _ (c .if1 .taken))
 
-wrapping-add-u64-requires : tie.Need-wrapping-add-u64-requires
-wrapping-add-u64-requires c κs = search needs
+add-requires : tie.Need-add-requires
+add-requires c κs = search needs
 
 returns-2 : tie.Need-returns-2
 unfolding execJump
-returns-2 c = λ h. simp (eq-eqb _ _ (c .before .if1 .left), c .wrapping-add-u64 .ensures)
+returns-2 c = λ h. simp (eq-eqb _ _ (c .before .if1 .left), c .add .ensures)
 
 pub jump-spec : {M : Type 1} → statement M
 jump-spec =
     tie.close
     (tie.spec
     returns
-    wrapping-add-u64-requires
+    add-requires
     returns-2)

@@ -1,5 +1,7 @@
 use mathlib.Core.Path.{ap, _∙_}
 use native.Mathlib.Omega.{arith}
+use Rattle.word.specs.Bytes.{IsBytes}
+use Rattle.word.proofs.MemoryLaws.{part-lt}
 use Rattle.effect.specs.Effect.{doneOf}
 use Rattle.effect.specs.Memory.{valueAt, execLoad}
 use Rattle.exec.proofs.AccessLaws.{trapped, passed, room}
@@ -27,7 +29,13 @@ load-at-requires c κs =
     (omega arith, c .before .before .load-bytes .ensures .2)
 
 extend-requires : tie.Need-extend-requires
-extend-requires c κs = search needs
+extend-requires c κs =
+    let asked = c .before .before .before .before in
+    let x = asked .before .args in
+    let pre = asked .before .pre in
+    let n = c .before .before .before .load-bytes .ensures .0 in
+    let bytes : IsBytes (x .mem .now) = λ k. asked .shared-slice-known .given k .fits in
+    (pre .0, pre .1, rw (← n, c .load-at .ensures) (part-lt (x .mem .now) _ _ bytes))
 
 retire-requires : tie.Need-retire-requires
 retire-requires c κs = search needs

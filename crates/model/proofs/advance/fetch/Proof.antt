@@ -2,6 +2,7 @@ use mathlib.Core.Path.{refl, sym, _∙_}
 use native.Mathlib.Omega.{arith}
 use Prim.Native.Nat.{_-_}
 use borrow.Author.Tests.{not-true, not-false}
+use Rattle.settings.proofs.SettingsLaws.{xlen-is}
 use Rattle.effect.proofs.Fits.{value-lt}
 use Rattle.reserve.proofs.RangeLaws.{inside-of}
 use Rattle.effect.specs.Memory.{valueAt}
@@ -29,8 +30,13 @@ cast-word c =
     let x = c .before .before .before .before .before .args in
     record { fits = rw (c .load-at .ensures) (value-lt (x .base) (x .mem .now) (λ k. c .before .before .before .before .slice-known .given k .fits) (x .pc) 4) }
 
+xlen-requires : tie.Need-xlen-requires
+xlen-requires c κs = search needs
+
 execute-word-requires : tie.Need-execute-word-requires
-execute-word-requires c κs = search needs
+execute-word-requires c κs =
+    let start = c .before .before .before .before .before .before .before in
+    (start .pre .0, start .pre .1, rw (c .before .xlen .ensures) (xlen-is (start .args .settings)))
 
 same-length : tie.Need-same-length
 same-length c = search needs
@@ -38,9 +44,9 @@ same-length c = search needs
 returns-2 : tie.Need-returns-2
 unfolding fetchOf valueAt
 returns-2 c =
-    let load = c .before .before .before .before in
+    let load = c .before .before .before .before .before in
     let inside = sym (load .before .before .before .inside .ensures) ∙ not-false _ (load .before .before .if1 .left) in
-    rw (inside, ← load .load-at .ensures) (c .before .before .execute-word .ensures)
+    rw (inside, ← load .load-at .ensures, ← c .before .before .before .before .xlen .ensures) (c .before .before .execute-word .ensures)
 
 pub fetch-spec : {M : Type 1} → statement M
 fetch-spec =
@@ -51,6 +57,7 @@ fetch-spec =
     sub-load-at
     load-at-requires
     cast-word
+    xlen-requires
     execute-word-requires
     same-length
     returns-2)

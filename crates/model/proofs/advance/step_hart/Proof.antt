@@ -2,6 +2,7 @@ use mathlib.Core.Path.{_≡_, ap, _∙_}
 use native.Mathlib.Omega.{arith}
 use borrow.Author.Tests.{lt-ltb}
 use lib.ListN.{getD}
+use Rattle.settings.specs.Settings.{xlenOf}
 use Rattle.reserve.specs.Reserve.{coversOf}
 use Rattle.reserve.specs.declared.Reservation.{Reservation}
 use Rattle.effect.specs.declared.Done.{Done}
@@ -51,7 +52,8 @@ returns c =
     let f = fetched .fetch .ensures in
     let moved = c .before .before .move-hart .ensures in
     let settled = c .settle .ensures in
-    let does : Reservation → E.Exec = λ q. fetchOf (regAt (m .state .x) h) (getD (m .state .pc) h 0) (a .base) (m .mem) (coversOf (a .settings) q) in
+    let does : Reservation → E.Exec = λ q.
+    fetchOf (xlenOf (a .settings)) (regAt (m .state .x) h) (getD (m .state .pc) h 0) (a .base) (m .mem) (coversOf (a .settings) q) in
     let same = ap does (held .reservation .ensures) in
     let d = f .answer ∙ ap (E.doneOf h) same in
     let is : actOn (a .base) (m .mem) (m .state) (Step h) ≡ ofExec h e = rw (lt-ltb h (a .count) (start .pre .1)) in

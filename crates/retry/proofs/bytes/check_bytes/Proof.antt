@@ -10,15 +10,15 @@ use borrow.Author.Needs.{needs}
 use Rattle.retry.proofs.bytes.check_bytes.Statement.{statement}
 use Rattle.retry.proofs.bytes.check_bytes.Tie as tie
 
-version-ok-requires : tie.Need-version-ok-requires
-version-ok-requires c κs = search needs
+reading-ok-requires : tie.Need-reading-ok-requires
+reading-ok-requires c κs = search needs
 
 returns : tie.Need-returns
 unfolding checkOf
-returns c = rw (sym (c .before .version-ok .ensures) ∙ not-true _ (c .if1 .taken))
+returns c = rw (sym (c .before .reading-ok .ensures) ∙ not-true _ (c .if1 .taken))
 
 returns-2 : tie.Need-returns-2
-returns-2 c = too-long _ _ _ (sym (c .before .before .version-ok .ensures) ∙ not-false _ (c .before .if1 .left)) (c .if2 .taken)
+returns-2 c = too-long _ _ _ (sym (c .before .before .reading-ok .ensures) ∙ not-false _ (c .before .if1 .left)) (c .if2 .taken)
 
 words-requires : tie.Need-words-requires
 words-requires c κs = search needs
@@ -42,7 +42,7 @@ pub check-bytes-spec : {M : Type 1} → statement M
 check-bytes-spec =
     tie.close
     (tie.spec
-    version-ok-requires
+    reading-ok-requires
     returns
     returns-2
     words-requires

@@ -1,5 +1,7 @@
 use mathlib.Core.Path.{refl, ap, _∙_}
 use native.Mathlib.Omega.{arith}
+use Rattle.word.proofs.WordLaws.{xlen-bounds}
+use Rattle.settings.proofs.SettingsLaws.{xlen-is}
 use Rattle.model.specs.Advance.{inParts}
 use Rattle.rows.specs.Row.{stepped, afterRow}
 use Rattle.reach.specs.declared.Saved.{Saved}
@@ -8,8 +10,14 @@ use borrow.Author.Needs.{needs}
 use Rattle.rows.proofs.row.perform.Statement.{statement}
 use Rattle.rows.proofs.row.perform.Tie as tie
 
+xlen-requires : tie.Need-xlen-requires
+xlen-requires c κs = search needs
+
 reach-in-requires : tie.Need-reach-in-requires
-reach-in-requires c κs = search needs
+reach-in-requires c κs =
+    let start = c .before .before .before in
+    let bounds = xlen-bounds _ (xlen-is (start .args .settings)) in
+    (omega (arith, start .pre .valid .1 .1, start .pre .counted), omega (arith, c .before .xlen .ensures, bounds .1))
 
 window-requires : tie.Need-window-requires
 window-requires c κs = search needs
@@ -32,7 +40,7 @@ advance-requires c κs = search needs
 reg-requires-3 : tie.Need-reg-requires-3
 reg-requires-3 c κs =
     let done = c .before .before .before in
-    let start = done .before .before .before .before .before .before .before .before .before .before .before .before .before .before .before .before in
+    let start = done .before .before .before .before .before .before .before .before .before .before .before .before .before .before .before .before .before in
     omega (arith, start .pre .valid .1 .1, start .pre .counted)
 
 judge-requires : tie.Need-judge-requires
@@ -47,7 +55,7 @@ enum-told-2 c = search needs
 put-hart-back-requires : tie.Need-put-hart-back-requires
 put-hart-back-requires c κs =
     let done = c .before .before .before .before .before .before .before .before .before in
-    let start = done .before .before .before .before .before .before .before .before .before .before .before .before .before .before .before .before in
+    let start = done .before .before .before .before .before .before .before .before .before .before .before .before .before .before .before .before .before in
     omega (arith, start .pre .valid .1 .1, start .pre .counted)
 
 put-back-requires : tie.Need-put-back-requires
@@ -65,10 +73,10 @@ returns c =
     let judged = c .before .before in
     let done = judged .before .before .before .before .before in
     let reached = done .before .before .before .before .before .before .before .before .before .before .before .before .before in
-    let start = reached .before .before .before in
+    let start = reached .before .before .before .before in
     let a = start .args in
     let m = inParts (a .count) (a .settings) (a .x .now) (a .pc .now) (a .t .now) (a .mem .now) in
-    let d = reached .reach-in .ensures in
+    let d = rw (reached .before .before .xlen .ensures) at (reached .reach-in .ensures) in
     let after = done .advance .ensures in
     let told = row-told (a .base) m (a .r) (start .pre) d (after .machine) (after .outcome) (judged .before .reg3 .ensures) (judged .judge .ensures) in
     (told, rw (c .enum-told .given .1) (after .machine))
@@ -86,10 +94,10 @@ returns-2 c =
     let saved = first .before .before .before in
     let placed = saved .before .before in
     let reached = placed .before in
-    let start = reached .before .before .before in
+    let start = reached .before .before .before .before in
     let a = start .args in
     let m = inParts (a .count) (a .settings) (a .x .now) (a .pc .now) (a .t .now) (a .mem .now) in
-    let d = reached .reach-in .ensures in
+    let d = rw (reached .before .before .xlen .ensures) at (reached .reach-in .ensures) in
     let after = done .advance .ensures in
     let told = row-told (a .base) m (a .r) (start .pre) d (after .machine) (after .outcome) (judged .before .reg3 .ensures) (judged .judge .ensures) in
     let back = c .before .before .before .before .put-hart-back .ensures in
@@ -98,13 +106,14 @@ returns-2 c =
     let at = placed .window .ensures .0 in
     let put = rw (saved .save .ensures) at (c .before .before .put-back .ensures) in
     let memory =
-    put ∙ memory-undone (a .base) m (a .r) (start .pre) d (after .machine) (λ k. reached .before .before .slice-known .given k .fits) at in
+    put ∙ memory-undone (a .base) m (a .r) (start .pre) d (after .machine) (λ k. reached .before .before .before .slice-known .given k .fits) at in
     (told, rw (c .before .before .before .before .before .before .before .enum-told2 .given .1, registers, pcs, memory) refl)
 
 pub perform-spec : {M : Type 1} → statement M
 perform-spec =
     tie.close
     (tie.spec
+    xlen-requires
     reach-in-requires
     window-requires
     save-requires

@@ -1,0 +1,15 @@
+use borrow.Author.Needs.{needs}
+use Rattle.casefile.proofs.read_settings.Statement.{statement}
+use Rattle.casefile.proofs.read_settings.Tie as tie
+
+field-requires : tie.Need-field-requires
+field-requires c κs = search needs
+
+of-kind-requires : tie.Need-of-kind-requires
+of-kind-requires c κs = search needs
+
+returns : tie.Need-returns
+returns c = rw (c .of-kind .ensures, c .before .field .ensures .0)
+
+pub read-settings-spec : {M : Type 1} → statement M
+read-settings-spec = tie.close (tie.spec field-requires of-kind-requires returns)

@@ -1,0 +1,46 @@
+use mathlib.Core.Logic.{inl, inr}
+use mathlib.Core.Path.{refl, sym, _∙_}
+use native.Mathlib.Omega.{arith}
+use Rattle.word.proofs.WordLaws.{xlen-else}
+use borrow.Author.Needs.{needs}
+use Rattle.dispatch.proofs.op_imm.Statement.{statement}
+use Rattle.dispatch.proofs.op_imm.Tie as tie
+
+reg-requires : tie.Need-reg-requires
+reg-requires c κs = search needs
+
+compute-requires : tie.Need-compute-requires
+compute-requires c κs = (inr refl, omega arith, omega arith)
+
+returns : tie.Need-returns
+returns c = rw (c .before .if1 .taken, ← c .before .before .reg .ensures) (c .compute .ensures 0)
+
+kept-imm-requires : tie.Need-kept-imm-requires
+kept-imm-requires c κs = search needs
+
+compute-requires-2 : tie.Need-compute-requires-2
+compute-requires-2 c κs = (inl refl, omega arith, omega arith)
+
+returns-2 : tie.Need-returns-2
+returns-2 c =
+    rw (
+      xlen-else _ (c .before .before .before .before .before .pre .1) (c .before .before .before .if1 .left),
+      ← c .before .before .before .before .reg .ensures,
+      sym (c .before .before .kept-imm .ensures) ∙ c .before .if2 .taken,
+    )
+    (c .compute2 .ensures 0)
+
+returns-3 : tie.Need-returns-3
+returns-3 c = rw (xlen-else _ (c .before .before .before .before .pre .1) (c .before .before .if1 .left), sym (c .before .kept-imm .ensures) ∙ c .if2 .left)
+
+pub op-imm-spec : {M : Type 1} → statement M
+op-imm-spec =
+    tie.close
+    (tie.spec
+    reg-requires
+    compute-requires
+    returns
+    kept-imm-requires
+    compute-requires-2
+    returns-2
+    returns-3)
