@@ -2,5 +2,6 @@
 pub mod Refused
 pub mod Trapped
 pub mod Answers
+pub mod Values
 pub mod Good
 pub mod Runs

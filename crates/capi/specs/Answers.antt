@@ -34,7 +34,7 @@ loopNumber Accepted = loopRefusal Accepted
 loopNumber (Rejected place reason) = 256 * (place + 1) + reason
 loopNumber (Refused number) = loopRefusal (Refused number)
 
--- what floecavern_check_loop answers to the bytes of a block's words, under the default settings, and floecavern_check_loop_for, under the version that it
--- is given; bytes that aren't whole words are told before a refusal
+-- what floecavern_check_loop answers to the bytes of a block's words, under the default settings, and floecavern_check_loop_for, under the version and kind
+-- that it is given; bytes that aren't whole words are told before a refusal
 unfoldable pub loopAnswer : Settings → List ℕ → ℕ
 loopAnswer settings bytes = cond (eqb (length bytes % 4) 0) (loopNumber (checkOf settings (wordsOf bytes (length bytes / 4)))) wrongSize

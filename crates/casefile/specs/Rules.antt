@@ -44,7 +44,8 @@ eventsIn file = part file (fieldAt file 32) (fieldAt file 36)
 abbrev pub LengthRules : ℕ → Type 0
 LengthRules n = (64 ≤ n) × (n ≤ 1048576) × (n % 64 ≡ 0)
 
--- 02 [10]: "Base plus length is at most 2^32 for this kind, refusal 1 in the library and 10 in a case file"
+-- 02 [10]: "Base plus length is at most 2^32 for this kind, refusal 1 in the library and 10 in a case file". The kind is that of the harts body, one that 9
+-- doesn't refuse: 9 is tried before.
 abbrev pub MemoryBodyRules : List ℕ → ℕ → Type 0
 MemoryBodyRules harts n = LengthRules n × TopRules (settingsOf harts) (baseOf harts) n
 

@@ -6,38 +6,38 @@ use exec::atomic;
 use exec::integer::compute;
 use exec::integer::holds;
 use exec::integer::jump;
+use exec::memory::load;
 use exec::retire;
 use isa::AluOp;
 use isa::Atomic;
 use isa::AtomicOp;
 use isa::BranchOp;
 use isa::Instr;
-use isa::LoadOp;
 use isa::StoreOp;
 use isa::Width;
-use isa::narrow::kept_imm;
-use isa::narrow::kept_load;
-use isa::narrow::kept_store;
-use isa::narrow::lacked;
+use isa::narrow::lacks;
+use isa::narrow::op_if;
 use isa::narrow::pairs;
+use isa::narrow::width_if;
 use reserve::Notice;
 use reserve::Reservation;
 use settings::Settings;
 use word::num::wrap;
 ghost use mathlib.Core.Path.{_≡_};
-ghost use mathlib.Core.Bool.{cond, not, _&&_};
+ghost use mathlib.Core.Bool.{cond, _&&_};
 ghost use Prim.Native.Nat.{ℕ, _≤_, _<_, _^_};
 ghost use lib.Dec.{eqb};
 ghost use Rattle.word.specs.Word.{Xlen};
 ghost use Rattle.isa.specs.Width.{bitsOf};
-ghost use Rattle.isa.specs.Narrow.{keptLoad, keptStore, keptImm, narrowedAt, lacked, pairs};
+ghost use Rattle.isa.specs.Narrow.{withOp, pairs, lacks, pairedIf, pairedAt};
 ghost use Rattle.settings.specs.Settings.{SizeRules};
 ghost use Rattle.reserve.specs.Reserve.{coversOf};
 ghost use Rattle.alu.specs.Pair.{joined};
-ghost use Rattle.effect.specs.Effect.{trap, doneOf, Meets, offset, sets};
+ghost use Rattle.effect.specs.Effect.{doneOf, Meets, offset, sets};
 ghost use Rattle.effect.specs.Integer.{computed, holdsOf, execBranch};
-ghost use Rattle.effect.specs.Memory.{execLoad, execStore};
+ghost use Rattle.effect.specs.Memory.{execStore};
 ghost use Rattle.effect.specs.Atomic.{execCasPair};
+ghost use Rattle.effect.specs.Sound.{Fitting};
 ghost use Rattle.effect.specs.Execute.{regAt, pairAt, execAtomic, execute, executeWord};
 
 // Register r of hart h; x has those of all harts.
@@ -86,9 +86,12 @@ fn cas_pair(
     atomic::cas_pair(xlen, w, m.rd, reg(x, h, m.rs1), want, new, pc, base, h, mem)
 }
 
-// An atomic instruction of hart h, whose reservation is res.
+// An atomic instruction of hart h, whose reservation is res, with an operation and a width of their own: what RV32 has as a pair of words comes here too,
+// so that each operation's code stands once.
 fn atomic(
     xlen: u32,
+    op: AtomicOp,
+    w: Width,
     m: Atomic,
     x: &[u64; 256],
     h: usize,
@@ -98,14 +101,12 @@ fn atomic(
     res: Reservation,
     mem: &mut [u8],
 ) -> Done
-    requires { ⌜ (h < 8) × SizeRules settings × (bitsOf (m .width) ≤ xlen) × (xlen ≤ 64) ⌝ }
+    requires { ⌜ (h < 8) × SizeRules settings × (bitsOf w ≤ xlen) × (xlen ≤ 64) ⌝ }
     ensures { λ r. ⌜
-        Meets h (execAtomic xlen m (regAt (now (x .entry)) h) pc base (now (mem .entry)) (coversOf settings res))
+        Meets h (execAtomic xlen (withOp op w m) (regAt (now (x .entry)) h) pc base (now (mem .entry)) (coversOf settings res))
         base (now (mem .entry)) r (now (mem .exit))
         ⌝ }
 {
-    let op = m.op;
-    let w = m.width;
     let rd = m.rd;
     let a = reg(x, h, m.rs1);
     let v = reg(x, h, m.rs2);
@@ -118,17 +119,7 @@ fn atomic(
     }
 }
 
-// Whether registers have 32 bits and RV32 lacks the instruction.
-fn lacked_at(xlen: u32, m: Atomic) -> bool
-    ensures { λ r. ⌜ r ≡ (eqb xlen 32 && lacked m) ⌝ }
-{
-    if xlen == 32 {
-        return lacked(m);
-    }
-    false
-}
-
-// Whether they have, and it is of a pair of words there.
+// Whether registers have 32 bits and an AMOCAS.D is of a pair of words there.
 fn pairs_at(xlen: u32, m: Atomic) -> bool
     ensures { λ r. ⌜ r ≡ (eqb xlen 32 && pairs m) ⌝ }
 {
@@ -138,11 +129,10 @@ fn pairs_at(xlen: u32, m: Atomic) -> bool
     false
 }
 
-// The same as RV32 has it where registers have 32 bits: it lacks some, and one is a pair of words.
+// The same with the operation and the width that it has where registers have xlen bits.
 fn atomic_at(
     xlen: u32,
     m: Atomic,
-    word: u64,
     x: &[u64; 256],
     h: usize,
     pc: u64,
@@ -151,25 +141,19 @@ fn atomic_at(
     res: Reservation,
     mem: &mut [u8],
 ) -> Done
-    requires { ⌜ (h < 8) × SizeRules settings × Xlen xlen ⌝ }
+    requires { ⌜ (h < 8) × SizeRules settings × (bitsOf (cond (eqb xlen 32 && pairs m) Width.Word (m .width)) ≤ xlen) × (xlen ≤ 64) ⌝ }
     ensures { λ r. ⌜
-        Meets h (execute xlen (narrowedAt xlen (Instr.Amo m)) word (regAt (now (x .entry)) h) pc base (now (mem .entry)) (coversOf settings res))
+        Meets h (execAtomic xlen (pairedIf (eqb xlen 32 && pairs m) m) (regAt (now (x .entry)) h) pc base (now (mem .entry)) (coversOf settings res))
         base (now (mem .entry)) r (now (mem .exit))
         ⌝ }
 {
-    if lacked_at(xlen, m) {
-        return Done::Trap {
-            cause: 2,
-            value: word,
-        };
-    }
-    if pairs_at(xlen, m) {
-        return cas_pair(xlen, Width::Word, m, x, h, pc, base, mem);
-    }
-    atomic(xlen, m, x, h, pc, base, settings, res, mem)
+    let paired = pairs_at(xlen, m);
+    let op = op_if(paired, m);
+    let w = width_if(paired, m);
+    atomic(xlen, op, w, m, x, h, pc, base, settings, res, mem)
 }
 
-// Whether a branch is taken. The width is asked for here, so that the comparison is compiled for each width by itself; as the operations are below.
+// Whether a branch is taken. The width is asked for here, so that the comparison is compiled for each by itself; as the operations are below.
 fn taken_at(xlen: u32, op: BranchOp, a: u64, b: u64) -> bool
     requires { ⌜ Xlen xlen ⌝ }
     ensures { λ r. ⌜ r ≡ holdsOf xlen op a b ⌝ }
@@ -200,35 +184,25 @@ fn branch(
     exec::integer::branch(xlen, taken, add(pc, imm, xlen), pc)
 }
 
-// OP-IMM, by its register. RV32 lacks shifts by 32 and more.
+// OP-IMM, by its register.
 fn op_imm(
     xlen: u32,
     op: AluOp,
     rd: usize,
     rs1: usize,
     imm: u64,
-    word: u64,
     x: &[u64; 256],
     h: usize,
     pc: u64,
 ) -> Done
     requires { ⌜ (h < 8) × Xlen xlen ⌝ }
-    ensures { λ r. ⌜
-        r ≡ doneOf h (cond (eqb xlen 32 && not (keptImm op imm)) (trap 2 word)
-        (sets xlen rd (computed xlen xlen op (regAt (now (x .entry)) h rs1) imm) pc))
-        ⌝ }
+    ensures { λ r. ⌜ r ≡ doneOf h (sets xlen rd (computed xlen xlen op (regAt (now (x .entry)) h rs1) imm) pc) ⌝ }
 {
     let a = reg(x, h, rs1);
     if xlen == 64 {
         return compute(64, op, 64, rd, a, imm, pc);
     }
-    if kept_imm(op, imm) {
-        return compute(32, op, 32, rd, a, imm, pc);
-    }
-    Done::Trap {
-        cause: 2,
-        value: word,
-    }
+    compute(32, op, 32, rd, a, imm, pc)
 }
 
 // OP, by its registers.
@@ -253,100 +227,13 @@ fn op_regs(
     compute(32, op, 32, rd, a, b, pc)
 }
 
-// OP-IMM-32, by its register. RV32 lacks it, and OP-32.
-fn op_imm_32(
-    xlen: u32,
-    op: AluOp,
-    rd: usize,
-    rs1: usize,
-    imm: u64,
-    word: u64,
-    x: &[u64; 256],
-    h: usize,
-    pc: u64,
-) -> Done
-    requires { ⌜ (h < 8) × Xlen xlen ⌝ }
-    ensures { λ r. ⌜
-        r ≡ doneOf h (cond (eqb xlen 32) (trap 2 word) (sets xlen rd (computed xlen 32 op (regAt (now (x .entry)) h rs1) imm) pc))
-        ⌝ }
-{
-    let a = reg(x, h, rs1);
-    if xlen == 32 {
-        return Done::Trap {
-            cause: 2,
-            value: word,
-        };
-    }
-    compute(64, op, 32, rd, a, imm, pc)
-}
-
-// OP-32, by its registers.
-fn op_32(
-    xlen: u32,
-    op: AluOp,
-    rd: usize,
-    rs1: usize,
-    rs2: usize,
-    word: u64,
-    x: &[u64; 256],
-    h: usize,
-    pc: u64,
-) -> Done
-    requires { ⌜ (h < 8) × Xlen xlen ⌝ }
-    ensures { λ r. ⌜
-        r ≡ doneOf h (cond (eqb xlen 32) (trap 2 word)
-        (sets xlen rd (computed xlen 32 op (regAt (now (x .entry)) h rs1) (regAt (now (x .entry)) h rs2)) pc))
-        ⌝ }
-{
-    let a = reg(x, h, rs1);
-    let b = reg(x, h, rs2);
-    if xlen == 32 {
-        return Done::Trap {
-            cause: 2,
-            value: word,
-        };
-    }
-    compute(64, op, 32, rd, a, b, pc)
-}
-
-// A load, by its register. RV32 lacks LD and LWU.
-fn load(
-    xlen: u32,
-    op: LoadOp,
-    rd: usize,
-    rs1: usize,
-    imm: u64,
-    word: u64,
-    x: &[u64; 256],
-    h: usize,
-    pc: u64,
-    base: u64,
-    mem: &[u8],
-) -> Done
-    requires { ⌜ (h < 8) × Xlen xlen ⌝ }
-    ensures { λ r. ⌜
-        r ≡ doneOf h (cond (eqb xlen 32 && not (keptLoad op)) (trap 2 word)
-        (execLoad xlen op rd (offset xlen (regAt (now (x .entry)) h rs1) imm) pc base (now (mem .entry))))
-        ⌝ }
-{
-    if (xlen == 32) & !kept_load(op) {
-        return Done::Trap {
-            cause: 2,
-            value: word,
-        };
-    }
-    let a = add(reg(x, h, rs1), imm, xlen);
-    exec::memory::load(xlen, op, rd, a, pc, base, mem)
-}
-
-// A store, by its registers. RV32 lacks SD.
+// A store, by its registers.
 fn store(
     xlen: u32,
     op: StoreOp,
     rs1: usize,
     rs2: usize,
     imm: u64,
-    word: u64,
     x: &[u64; 256],
     h: usize,
     pc: u64,
@@ -355,23 +242,15 @@ fn store(
 ) -> Done
     requires { ⌜ (h < 8) × (xlen ≤ 64) ⌝ }
     ensures { λ r. ⌜
-        Meets h (cond (eqb xlen 32 && not (keptStore op)) (trap 2 word)
-        (execStore xlen op (offset xlen (regAt (now (x .entry)) h rs1) imm) (regAt (now (x .entry)) h rs2) pc base (now (mem .entry))))
+        Meets h (execStore xlen op (offset xlen (regAt (now (x .entry)) h rs1) imm) (regAt (now (x .entry)) h rs2) pc base (now (mem .entry)))
         base (now (mem .entry)) r (now (mem .exit))
         ⌝ }
 {
-    if (xlen == 32) & !kept_store(op) {
-        return Done::Trap {
-            cause: 2,
-            value: word,
-        };
-    }
     let a = add(reg(x, h, rs1), imm, xlen);
     exec::memory::store(xlen, op, a, reg(x, h, rs2), pc, base, h, mem)
 }
 
-// An instruction of hart h, whose reservation is res, as the decoder of 64 bits has it. Where registers have 32 bits, RV32 has less of it; each class asks
-// for that itself, so that the instruction isn't looked at, or copied, once more. The word is the value of cause 2.
+// An instruction of hart h, whose reservation is res, that isn't lacked where registers have xlen bits. The word is the value of cause 2.
 fn execute(
     xlen: u32,
     i: Instr,
@@ -384,46 +263,51 @@ fn execute(
     res: Reservation,
     mem: &mut [u8],
 ) -> Done
-    requires { ⌜ (h < 8) × SizeRules settings × Xlen xlen ⌝ }
+    requires { ⌜ (h < 8) × SizeRules settings × Xlen xlen × Fitting xlen (pairedAt xlen i) ⌝ }
     ensures { λ r. ⌜
-        Meets h (execute xlen (narrowedAt xlen i) word (regAt (now (x .entry)) h) pc base (now (mem .entry)) (coversOf settings res))
+        Meets h (execute xlen (pairedAt xlen i) word (regAt (now (x .entry)) h) pc base (now (mem .entry)) (coversOf settings res))
         base (now (mem .entry)) r (now (mem .exit))
         ⌝ }
 {
-    let v = word as u64;
+    let value = word as u64;
     match i {
-        Instr::Illegal => Done::Trap { cause: 2, value: v },
+        Instr::Illegal => Done::Trap { cause: 2, value },
         Instr::Lui { rd, imm } => retire(xlen, rd, wrap(imm, xlen), pc, Notice::Quiet),
         Instr::Auipc { rd, imm } => retire(xlen, rd, add(pc, imm, xlen), pc, Notice::Quiet),
         Instr::Jal { rd, imm } => jump(xlen, rd, add(pc, imm, xlen), pc),
         Instr::Jalr { rd, rs1, imm } => jump(xlen, rd, add(reg(x, h, rs1), imm, xlen) / 2 * 2, pc),
         Instr::Branch { op, rs1, rs2, imm } => branch(xlen, op, rs1, rs2, imm, x, h, pc),
-        Instr::Load { op, rd, rs1, imm } => load(xlen, op, rd, rs1, imm, v, x, h, pc, base, mem),
-        Instr::Store { op, rs1, rs2, imm } => store(
+        Instr::Load { op, rd, rs1, imm } => load(
             xlen,
             op,
-            rs1,
-            rs2,
-            imm,
-            v,
-            x,
-            h,
+            rd,
+            add(reg(x, h, rs1), imm, xlen),
             pc,
             base,
             mem,
         ),
-        Instr::OpImm { op, rd, rs1, imm } => op_imm(xlen, op, rd, rs1, imm, v, x, h, pc),
-        Instr::OpImm32 { op, rd, rs1, imm } => op_imm_32(xlen, op, rd, rs1, imm, v, x, h, pc),
+        Instr::Store { op, rs1, rs2, imm } => store(xlen, op, rs1, rs2, imm, x, h, pc, base, mem),
+        Instr::OpImm { op, rd, rs1, imm } => op_imm(xlen, op, rd, rs1, imm, x, h, pc),
+        Instr::OpImm32 { op, rd, rs1, imm } => compute(64, op, 32, rd, reg(x, h, rs1), imm, pc),
         Instr::Op { op, rd, rs1, rs2 } => op_regs(xlen, op, rd, rs1, rs2, x, h, pc),
-        Instr::Op32 { op, rd, rs1, rs2 } => op_32(xlen, op, rd, rs1, rs2, v, x, h, pc),
+        Instr::Op32 { op, rd, rs1, rs2 } => compute(
+            64,
+            op,
+            32,
+            rd,
+            reg(x, h, rs1),
+            reg(x, h, rs2),
+            pc,
+        ),
         Instr::Fence { .. } => retire(xlen, 0, 0, pc, Notice::Quiet),
         Instr::Ecall => Done::Trap { cause: 8, value: 0 },
         Instr::Ebreak => Done::Trap { cause: 3, value: 0 },
-        Instr::Amo(m) => atomic_at(xlen, m, v, x, h, pc, base, settings, res, mem),
+        Instr::Amo(m) => atomic_at(xlen, m, x, h, pc, base, settings, res, mem),
     }
 }
 
-// What a word does as the next instruction of hart h.
+// What a word does as the next instruction of hart h. What RV32 lacks is asked for once, before the classes: a test, and a second way out, in each of them
+// takes the 64-bit core's time too.
 pub fn execute_word(
     xlen: u32,
     word: u32,
@@ -441,16 +325,14 @@ pub fn execute_word(
         base (now (mem .entry)) r (now (mem .exit))
         ⌝ }
 {
-    execute(
-        xlen,
-        isa::decode(word),
-        word,
-        x,
-        h,
-        pc,
-        base,
-        settings,
-        res,
-        mem,
-    )
+    let i = isa::decode(word);
+    if xlen == 32 {
+        if lacks(i) {
+            return Done::Trap {
+                cause: 2,
+                value: word as u64,
+            };
+        }
+    }
+    execute(xlen, i, word, x, h, pc, base, settings, res, mem)
 }

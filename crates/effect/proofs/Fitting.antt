@@ -1,14 +1,13 @@
 -- What is decoded at a register width fits it. Assumes nothing.
 use Prim.Native.Nat.{ℕ, _*_, _≤_}
 use mathlib.Core.Path.{_≡_, refl}
-use mathlib.Core.Bool.{_&&_}
 use mathlib.Core.Logic.{⊎-elim}
 use lib.Dec.{lit≤}
 use Rattle.word.specs.Word.{Xlen}
 use Rattle.word.proofs.ChooseLaws.{cond-all}
 use Rattle.isa.specs.Width.{bitsOf}
-use Rattle.isa.specs.Decode.{isEven, decodeOf}
-use Rattle.isa.specs.Narrow.{ifKept, keptLoad, keptStore, keptImm, narrowedDouble, narrowedAtomic, narrowed, decodeAt}
+use Rattle.isa.specs.Decode.{decodeOf}
+use Rattle.isa.specs.Narrow.{ifKept, keptLoad, keptStore, keptImm, evenPairs, narrowedDouble, narrowedAtomic, narrowed, narrowedAt, decodeAt}
 use Rattle.isa.proofs.NarrowLaws.{asPair}
 use Rattle.isa.specs.declared.Width.{Width}
 use Rattle.isa.specs.declared.Width.the-variants.{Word, Double}
@@ -45,9 +44,9 @@ fitting-64 (Branch op rs1 rs2 imm) = tt
 fitting-64 (Load op rd rs1 imm) = load-most op
 fitting-64 (Store op rs1 rs2 imm) = tt
 fitting-64 (OpImm op rd rs1 imm) = tt
-fitting-64 (OpImm32 op rd rs1 imm) = tt
+fitting-64 (OpImm32 op rd rs1 imm) = lit≤ tt
 fitting-64 (Op op rd rs1 rs2) = tt
-fitting-64 (Op32 op rd rs1 rs2) = tt
+fitting-64 (Op32 op rd rs1 rs2) = lit≤ tt
 fitting-64 (Fence rd rs1 imm) = tt
 fitting-64 Ecall = tt
 fitting-64 Ebreak = tt
@@ -65,7 +64,7 @@ kept-load Lwu rd rs1 imm = tt
 kept-double : (op : AtomicOp) (m : Atomic) → Fitting 32 (narrowedDouble op m)
 kept-double Lr m = tt
 kept-double Sc m = tt
-kept-double Cas m = cond-all (Fitting 32) (isEven (m .rd) && isEven (m .rs2)) (asPair m) Illegal (lit≤ tt) tt
+kept-double Cas m = cond-all (Fitting 32) (evenPairs m) (asPair m) Illegal (lit≤ tt) tt
 kept-double CasPair m = tt
 kept-double (Rmw op) m = tt
 
@@ -92,9 +91,10 @@ fitting-32 (Amo m) = go (m .width) refl
     go Word e = rw e (lit≤ tt)
     go Double e = kept-double (m .op) m
 
+-- any instruction, as that width has it
+pub fitting-at : (xlen : ℕ) → Xlen xlen → (i : Instr) → Fitting xlen (narrowedAt xlen i)
+fitting-at xlen is i = ⊎-elim (λ (e : xlen ≡ 32). rw e (fitting-32 i)) (λ (e : xlen ≡ 64). rw e (fitting-64 i)) is
+
 pub fitting : (xlen word : ℕ) → Xlen xlen → Fitting xlen (decodeAt xlen word)
 unfolding decodeAt
-fitting xlen word =
-    ⊎-elim
-    (λ (e : xlen ≡ 32). rw e (fitting-32 (decodeOf word)))
-    (λ (e : xlen ≡ 64). rw e (fitting-64 (decodeOf word)))
+fitting xlen word is = fitting-at xlen is (decodeOf word)

@@ -45,7 +45,7 @@ storeBytes Sw = 4
 storeBytes Sd = 8
 
 module _ (xlen : ℕ) where
-  -- 01: "loads sign-extend the same way"; those of unsigned numbers have zeros above what they load, and so has LD
+  -- 01: "loads sign-extend the same way"; those of unsigned numbers have zeros above what they load; LD loads all 64 bits of a register
   abbrev pub extended : LoadOp → ℕ → ℕ
   extended Lb v = signExtend xlen 8 v
   extended Lh v = signExtend xlen 16 v

@@ -46,7 +46,8 @@ module _ (xlen : ℕ) where
   Fits (trap cause value) = Unit {0}
   Fits (effect ws to t) = WritesFit ws × ((to < 2 ^ xlen) × AccessFits t)
 
-  -- what an instruction loads into a register has no more bits than that: so has every word that is decoded at that width
+  -- What an instruction loads into a register has no more bits than that, and OP-32 and OP-IMM-32 are of registers of 64 bits: so it is with every word that
+  -- is decoded at that width.
   abbrev pub Fitting : Instr → Type 0
   Fitting Illegal = Unit {0}
   Fitting (Lui rd imm) = Unit {0}
@@ -57,9 +58,9 @@ module _ (xlen : ℕ) where
   Fitting (Load op rd rs1 imm) = 8 * loadBytes op ≤ xlen
   Fitting (Store op rs1 rs2 imm) = Unit {0}
   Fitting (OpImm op rd rs1 imm) = Unit {0}
-  Fitting (OpImm32 op rd rs1 imm) = Unit {0}
+  Fitting (OpImm32 op rd rs1 imm) = 64 ≤ xlen
   Fitting (Op op rd rs1 rs2) = Unit {0}
-  Fitting (Op32 op rd rs1 rs2) = Unit {0}
+  Fitting (Op32 op rd rs1 rs2) = 64 ≤ xlen
   Fitting (Fence rd rs1 imm) = Unit {0}
   Fitting Ecall = Unit {0}
   Fitting Ebreak = Unit {0}

@@ -1,6 +1,6 @@
 -- Instructions that leave memory as it was, each law over the register width. Assumes nothing.
 use mathlib.Core.Path.{_≡_, refl}
-use mathlib.Core.Bool.{Bool, true, false, cond}
+use mathlib.Core.Bool.{Bool, true, false}
 use mathlib.Core.List.{List}
 use Prim.Native.Nat.{ℕ, _%_}
 use lib.Dec.{eqb}
@@ -24,10 +24,6 @@ module _ (base : ℕ) (mem : List ℕ) where
   unfolding checked Leaves
   memoryBy-checked misaligned outside a n len e l =
       cond-all Leaves (eqb (faultOf misaligned outside a n base len) 0) e (trap (faultOf misaligned outside a n base len) a) l refl
-
-  pub memoryBy-either : (t : Bool) (a b : Exec) → memoryBy base mem a ≡ mem → memoryBy base mem b ≡ mem → memoryBy base mem (cond t a b) ≡ mem
-  unfolding Leaves
-  memoryBy-either t a b p q = cond-all Leaves t a b p q
 
   module _ (xlen : ℕ) where
     pub memoryBy-jump : (rd to pc : ℕ) → memoryBy base mem (execJump xlen rd to pc) ≡ mem

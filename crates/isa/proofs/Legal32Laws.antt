@@ -1,5 +1,5 @@
 -- A word is legal on a 32-bit core exactly if a line of Legal32 has it; and what it is there. Both hold of every number. Assumes nothing.
-use mathlib.Core.Path.{_≡_, refl, sym, subst, _∙_}
+use mathlib.Core.Path.{_≡_, refl, sym, ap, subst, _∙_}
 use mathlib.Core.Logic.{_≢_, _↔_, _⊎_, inl, inr, ⊎-elim}
 use mathlib.Core.Bool.{Bool, true, false, cond, _&&_, _||_}
 use mathlib.Core.List.{List, [], _∷_}
@@ -13,10 +13,11 @@ use Rattle.word.specs.Choose.{Row, _⇒_, select}
 use Rattle.word.specs.Each.{allBelow}
 use Rattle.word.proofs.ChooseLaws.{cond-all, cond-cases, select-all, select-keyed, _also_}
 use Rattle.word.proofs.EachLaws.{all-at}
+use Rattle.word.proofs.TestLaws.{contrary}
 use Rattle.isa.specs.Fields.{bits, rdOf, rs1Of, rs2Of, funct3Of, funct5Of, funct6Of, funct7Of, immI}
 use Rattle.isa.specs.Decode as D
 use Rattle.isa.specs.Decode.{key, decodeOf, isEven}
-use Rattle.isa.specs.Narrow.{ifKept, keptLoad, keptStore, keptImm, narrowed, decodeAt}
+use Rattle.isa.specs.Narrow.{ifKept, keptLoad, keptStore, keptImm, narrowed, decodeAt, isDouble, isCas}
 use Rattle.isa.specs.Legal32.{_oneOf_, Legal32, isLoad, isFence, isOpImm, isShiftLeft, isShiftRight, isAuipc, isStore}
 use Rattle.isa.specs.Legal32.{isAtomic, isLr, isPair, isOp, isSubOrSra, isLui, isBranch, isJalr, isJal, isSystem}
 use Rattle.isa.specs.declared.AtomicOp.{AtomicOp}
@@ -399,36 +400,64 @@ legal-32 w = (λ h. from-decode w (ne-legal (narrowed (decodeOf w)) h), λ h. le
 
 -- ---- and what it is
 
--- a legal word is what it is at 64 bits, or an AMOCAS.D: at 64 bits of doublewords, at 32 of pairs of words, with the word's own registers and ordering bits
+-- AMOCAS.D, as it is at 64 bits
+abbrev casDouble : Instr → Bool
+casDouble (Amo a) = isDouble (a .width) && isCas (a .op)
+casDouble Illegal = false
+casDouble (Lui rd imm) = false
+casDouble (Auipc rd imm) = false
+casDouble (Jal rd imm) = false
+casDouble (Jalr rd rs1 imm) = false
+casDouble (Branch op rs1 rs2 imm) = false
+casDouble (Load op rd rs1 imm) = false
+casDouble (Store op rs1 rs2 imm) = false
+casDouble (OpImm op rd rs1 imm) = false
+casDouble (OpImm32 op rd rs1 imm) = false
+casDouble (Op op rd rs1 rs2) = false
+casDouble (Op32 op rd rs1 rs2) = false
+casDouble (Fence rd rs1 imm) = false
+casDouble Ecall = false
+casDouble Ebreak = false
+
+-- a legal word is no AMOCAS.D and what it is at 64 bits, or an AMOCAS.D: at 64 bits of doublewords, at 32 of pairs of words, with the word's own registers
+-- and ordering bits
 pub same-32 : (w : ℕ) → decodeAt 32 w ≢ Illegal
-    → (decodeAt 32 w ≡ decodeOf w) ⊎ ((decodeOf w ≡ D.atomicAs w Cas Double) × (decodeAt 32 w ≡ D.atomicAs w CasPair Word))
+    → ((decodeOf w ≢ D.atomicAs w Cas Double) × (decodeAt 32 w ≡ decodeOf w))
+    ⊎ ((decodeOf w ≡ D.atomicAs w Cas Double) × (decodeAt 32 w ≡ D.atomicAs w CasPair Word))
 unfolding decodeAt narrowed
 same-32 w h =
-    decoded As w (λ l. absurd l) as-was as-was as-was as-was as-was as-was as-was (λ a. as-was)
-    (λ a. if-kept (keptLoad a) _) (λ a. if-kept (keptStore a) _) (λ a. if-kept (keptImm a (immI w)) _) (λ a. if-kept (keptImm a (bits 25 20 w)) _)
-    (λ l. absurd l) (λ a l. absurd l) (λ a. as-was) (λ a l. absurd l)
+    decoded As w (λ l. absurd l) (as-was refl) (as-was refl) (as-was refl) (as-was refl) (as-was refl) (as-was refl) (as-was refl) (λ a. as-was refl)
+    (λ a. if-kept (keptLoad a) _ refl) (λ a. if-kept (keptStore a) _ refl) (λ a. if-kept (keptImm a (immI w)) _ refl)
+    (λ a. if-kept (keptImm a (bits 25 20 w)) _ refl)
+    (λ l. absurd l) (λ a l. absurd l) (λ a. as-was refl) (λ a l. absurd l)
     (sized Lr (λ l. absurd l)) (sized Sc (λ l. absurd l)) (sized Cas as-pair) (λ d s l. absurd l) (λ a. sized (Rmw a) (λ l. absurd l))
     (ne-legal (narrowed (decodeOf w)) h)
   where
     As : Instr → Type 0
-    As i = Kept i → (narrowed i ≡ i) ⊎ ((i ≡ D.atomicAs w Cas Double) × (narrowed i ≡ D.atomicAs w CasPair Word))
+    As i =
+        Kept i
+        → ((i ≢ D.atomicAs w Cas Double) × (narrowed i ≡ i)) ⊎ ((i ≡ D.atomicAs w Cas Double) × (narrowed i ≡ D.atomicAs w CasPair Word))
 
-    as-was : {A B : Type 0} {i : Instr} → A → (i ≡ i) ⊎ B
-    as-was l = inl refl
+    other : {i : Instr} → casDouble i ≡ false → i ≢ D.atomicAs w Cas Double
+    other f e = contrary (ap casDouble e) f
 
-    if-kept : {B : Type 0} (t : Bool) (i : Instr) → T (legal (ifKept t i)) → (ifKept t i ≡ i) ⊎ B
-    if-kept true i l = inl refl
-    if-kept false i l = absurd l
+    as-was : {A B : Type 0} {i : Instr} → casDouble i ≡ false → A → ((i ≢ D.atomicAs w Cas Double) × (i ≡ i)) ⊎ B
+    as-was f l = inl (other f, refl)
+
+    if-kept : {B : Type 0} (t : Bool) (i : Instr) → casDouble i ≡ false → T (legal (ifKept t i))
+        → ((i ≢ D.atomicAs w Cas Double) × (ifKept t i ≡ i)) ⊎ B
+    if-kept true i f l = inl (other f, refl)
+    if-kept false i f l = absurd l
 
     sized : (a : AtomicOp) → As (D.atomicAs w a Double) → (width : Width) → As (D.atomicAs w a width)
-    sized a double Word = as-was
+    sized a double Word = as-was refl
     sized a double Double = double
 
     as-pair : As (D.atomicAs w Cas Double)
     as-pair l = go (isEven (rdOf w) && isEven (rs2Of w)) l
       where
         go : (t : Bool) → T (legal (ifKept t (D.atomicAs w CasPair Word)))
-            → (ifKept t (D.atomicAs w CasPair Word) ≡ D.atomicAs w Cas Double)
+            → ((D.atomicAs w Cas Double ≢ D.atomicAs w Cas Double) × (ifKept t (D.atomicAs w CasPair Word) ≡ D.atomicAs w Cas Double))
             ⊎ ((D.atomicAs w Cas Double ≡ D.atomicAs w Cas Double) × (ifKept t (D.atomicAs w CasPair Word) ≡ D.atomicAs w CasPair Word))
         go true l = inr (refl, refl)
         go false l = absurd l

@@ -1,5 +1,5 @@
 -- What holds of a word at every register width. Assumes nothing.
-use mathlib.Core.Path.{_≡_, refl}
+use mathlib.Core.Path.{_≡_, refl, _∙_}
 use mathlib.Core.Bool.{Bool, true, false, cond, not, _&&_}
 use Prim.Native.Nat.{ℕ, _+_, _*_, _^_, _<_, _≤_}
 use native.Mathlib.Omega.{arith}
@@ -8,8 +8,9 @@ use lib.Pow.{pow-mono}
 use Rattle.word.specs.Word.{signExtend}
 use Rattle.word.proofs.ChooseLaws.{cond-all}
 use Rattle.isa.specs.Fields.{bits, immB, immJ, lowB, lowJ}
-use Rattle.isa.specs.Decode.{isEven, decodeOf}
-use Rattle.isa.specs.Narrow.{ifKept, keptLoad, keptStore, keptImm, narrowedDouble, narrowedAtomic, narrowed, decodeAt, isDouble, isCas, pairs, lacked}
+use Rattle.isa.specs.Decode.{decodeOf}
+use Rattle.isa.specs.Narrow.{ifKept, keptLoad, keptStore, keptImm, evenPairs, withOp, narrowedDouble, narrowedAtomic, narrowed, narrowedAt, decodeAt}
+use Rattle.isa.specs.Narrow.{isDouble, isCas, lacks, pairedIf, pairedBy, pairedAt}
 use Rattle.isa.specs.Wf.{Regs, Imms}
 use Rattle.isa.specs.declared.AtomicOp.{AtomicOp}
 use Rattle.isa.specs.declared.AtomicOp.the-variants.{Lr, Sc, Cas, CasPair, Rmw}
@@ -29,28 +30,71 @@ decode-64 w = refl
 
 -- the same registers and ordering bits as a pair of words
 abbrev pub asPair : Atomic → Instr
-asPair a = Amo (record { op = CasPair; width = Word; aq = a .aq; rl = a .rl; rd = a .rd; rs1 = a .rs1; rs2 = a .rs2 })
+asPair a = Amo (withOp CasPair Word a)
 
--- an atomic instruction narrowed, by the two tests
-pub narrowed-amo : (a : Atomic) → narrowed (Amo a) ≡ cond (lacked a) Illegal (cond (pairs a) (asPair a) (Amo a))
+-- what a width has of an instruction, by the tests
+pub narrowed-by : (xlen : ℕ) (i : Instr) → narrowedAt xlen i ≡ cond (eqb xlen 32 && lacks i) Illegal (pairedAt xlen i)
 unfolding narrowed
-narrowed-amo a = by-width (a .width)
+narrowed-by xlen i = by (eqb xlen 32) i
   where
-    of-cas : (t : Bool) → ifKept t (asPair a) ≡ cond (not t) Illegal (cond t (asPair a) (Amo a))
-    of-cas true = refl
-    of-cas false = refl
+    same : (b : Bool) (i : Instr) → cond b i i ≡ cond (b && false) Illegal i
+    same true i = refl
+    same false i = refl
 
-    by-op : (op : AtomicOp) → narrowedDouble op a ≡ cond (not (isCas op && (isEven (a .rd) && isEven (a .rs2)))) Illegal (cond (isCas op && (isEven (a .rd) && isEven (a .rs2))) (asPair a) (Amo a))
-    by-op Lr = refl
-    by-op Sc = refl
-    by-op Cas = of-cas (isEven (a .rd) && isEven (a .rs2))
-    by-op CasPair = refl
-    by-op (Rmw op) = refl
+    if-kept : (b t : Bool) (i : Instr) → cond b (ifKept t i) i ≡ cond (b && not t) Illegal i
+    if-kept true true i = refl
+    if-kept true false i = refl
+    if-kept false t i = refl
 
-    by-width : (w : Width)
-        → narrowedAtomic w a ≡ cond (isDouble w && not (isCas (a .op) && (isEven (a .rd) && isEven (a .rs2)))) Illegal (cond (isDouble w && (isCas (a .op) && (isEven (a .rd) && isEven (a .rs2)))) (asPair a) (Amo a))
-    by-width Word = refl
-    by-width Double = by-op (a .op)
+    gone : (b : Bool) (i : Instr) → cond b Illegal i ≡ cond (b && true) Illegal i
+    gone true i = refl
+    gone false i = refl
+
+    of-double : (b : Bool) (op : AtomicOp) (a : Atomic)
+        → cond b (narrowedDouble op a) (Amo a)
+        ≡ cond (b && not (isCas op && evenPairs a)) Illegal (Amo (pairedIf (b && (isCas op && evenPairs a)) a))
+    of-double true Lr a = refl
+    of-double true Sc a = refl
+    of-double true Cas a = go (evenPairs a)
+      where
+        go : (t : Bool) → ifKept t (asPair a) ≡ cond (not t) Illegal (Amo (pairedIf t a))
+        go true = refl
+        go false = refl
+    of-double true CasPair a = refl
+    of-double true (Rmw op) a = refl
+    of-double false op a = refl
+
+    of-width : (b : Bool) (width : Width) (a : Atomic)
+        → cond b (narrowedAtomic width a) (Amo a)
+        ≡ cond (b && (isDouble width && not (isDouble width && (isCas (a .op) && evenPairs a)))) Illegal
+        (Amo (pairedIf (b && (isDouble width && (isCas (a .op) && evenPairs a))) a))
+    of-width true Word a = refl
+    of-width false Word a = refl
+    of-width b Double a = of-double b (a .op) a
+
+    by : (b : Bool) (i : Instr) → cond b (narrowed i) i ≡ cond (b && lacks i) Illegal (pairedBy b i)
+    by b Illegal = same b Illegal
+    by b (Lui rd imm) = same b (Lui rd imm)
+    by b (Auipc rd imm) = same b (Auipc rd imm)
+    by b (Jal rd imm) = same b (Jal rd imm)
+    by b (Jalr rd rs1 imm) = same b (Jalr rd rs1 imm)
+    by b (Branch op rs1 rs2 imm) = same b (Branch op rs1 rs2 imm)
+    by b (Load op rd rs1 imm) = if-kept b (keptLoad op) (Load op rd rs1 imm)
+    by b (Store op rs1 rs2 imm) = if-kept b (keptStore op) (Store op rs1 rs2 imm)
+    by b (OpImm op rd rs1 imm) = if-kept b (keptImm op imm) (OpImm op rd rs1 imm)
+    by b (OpImm32 op rd rs1 imm) = gone b (OpImm32 op rd rs1 imm)
+    by b (Op op rd rs1 rs2) = same b (Op op rd rs1 rs2)
+    by b (Op32 op rd rs1 rs2) = gone b (Op32 op rd rs1 rs2)
+    by b (Fence rd rs1 imm) = same b (Fence rd rs1 imm)
+    by b Ecall = same b Ecall
+    by b Ebreak = same b Ebreak
+    by b (Amo a) = of-width b (a .width) a
+
+pub lacked-gone : (i : Instr) → lacks i ≡ true → narrowed i ≡ Illegal
+lacked-gone i t = narrowed-by 32 i ∙ rw t
+
+pub had-paired : (i : Instr) → lacks i ≡ false → narrowed i ≡ pairedBy true i
+had-paired i f = narrowed-by 32 i ∙ rw f
 
 -- what holds of an instruction, of Illegal and of a pair of words holds of it narrowed
 module _ (P : Instr → Type 0) (illegal : P Illegal) (pair : (a : Atomic) → P (Amo a) → P (asPair a)) where
@@ -60,7 +104,7 @@ module _ (P : Instr → Type 0) (illegal : P Illegal) (pair : (a : Atomic) → P
   from-double : (op : AtomicOp) (a : Atomic) → P (Amo a) → P (narrowedDouble op a)
   from-double Lr a p = illegal
   from-double Sc a p = illegal
-  from-double Cas a p = kept (isEven (a .rd) && isEven (a .rs2)) (asPair a) (pair a p)
+  from-double Cas a p = kept (evenPairs a) (asPair a) (pair a p)
   from-double CasPair a p = illegal
   from-double (Rmw op) a p = illegal
 

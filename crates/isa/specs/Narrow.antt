@@ -24,7 +24,7 @@ use Rattle.isa.specs.declared.Instr.the-variants.{OpImm, OpImm32, Op, Op
 abbrev pub ifKept : Bool → Instr → Instr
 ifKept kept i = cond kept i Illegal
 
--- RV32I has LB, LH, LW, LBU and LHU, "and SB, SH, SW": LD, LWU and SD are RV64I's
+-- RV32I has LB, LH, LW, LBU, LHU, SB, SH and SW; LD, LWU and SD are RV64I's
 abbrev pub keptLoad : LoadOp → Bool
 keptLoad Lb = true
 keptLoad Lh = true
@@ -54,10 +54,15 @@ keptImm Or imm = true
 keptImm And imm = true
 
 -- 02 [10]: "AMOCAS.D on even pairs by 001's rules": a pair of words. 001: an odd rd or rs2 is reserved
+abbrev pub evenPairs : Atomic → Bool
+evenPairs a = isEven (a .rd) && isEven (a .rs2)
+
+-- the same registers and ordering bits with another operation and width
+abbrev pub withOp : AtomicOp → Width → Atomic → Atomic
+withOp op width a = record { op = op; width = width; aq = a .aq; rl = a .rl; rd = a .rd; rs1 = a .rs1; rs2 = a .rs2 }
+
 abbrev pub pairOfWords : Atomic → Instr
-pairOfWords a =
-    ifKept (isEven (a .rd) && isEven (a .rs2))
-    (Amo (record { op = CasPair; width = Word; aq = a .aq; rl = a .rl; rd = a .rd; rs1 = a .rs1; rs2 = a .rs2 }))
+pairOfWords a = ifKept (evenPairs a) (Amo (withOp CasPair Word a))
 
 -- of width D: "LR.D, SC.D, D AMOs and all Q are cause 2"
 abbrev pub narrowedDouble : AtomicOp → Atomic → Instr
@@ -98,7 +103,7 @@ narrowedAt xlen i = cond (eqb xlen 32) (narrowed i) i
 unfoldable pub decodeAt : ℕ → ℕ → Instr
 decodeAt xlen w = narrowedAt xlen (decodeOf w)
 
--- ---- the same of an atomic instruction as two tests
+-- ---- the same as tests, by which the code narrows
 
 abbrev pub isDouble : Width → Bool
 isDouble Word = false
@@ -111,10 +116,50 @@ isCas Cas = true
 isCas CasPair = false
 isCas (Rmw op) = false
 
--- it becomes a pair of words
+-- an atomic instruction becomes a pair of words
 abbrev pub pairs : Atomic → Bool
-pairs a = isDouble (a .width) && (isCas (a .op) && (isEven (a .rd) && isEven (a .rs2)))
+pairs a = isDouble (a .width) && (isCas (a .op) && evenPairs a)
 
--- it isn't kept
-abbrev pub lacked : Atomic → Bool
-lacked a = isDouble (a .width) && not (isCas (a .op) && (isEven (a .rd) && isEven (a .rs2)))
+-- an instruction isn't kept
+abbrev pub lacks : Instr → Bool
+lacks Illegal = false
+lacks (Lui rd imm) = false
+lacks (Auipc rd imm) = false
+lacks (Jal rd imm) = false
+lacks (Jalr rd rs1 imm) = false
+lacks (Branch op rs1 rs2 imm) = false
+lacks (Load op rd rs1 imm) = not (keptLoad op)
+lacks (Store op rs1 rs2 imm) = not (keptStore op)
+lacks (OpImm op rd rs1 imm) = not (keptImm op imm)
+lacks (OpImm32 op rd rs1 imm) = true
+lacks (Op op rd rs1 rs2) = false
+lacks (Op32 op rd rs1 rs2) = true
+lacks (Fence rd rs1 imm) = false
+lacks Ecall = false
+lacks Ebreak = false
+lacks (Amo a) = isDouble (a .width) && not (pairs a)
+
+-- what an atomic instruction is, by whether it becomes a pair of words; and what an instruction is that isn't lacked, by whether registers have 32 bits
+abbrev pub pairedIf : Bool → Atomic → Atomic
+pairedIf paired a = withOp (cond paired CasPair (a .op)) (cond paired Word (a .width)) a
+
+abbrev pub pairedBy : Bool → Instr → Instr
+pairedBy narrow Illegal = Illegal
+pairedBy narrow (Lui rd imm) = Lui rd imm
+pairedBy narrow (Auipc rd imm) = Auipc rd imm
+pairedBy narrow (Jal rd imm) = Jal rd imm
+pairedBy narrow (Jalr rd rs1 imm) = Jalr rd rs1 imm
+pairedBy narrow (Branch op rs1 rs2 imm) = Branch op rs1 rs2 imm
+pairedBy narrow (Load op rd rs1 imm) = Load op rd rs1 imm
+pairedBy narrow (Store op rs1 rs2 imm) = Store op rs1 rs2 imm
+pairedBy narrow (OpImm op rd rs1 imm) = OpImm op rd rs1 imm
+pairedBy narrow (OpImm32 op rd rs1 imm) = OpImm32 op rd rs1 imm
+pairedBy narrow (Op op rd rs1 rs2) = Op op rd rs1 rs2
+pairedBy narrow (Op32 op rd rs1 rs2) = Op32 op rd rs1 rs2
+pairedBy narrow (Fence rd rs1 imm) = Fence rd rs1 imm
+pairedBy narrow Ecall = Ecall
+pairedBy narrow Ebreak = Ebreak
+pairedBy narrow (Amo a) = Amo (pairedIf (narrow && pairs a) a)
+
+abbrev pub pairedAt : ℕ → Instr → Instr
+pairedAt xlen i = pairedBy (eqb xlen 32) i

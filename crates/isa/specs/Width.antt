@@ -1,4 +1,4 @@
--- The widths of atomic instructions: funct3 2 is W, 3 is D.
+-- The widths of atomic instructions: funct3 2 is W, 3 is D. Of an AMOCAS of a pair the width is that of one register: Q has D, and the D of RV32 has W.
 -- RULES 4.4; `pairBytes` 4.8.
 use Prim.Native.Nat.{ℕ}
 use Rattle.isa.specs.declared.Width.{Width}

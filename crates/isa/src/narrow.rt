@@ -7,8 +7,8 @@ use crate::LoadOp;
 use crate::StoreOp;
 use crate::Width;
 ghost use mathlib.Core.Path.{_≡_};
-ghost use Rattle.isa.specs.Narrow.{ifKept, keptLoad, keptStore, keptImm, isDouble, isCas, pairs, lacked};
-ghost use Rattle.isa.specs.Narrow.{pairOfWords, narrowedAtomic, narrowed};
+ghost use mathlib.Core.Bool.{cond};
+ghost use Rattle.isa.specs.Narrow.{keptLoad, keptStore, keptImm, isDouble, isCas, pairs, lacks, pairedIf, narrowed};
 
 pub fn kept_load(op: LoadOp) -> bool
     ensures { λ r. ⌜ r ≡ keptLoad op ⌝ }
@@ -83,61 +83,59 @@ pub fn pairs(a: Atomic) -> bool
     is_double(width) & (is_cas(op) & ((a.rd % 2 == 0) & (a.rs2 % 2 == 0)))
 }
 
-// Whether RV32 lacks it.
-pub fn lacked(a: Atomic) -> bool
-    ensures { λ r. ⌜ r ≡ lacked a ⌝ }
+// Whether RV32 lacks an instruction: of the atomic ones of width D it has AMOCAS.D alone.
+pub fn lacks(i: Instr) -> bool
+    ensures { λ r. ⌜ r ≡ lacks i ⌝ }
 {
-    let op = a.op;
-    let width = a.width;
-    is_double(width) & !(is_cas(op) & ((a.rd % 2 == 0) & (a.rs2 % 2 == 0)))
-}
-
-// AMOCAS.D is of a pair of words.
-fn pair_of_words(a: Atomic) -> Instr
-    ensures { λ r. ⌜ r ≡ pairOfWords a ⌝ }
-{
-    if (a.rd % 2 == 0) & (a.rs2 % 2 == 0) {
-        return Instr::Amo(Atomic {
-            op: AtomicOp::CasPair,
-            width: Width::Word,
-            aq: a.aq,
-            rl: a.rl,
-            rd: a.rd,
-            rs1: a.rs1,
-            rs2: a.rs2,
-        });
-    }
-    Instr::Illegal
-}
-
-// Of the atomic instructions of width D, AMOCAS.D alone is left.
-fn narrow_atomic(a: Atomic) -> Instr
-    ensures { λ r. ⌜ r ≡ narrowedAtomic (a .width) a ⌝ }
-{
-    let op = a.op;
-    let width = a.width;
-    match width {
-        Width::Word => Instr::Amo(a),
-        Width::Double => match op {
-            AtomicOp::Lr => Instr::Illegal,
-            AtomicOp::Sc => Instr::Illegal,
-            AtomicOp::Cas => pair_of_words(a),
-            AtomicOp::CasPair => Instr::Illegal,
-            AtomicOp::Rmw(_) => Instr::Illegal,
-        },
+    match i {
+        Instr::Illegal => false,
+        Instr::Lui { .. } => false,
+        Instr::Auipc { .. } => false,
+        Instr::Jal { .. } => false,
+        Instr::Jalr { .. } => false,
+        Instr::Branch { .. } => false,
+        Instr::Load {
+            op,
+            rd: _,
+            rs1: _,
+            imm: _,
+        } => !kept_load(op),
+        Instr::Store {
+            op,
+            rs1: _,
+            rs2: _,
+            imm: _,
+        } => !kept_store(op),
+        Instr::OpImm {
+            op,
+            rd: _,
+            rs1: _,
+            imm,
+        } => !kept_imm(op, imm),
+        Instr::OpImm32 { .. } => true,
+        Instr::Op { .. } => false,
+        Instr::Op32 { .. } => true,
+        Instr::Fence { .. } => false,
+        Instr::Ecall => false,
+        Instr::Ebreak => false,
+        Instr::Amo(a) => double_lacked(a),
     }
 }
 
-// The instruction, if it is kept.
-fn if_kept(kept: bool, i: Instr) -> Instr
-    ensures { λ r. ⌜ r ≡ ifKept kept i ⌝ }
+fn double_lacked(a: Atomic) -> bool
+    ensures { λ r. ⌜ r ≡ lacks (Instr.Amo a) ⌝ }
 {
-    if kept { i } else { Instr::Illegal }
+    let width = a.width;
+    is_double(width) & !pairs(a)
 }
 
+// What an instruction is where registers have 32 bits.
 pub fn narrow(i: Instr) -> Instr
     ensures { λ r. ⌜ r ≡ narrowed i ⌝ }
 {
+    if lacks(i) {
+        return Instr::Illegal;
+    }
     match i {
         Instr::Illegal => i,
         Instr::Lui { .. } => i,
@@ -145,30 +143,42 @@ pub fn narrow(i: Instr) -> Instr
         Instr::Jal { .. } => i,
         Instr::Jalr { .. } => i,
         Instr::Branch { .. } => i,
-        Instr::Load {
-            op,
-            rd: _,
-            rs1: _,
-            imm: _,
-        } => if_kept(kept_load(op), i),
-        Instr::Store {
-            op,
-            rs1: _,
-            rs2: _,
-            imm: _,
-        } => if_kept(kept_store(op), i),
-        Instr::OpImm {
-            op,
-            rd: _,
-            rs1: _,
-            imm,
-        } => if_kept(kept_imm(op, imm), i),
-        Instr::OpImm32 { .. } => Instr::Illegal,
+        Instr::Load { .. } => i,
+        Instr::Store { .. } => i,
+        Instr::OpImm { .. } => i,
+        Instr::OpImm32 { .. } => i,
         Instr::Op { .. } => i,
-        Instr::Op32 { .. } => Instr::Illegal,
+        Instr::Op32 { .. } => i,
         Instr::Fence { .. } => i,
         Instr::Ecall => i,
         Instr::Ebreak => i,
-        Instr::Amo(a) => narrow_atomic(a),
+        Instr::Amo(a) => Instr::Amo(paired_if(pairs(a), a)),
     }
+}
+
+// AMOCAS.D is of a pair of words there.
+fn paired_if(paired: bool, a: Atomic) -> Atomic
+    ensures { λ r. ⌜ r ≡ pairedIf paired a ⌝ }
+{
+    Atomic {
+        op: op_if(paired, a),
+        width: width_if(paired, a),
+        aq: a.aq,
+        rl: a.rl,
+        rd: a.rd,
+        rs1: a.rs1,
+        rs2: a.rs2,
+    }
+}
+
+pub fn op_if(paired: bool, a: Atomic) -> AtomicOp
+    ensures { λ r. ⌜ r ≡ cond paired AtomicOp.CasPair (a .op) ⌝ }
+{
+    if paired { AtomicOp::CasPair } else { a.op }
+}
+
+pub fn width_if(paired: bool, a: Atomic) -> Width
+    ensures { λ r. ⌜ r ≡ cond paired Width.Word (a .width) ⌝ }
+{
+    if paired { Width::Word } else { a.width }
 }

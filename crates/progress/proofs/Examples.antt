@@ -1,5 +1,6 @@
 -- Loops that meet the start of the claim, and runs of them that finish in each of the three ways; what a store into the set does, by its size, and a
--- device write, by the version; and a loop with a JALR that 2.0 accepts and that goes round for ever. Computed.
+-- device write, by the version; a loop of the 32-bit core at the end of its addresses; and one with a JALR that 2.0 accepts and that goes round for ever.
+-- Computed.
 -- Assumes nothing.
 use mathlib.Core.Path.{_≡_, refl, sym, ap, _∙_, subst}
 use mathlib.Core.Logic.{_≢_, _⊎_, inl, inr}

@@ -48,7 +48,7 @@ steps h (e ∷ es) = cond (isStep h e) (suc (steps h es)) (steps h es)
 
 -- A memory at base; hart h; a block of words whose place 0 stands at p and is the LR lr; the LR's address addr.
 module _ (base h p addr : ℕ) (words : List ℕ) (lr : Atomic) where
-  -- where the claim starts, with a block that the checker accepts under these settings
+  -- where the claim starts, with a block that the checker accepts under these settings, meant to be of the machine's own kind
   pub record StartUnder (settings : Settings) (m : Machine) : Type 0 where
     -- "a memory and a state that 1 and 2 don't refuse, with any reservations": a value of the state's type, whose arrays have their lengths
     pub valid : Valid base m

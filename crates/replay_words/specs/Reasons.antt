@@ -77,7 +77,8 @@ pub record Replayable (base : ℕ) (mem : List ℕ) (s : State) (log : List ℕ)
   pub whole : length log % 48 ≡ 0
   pub some : 0 < length log
 
--- the refusals of a replay, in the order they are tried: 1 and 2 (01, with 02 [5]), then "12, log length not a multiple of 48", then "13, a log of no rows"
+-- the refusals of a replay, in the order they are tried: 1 and 2 (01, with 02 [5], [7] and [10]), then "12, log length not a multiple of 48", then "13, a
+-- log of no rows"
 pub data RefusedBy (base : ℕ) (mem : List ℕ) (s : State) (log : List ℕ) (number : ℕ) : Type 0 where
   memory : number ≡ 1 → WrongMemory (s .settings) base (length mem) → RefusedBy base mem s log number
   state : number ≡ 2 → MemoryRules (s .settings) base (length mem) → (StateRules base (length mem) s → ⊥) → RefusedBy base mem s log number

@@ -23,7 +23,7 @@ use Rattle.notices.specs.Happened.{atomicAddress, atomicSize}
 abbrev pub Reservationless : State → Type 0
 Reservationless s = (k : ℕ) → k < s .count → reservationOf s k ≡ None
 
--- hart h's next step is this SC, of either width, with any ordering bits and registers
+-- hart h's next step is this SC, of either width (W alone where registers have 32 bits), with any ordering bits and registers
 pub record FetchesSc (base : ℕ) (m : Machine) (h : ℕ) (sc : Atomic) : Type 0 where
   pub fetches : Fetches base m h (Amo sc)
   pub operation : sc .op ≡ Sc

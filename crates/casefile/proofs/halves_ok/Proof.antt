@@ -1,10 +1,10 @@
 use borrow.Author.Needs.{needs}
 use mathlib.Core.Path.{_≡_, sym, _∙_}
-use mathlib.Core.Bool.{Bool, true}
+use mathlib.Core.Bool.{Bool, true, false}
 use mathlib.Core.List.{List}
 use Prim.Native.Nat.{ℕ, _*_, _-_, _^_, _≤_, _<_}
 use native.Mathlib.Omega.{arith}
-use lib.Dec.{ltb}
+use lib.Dec.{eqb, ltb}
 use borrow.Author.Tests.{eq-eqb, ne-eqb, lt-ltb, le-ltb}
 use Rattle.word.specs.Each.{allBelow}
 use Rattle.word.proofs.EachLaws.{all-none, all-more, all-fails}
@@ -23,7 +23,9 @@ abbrev μ-loop : tie.MeasureT-loop
 μ-loop body count kind i₀ i = 32 * count - i
 
 returns : tie.Need-returns Inv-loop μ-loop
-returns c = rw (ne-eqb _ _ (c .if1 .taken))
+returns c =
+    let wide : eqb (c .before .before .args .kind) 1 ≡ false = ne-eqb _ _ (c .if1 .taken) in
+    rw wide
 
 loop-holds : tie.Need-loop-holds Inv-loop μ-loop
 loop-holds c = (search needs, all-none _)

@@ -1,5 +1,5 @@
 use mathlib.Core.Logic.{inl, inr}
-use mathlib.Core.Path.{refl, sym, _∙_}
+use mathlib.Core.Path.{refl}
 use native.Mathlib.Omega.{arith}
 use Rattle.word.proofs.WordLaws.{xlen-else}
 use borrow.Author.Needs.{needs}
@@ -15,32 +15,11 @@ compute-requires c κs = (inr refl, omega arith, omega arith)
 returns : tie.Need-returns
 returns c = rw (c .before .if1 .taken, ← c .before .before .reg .ensures) (c .compute .ensures 0)
 
-kept-imm-requires : tie.Need-kept-imm-requires
-kept-imm-requires c κs = search needs
-
 compute-requires-2 : tie.Need-compute-requires-2
 compute-requires-2 c κs = (inl refl, omega arith, omega arith)
 
 returns-2 : tie.Need-returns-2
-returns-2 c =
-    rw (
-      xlen-else _ (c .before .before .before .before .before .pre .1) (c .before .before .before .if1 .left),
-      ← c .before .before .before .before .reg .ensures,
-      sym (c .before .before .kept-imm .ensures) ∙ c .before .if2 .taken,
-    )
-    (c .compute2 .ensures 0)
-
-returns-3 : tie.Need-returns-3
-returns-3 c = rw (xlen-else _ (c .before .before .before .before .pre .1) (c .before .before .if1 .left), sym (c .before .kept-imm .ensures) ∙ c .if2 .left)
+returns-2 c = rw (xlen-else _ (c .before .before .before .pre .1) (c .before .if1 .left), ← c .before .before .reg .ensures) (c .compute2 .ensures 0)
 
 pub op-imm-spec : {M : Type 1} → statement M
-op-imm-spec =
-    tie.close
-    (tie.spec
-    reg-requires
-    compute-requires
-    returns
-    kept-imm-requires
-    compute-requires-2
-    returns-2
-    returns-3)
+op-imm-spec = tie.close (tie.spec reg-requires compute-requires returns compute-requires-2 returns-2)

@@ -1,8 +1,9 @@
-use mathlib.Core.Path.{refl}
+use mathlib.Core.Path.{_≡_, refl}
 use borrow.Author.Tests.{eq-eqb, ne-eqb}
 use native.Mathlib.Omega.{arith}
 use lib.Pow.{pow-pos}
 use Rattle.word.proofs.WordLaws.{low-lt}
+use Rattle.isa.specs.Width.{bitsOf}
 use Rattle.effect.specs.Execute.{pairAt}
 use borrow.Author.Needs.{needs}
 use Rattle.dispatch.proofs.reg_pair.Statement.{statement}
@@ -33,7 +34,8 @@ wrap-requires-2 c κs = search needs
 returns-2 : tie.Need-returns-2
 unfolding pairAt
 returns-2 c =
-    let k = c .before .before .before .before .bits-of .ensures .0 in
+    let a = c .before .before .before .before .before .before .args in
+    let k : c .before .before .before .before .bits-of .result ≡ bitsOf (a .w) = c .before .before .before .before .bits-of .ensures .0 in
     rw (
       ne-eqb _ _ (c .before .before .before .before .before .if1 .left),
       ← k,

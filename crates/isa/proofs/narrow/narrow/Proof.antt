@@ -1,7 +1,14 @@
-use Rattle.isa.specs.Narrow.{narrowed}
+use mathlib.Core.Path.{sym, _∙_}
+use Rattle.isa.proofs.NarrowLaws.{lacked-gone, had-paired}
 use borrow.Author.Needs.{needs}
 use Rattle.isa.proofs.narrow.narrow.Statement.{statement}
 use Rattle.isa.proofs.narrow.narrow.Tie as tie
+
+lacks-requires : tie.Need-lacks-requires
+lacks-requires c κs = search needs
+
+returns : tie.Need-returns
+returns c = sym (lacked-gone _ (sym (c .before .lacks .ensures) ∙ c .if1 .taken))
 
 enum-told : tie.Need-enum-told
 enum-told c = search needs
@@ -21,33 +28,6 @@ enum-told-5 c = search needs
 enum-told-6 : tie.Need-enum-told-6
 enum-told-6 c = search needs
 
-enum-known-i : tie.Need-enum-known-i
-enum-known-i c = search needs
-
-kept-load-requires : tie.Need-kept-load-requires
-kept-load-requires c κs = search needs
-
-if-kept-requires : tie.Need-if-kept-requires
-if-kept-requires c κs = search needs
-
-enum-known-i-2 : tie.Need-enum-known-i-2
-enum-known-i-2 c = search needs
-
-kept-store-requires : tie.Need-kept-store-requires
-kept-store-requires c κs = search needs
-
-if-kept-requires-2 : tie.Need-if-kept-requires-2
-if-kept-requires-2 c κs = search needs
-
-enum-known-i-3 : tie.Need-enum-known-i-3
-enum-known-i-3 c = search needs
-
-kept-imm-requires : tie.Need-kept-imm-requires
-kept-imm-requires c κs = search needs
-
-if-kept-requires-3 : tie.Need-if-kept-requires-3
-if-kept-requires-3 c κs = search needs
-
 enum-told-7 : tie.Need-enum-told-7
 enum-told-7 c = search needs
 
@@ -66,104 +46,129 @@ enum-told-11 c = search needs
 enum-told-12 : tie.Need-enum-told-12
 enum-told-12 c = search needs
 
-enum-known-i-4 : tie.Need-enum-known-i-4
-enum-known-i-4 c = search needs
+enum-told-13 : tie.Need-enum-told-13
+enum-told-13 c = search needs
 
-narrow-atomic-requires : tie.Need-narrow-atomic-requires
-narrow-atomic-requires c κs = search needs
+enum-told-14 : tie.Need-enum-told-14
+enum-told-14 c = search needs
 
-returns : tie.Need-returns
-unfolding narrowed
-returns c = rw (c .enum-told .given .1)
+enum-told-15 : tie.Need-enum-told-15
+enum-told-15 c = search needs
+
+enum-known-i : tie.Need-enum-known-i
+enum-known-i c = search needs
+
+pairs-requires : tie.Need-pairs-requires
+pairs-requires c κs = search needs
+
+paired-if-requires : tie.Need-paired-if-requires
+paired-if-requires c κs = search needs
 
 returns-2 : tie.Need-returns-2
-unfolding narrowed
-returns-2 c = rw (c .enum-told2 .given .1)
+returns-2 c =
+    let has = sym (c .before .before .before .lacks .ensures) ∙ c .before .before .if1 .left in
+    sym (had-paired _ has ∙ rw (c .enum-told .given .1))
 
 returns-3 : tie.Need-returns-3
-unfolding narrowed
-returns-3 c = rw (c .enum-told3 .given .1)
+returns-3 c =
+    let has = sym (c .before .before .before .lacks .ensures) ∙ c .before .before .if1 .left in
+    sym (had-paired _ has ∙ rw (c .enum-told2 .given .1))
 
 returns-4 : tie.Need-returns-4
-unfolding narrowed
-returns-4 c = rw (c .enum-told4 .given .1)
+returns-4 c =
+    let has = sym (c .before .before .before .lacks .ensures) ∙ c .before .before .if1 .left in
+    sym (had-paired _ has ∙ rw (c .enum-told3 .given .1))
 
 returns-5 : tie.Need-returns-5
-unfolding narrowed
-returns-5 c = rw (c .enum-told5 .given .1)
+returns-5 c =
+    let has = sym (c .before .before .before .lacks .ensures) ∙ c .before .before .if1 .left in
+    sym (had-paired _ has ∙ rw (c .enum-told4 .given .1))
 
 returns-6 : tie.Need-returns-6
-unfolding narrowed
-returns-6 c = rw (c .enum-told6 .given .1)
+returns-6 c =
+    let has = sym (c .before .before .before .lacks .ensures) ∙ c .before .before .if1 .left in
+    sym (had-paired _ has ∙ rw (c .enum-told5 .given .1))
 
 returns-7 : tie.Need-returns-7
-unfolding narrowed
-returns-7 c = rw (c .if-kept .ensures, c .before .kept-load .ensures, c .before .before .before .i .given .1)
+returns-7 c =
+    let has = sym (c .before .before .before .lacks .ensures) ∙ c .before .before .if1 .left in
+    sym (had-paired _ has ∙ rw (c .enum-told6 .given .1))
 
 returns-8 : tie.Need-returns-8
-unfolding narrowed
-returns-8 c = rw (c .if-kept2 .ensures, c .before .kept-store .ensures, c .before .before .before .i2 .given .1)
+returns-8 c =
+    let has = sym (c .before .before .before .lacks .ensures) ∙ c .before .before .if1 .left in
+    sym (had-paired _ has ∙ rw (c .enum-told7 .given .1))
 
 returns-9 : tie.Need-returns-9
-unfolding narrowed
-returns-9 c = rw (c .if-kept3 .ensures, c .before .kept-imm .ensures, c .before .before .before .i3 .given .1)
+returns-9 c =
+    let has = sym (c .before .before .before .lacks .ensures) ∙ c .before .before .if1 .left in
+    sym (had-paired _ has ∙ rw (c .enum-told8 .given .1))
 
 returns-10 : tie.Need-returns-10
-unfolding narrowed
-returns-10 c = rw (c .enum-told7 .given .1)
+returns-10 c =
+    let has = sym (c .before .before .before .lacks .ensures) ∙ c .before .before .if1 .left in
+    sym (had-paired _ has ∙ rw (c .enum-told9 .given .1))
 
 returns-11 : tie.Need-returns-11
-unfolding narrowed
-returns-11 c = rw (c .enum-told8 .given .1)
+returns-11 c =
+    let has = sym (c .before .before .before .lacks .ensures) ∙ c .before .before .if1 .left in
+    sym (had-paired _ has ∙ rw (c .enum-told10 .given .1))
 
 returns-12 : tie.Need-returns-12
-unfolding narrowed
-returns-12 c = rw (c .enum-told9 .given .1)
+returns-12 c =
+    let has = sym (c .before .before .before .lacks .ensures) ∙ c .before .before .if1 .left in
+    sym (had-paired _ has ∙ rw (c .enum-told11 .given .1))
 
 returns-13 : tie.Need-returns-13
-unfolding narrowed
-returns-13 c = rw (c .enum-told10 .given .1)
+returns-13 c =
+    let has = sym (c .before .before .before .lacks .ensures) ∙ c .before .before .if1 .left in
+    sym (had-paired _ has ∙ rw (c .enum-told12 .given .1))
 
 returns-14 : tie.Need-returns-14
-unfolding narrowed
-returns-14 c = rw (c .enum-told11 .given .1)
+returns-14 c =
+    let has = sym (c .before .before .before .lacks .ensures) ∙ c .before .before .if1 .left in
+    sym (had-paired _ has ∙ rw (c .enum-told13 .given .1))
 
 returns-15 : tie.Need-returns-15
-unfolding narrowed
-returns-15 c = rw (c .enum-told12 .given .1)
+returns-15 c =
+    let has = sym (c .before .before .before .lacks .ensures) ∙ c .before .before .if1 .left in
+    sym (had-paired _ has ∙ rw (c .enum-told14 .given .1))
 
 returns-16 : tie.Need-returns-16
-unfolding narrowed
-returns-16 c = rw (c .before .before .i4 .given .1) (c .narrow-atomic .ensures)
+returns-16 c =
+    let has = sym (c .before .before .before .lacks .ensures) ∙ c .before .before .if1 .left in
+    sym (had-paired _ has ∙ rw (c .enum-told15 .given .1))
+
+returns-17 : tie.Need-returns-17
+returns-17 c =
+    let found = c .before .before .before in
+    let has = sym (found .before .before .before .lacks .ensures) ∙ found .before .before .if1 .left in
+    sym (had-paired _ has ∙ rw (found .i .given .1, c .paired-if .ensures, c .before .pairs .ensures))
 
 pub narrow-spec : {M : Type 1} → statement M
 narrow-spec =
     tie.close
     (tie.spec
+    lacks-requires
+    returns
     enum-told
     enum-told-2
     enum-told-3
     enum-told-4
     enum-told-5
     enum-told-6
-    enum-known-i
-    kept-load-requires
-    if-kept-requires
-    enum-known-i-2
-    kept-store-requires
-    if-kept-requires-2
-    enum-known-i-3
-    kept-imm-requires
-    if-kept-requires-3
     enum-told-7
     enum-told-8
     enum-told-9
     enum-told-10
     enum-told-11
     enum-told-12
-    enum-known-i-4
-    narrow-atomic-requires
-    returns
+    enum-told-13
+    enum-told-14
+    enum-told-15
+    enum-known-i
+    pairs-requires
+    paired-if-requires
     returns-2
     returns-3
     returns-4
@@ -178,4 +183,5 @@ narrow-spec =
     returns-13
     returns-14
     returns-15
-    returns-16)
+    returns-16
+    returns-17)
