@@ -8,16 +8,17 @@
  * say: a pointer is not NULL, also where its length is 0; its length in bytes follows it, and that many bytes are the
  * caller's; a buffer that is written overlaps no other argument. A call needs up to 16 KiB of stack.
  *
- * The contracts are in crates/capi/src/lib.rt, steps.rt and replay.rt, the numbers in crates/capi/specs/Answers.antt,
- * Events.antt and Replay.antt.
+ * The contracts are in crates/capi/src/lib.rt, steps.rt, replay.rt and settings_files.rt, the numbers in
+ * crates/capi/specs/Answers.antt, Events.antt, Replay.antt and Boards.antt.
  *
  * The machine is performed in two ways: floecavern_report takes a whole case file; floecavern_step,
  * floecavern_device_write, floecavern_yield and floecavern_run take a state and a memory that the caller keeps, and so
  * does floecavern_replay, which compares a board's step log with the model. floecavern_check_loop and
- * floecavern_check_loop_for look at a block of words alone.
+ * floecavern_check_loop_for look at a block of words alone, and floecavern_read_settings and floecavern_write_settings
+ * at a settings file, which says what boards are set to.
  *
- * Those eight functions take bytes and answer a number. The second half of this file is the typed form, for programs:
- * inline functions over the eight, with a machine, events and outcomes as structs. Compiles as C89 to C17 and as C++.
+ * Those ten functions take bytes and answer a number. The second half of this file is the typed form, for programs:
+ * inline functions over the ten, with a machine, events and outcomes as structs. Compiles as C89 to C17 and as C++.
  */
 #ifndef FLOECAVERN_H
 #define FLOECAVERN_H
@@ -30,9 +31,9 @@
  * thing: FLOECAVERN_A_2_0 and FLOECAVERN_A_2_1, below.) The library has to be of the same one: a state may have another
  * size in another version, and a state of a wrong size is answered FLOECAVERN_BAD_SIZE. The typed form makes of that a
  * refusal whose text is "no refusal of the model", first of all in floecavern_machine_start. */
-#define FLOECAVERN_VERSION "0.8.0"
+#define FLOECAVERN_VERSION "0.9.0"
 #define FLOECAVERN_VERSION_MAJOR 0
-#define FLOECAVERN_VERSION_MINOR 8
+#define FLOECAVERN_VERSION_MINOR 9
 #define FLOECAVERN_VERSION_PATCH 0
 
 /* A condition that must hold where this is compiled: name is an identifier that no other assertion has. */
@@ -63,10 +64,16 @@ extern "C" {
 #define FLOECAVERN_KIND_64 0
 #define FLOECAVERN_KIND_32 1
 
+/* What a misaligned LR, SC, AMO or AMOCAS gives: its own causes, 4 of an LR and 6 of the others, or those of an access
+ * outside memory, 5 and 7, as the text of A 2.1 permits. A state says which, the first by default. A misaligned load is 4 and
+ * a misaligned store 6 in either case, and the value is the address. */
+#define FLOECAVERN_MISALIGNED_4_AND_6 0
+#define FLOECAVERN_MISALIGNED_5_AND_7 1
+
 /* The room that a report needs, in bytes. */
 #define FLOECAVERN_REPORT_ROOM 262144
 
-/* The report of a case file: all that the program `floecavern` writes for these bytes, whatever they are. A file that is
+/* The report of a case file: all that the program `floecavern` writes for these bytes without a board, whatever they are. A file that is
  * no case gives one line, `refused NUMBER PLACE`. docs/USING.md has an example, byte by byte, and every line.
  *
  * file, file_len   the bytes of the case file
@@ -79,7 +86,8 @@ extern "C" {
  *   kind 2        memory: its bytes
  *   kind 3        events: 24 bytes each, as for floecavern_run
  * The bodies follow one another without a gap from 40 to the end of the file. No hart starts with a reservation, a
- * reservation's set has FLOECAVERN_SET_SIZE bytes, and the machine follows A 2.1: a case file says no other.
+ * reservation's set has FLOECAVERN_SET_SIZE bytes, the machine follows A 2.1, and a misaligned LR, SC, AMO or
+ * AMOCAS gives cause 4 or 6: a case file says no other.
  *
  * Refusals, in the order they are tried, and the place, counted from the file's first byte: 7 the length is not 40 to
  * 65536 (0); 8 the table is wrong (its first wrong field; 36 if the last body does not end the file); 9 the harts body:
@@ -149,7 +157,7 @@ uint64_t floecavern_check_loop_for(uint64_t version, uint64_t kind, const uint8_
 
 /* ---- A machine of one's own ---- */
 
-/* The state of the machine: 2336 bytes. A function that takes a state takes these bytes, as (uint8_t *)&state and
+/* The state of the machine: 2344 bytes. A function that takes a state takes these bytes, as (uint8_t *)&state and
  * sizeof state; every number has 8 bytes, the lowest first, as x86-64 keeps them.
  *
  *   offset   field
@@ -162,6 +170,7 @@ uint64_t floecavern_check_loop_for(uint64_t version, uint64_t kind, const uint8_
  *     2312   set_size: how many bytes the set of a reservation has, of every hart: a power of two from 8 to 4096
  *     2320   version: that of A which the machine follows: FLOECAVERN_A_2_0 (20) or FLOECAVERN_A_2_1 (21)
  *     2328   kind: that of the core: FLOECAVERN_KIND_64 (0) or FLOECAVERN_KIND_32 (1)
+ *     2336   misaligned: FLOECAVERN_MISALIGNED_4_AND_6 (0) or FLOECAVERN_MISALIGNED_5_AND_7 (1)
  *
  * A machine of the 32-bit kind. Registers, pcs and addresses have 32 bits, and sums of them are taken modulo 2^32. They
  * are kept as numbers of 64 bits whose upper half is zero, so that -1 in a register is 0xffffffff: of a hart below the
@@ -191,24 +200,27 @@ typedef struct {
     uint64_t set_size;
     uint64_t version;
     uint64_t kind;
+    uint64_t misaligned;
 } floecavern_state;
 
-#define FLOECAVERN_STATE_SIZE 2336
+#define FLOECAVERN_STATE_SIZE 2344
 
-/* The set size that a state has by default, and that the machine of a case file always has. */
+/* The set size that a state has by default, and that the machine of a case file has where no board is given. */
 #define FLOECAVERN_SET_SIZE 64
 
 /* A state with the defaults, to begin one with: floecavern_state state = FLOECAVERN_STATE_INIT; It has no harts yet: a
  * count of 0, which is refused by 2. */
-#define FLOECAVERN_STATE_INIT {0, {{0}}, {0}, {{0, 0, 0}}, FLOECAVERN_SET_SIZE, FLOECAVERN_A_2_1, FLOECAVERN_KIND_64}
+#define FLOECAVERN_STATE_INIT \
+    {0, {{0}}, {0}, {{0, 0, 0}}, FLOECAVERN_SET_SIZE, FLOECAVERN_A_2_1, FLOECAVERN_KIND_64, FLOECAVERN_MISALIGNED_4_AND_6}
 
-FLOECAVERN_ASSERT(a_state_is_2336_bytes, sizeof(floecavern_state) == FLOECAVERN_STATE_SIZE);
+FLOECAVERN_ASSERT(a_state_is_2344_bytes, sizeof(floecavern_state) == FLOECAVERN_STATE_SIZE);
 FLOECAVERN_ASSERT(x_stands_at_8, offsetof(floecavern_state, x) == 8);
 FLOECAVERN_ASSERT(pc_stands_at_2056, offsetof(floecavern_state, pc) == 2056);
 FLOECAVERN_ASSERT(reservations_stand_at_2120, offsetof(floecavern_state, reservation) == 2120);
 FLOECAVERN_ASSERT(set_size_stands_at_2312, offsetof(floecavern_state, set_size) == 2312);
 FLOECAVERN_ASSERT(version_stands_at_2320, offsetof(floecavern_state, version) == 2320);
 FLOECAVERN_ASSERT(kind_stands_at_2328, offsetof(floecavern_state, kind) == 2328);
+FLOECAVERN_ASSERT(misaligned_stands_at_2336, offsetof(floecavern_state, misaligned) == 2336);
 
 /* The memory is the caller's bytes: mem_len of them, 64 to 1048576, at the address base, at most 2^40. Both are multiples
  * of 64, and of the state's set_size where that is larger. Of the 32-bit kind base plus mem_len is at most 2^32.
@@ -220,17 +232,18 @@ FLOECAVERN_ASSERT(kind_stands_at_2328, offsetof(floecavern_state, kind) == 2328)
  *   FLOECAVERN_SC_FAILED (2)    a step that retired an SC, which failed
  *   256 + cause                 the step trapped: FLOECAVERN_IS_TRAP, FLOECAVERN_CAUSE
  *   512 + number                it is refused: FLOECAVERN_IS_REFUSAL, FLOECAVERN_NUMBER
- *   FLOECAVERN_BAD_SIZE         state_len is not 2336 or value_len is not 8
+ *   FLOECAVERN_BAD_SIZE         state_len is not 2344 or value_len is not 8
  *
  * Causes, and the value with each: 0 a jump or taken branch to a target that is not a multiple of 4 (the target); 1 the
  * word at pc is not wholly in memory (pc); 2 the word is no instruction of the core (the word); 3 EBREAK (0); 4 a
  * misaligned load or LR, 5 an aligned one not wholly in memory (the address); 6 a misaligned store, SC, AMO or AMOCAS,
  * 7 an aligned store, SC, AMO or AMOCAS not wholly in memory, SC also without a reservation, AMOCAS also where it would
- * not write (the address); 8 ECALL (0). A trap changes nothing: an SC that traps leaves its hart's reservation.
+ * not write (the address); 8 ECALL (0). Where misaligned is 1, a misaligned LR is 5 and a misaligned SC, AMO or AMOCAS 7,
+ * in memory or not. A trap changes nothing: an SC that traps leaves its hart's reservation.
  *
  * Refusals, in the order they are tried: 1 the set size breaks the rules above, or else the length of memory or the base
- * does, or else, of the 32-bit kind, their sum; 2 so does the rest of the state: its count, its version or its kind; or,
- * of a hart below the count, x0 is not 0, pc is not a multiple of 4, or the reservation's width is not 4 or 8, its
+ * does, or else, of the 32-bit kind, their sum; 2 so does the rest of the state: its count, its version, its kind or its
+ * misaligned; or, of a hart below the count, x0 is not 0, pc is not a multiple of 4, or the reservation's width is not 4 or 8, its
  * address not aligned to that, or its bytes not in memory; or, of the 32-bit kind, a register or the pc has an upper half
  * that is not zero, or the reservation is 8 wide; 3 the hart is not below the count; 4 a device write of 0 or more than 8
  * bytes; 5 one not wholly in memory; 11, of a run alone: its events; 12 and 13, of a replay alone: its log.
@@ -238,8 +251,8 @@ FLOECAVERN_ASSERT(kind_stands_at_2328, offsetof(floecavern_state, kind) == 2328)
  * What is written. value gets 8 bytes, the lowest first: of a retired event, answers 0 to 2, the harts whose reservation
  * it broke, bit 0 for hart 0, so 0 where it broke none; of a trap, the trap's value; of a refusal, 0. A retired event
  * changes state and memory as the model says: of the state, the registers and the pcs, and each used hart's reservation,
- * of which it writes held 1, addr and width, or three zeros, also where it is as before. The count, the set size, the
- * version and the kind never change, and no byte of a hart at or above the count. An answer of 256 or more to an event or
+ * of which it writes held 1, addr and width, or three zeros, also where it is as before. The count and the four
+ * settings, from the set size on, never change, and no byte of a hart at or above the count. An answer of 256 or more to an event or
  * a run leaves every byte of state and memory as it was; FLOECAVERN_BAD_SIZE leaves value too. After each call the bytes
  * mean the state that the model's answer has, so calls one after another perform events one after another
  * (crates/capi_means/proofs/Means.antt).
@@ -256,7 +269,8 @@ FLOECAVERN_ASSERT(kind_stands_at_2328, offsetof(floecavern_state, kind) == 2328)
  *
  * A memory of a wrong length, as a wrong base or set size, is refusal 1 and no bad size.
  *
- * The macros below are for answers to events, runs and replays, not for those about a retry loop; some use r twice. */
+ * The macros below are for answers to events, runs, replays and settings files, not for those about a retry loop; some use
+ * r twice. */
 typedef enum {
     FLOECAVERN_RETIRED = 0,
     FLOECAVERN_SC_STORED = 1,
@@ -297,9 +311,9 @@ uint64_t floecavern_yield(uint8_t *state, size_t state_len, uint64_t base, uint8
  *   512 + number               the run is refused, and state and memory are as they were: 1 or 2 as above; 11 if events
  *                              is no multiple of 24 bytes (place 0) or an event's kind, hart, size, address or zeros are
  *                              wrong (the place of the first such event), also beyond the budget
- *   FLOECAVERN_BAD_SIZE        state_len is not 2336 or ran_len is not 16: nothing is written
+ *   FLOECAVERN_BAD_SIZE        state_len is not 2344 or ran_len is not 16: nothing is written
  *
- * To perform n events costs less by one run than by n calls: each call reads the 2336 bytes and writes them. */
+ * To perform n events costs less by one run than by n calls: each call reads the 2344 bytes and writes them. */
 uint64_t floecavern_run(uint8_t *state, size_t state_len, uint64_t base, uint8_t *mem, size_t mem_len,
                         const uint8_t *events, size_t events_len, size_t budget, uint8_t *ran, size_t ran_len);
 
@@ -325,7 +339,7 @@ uint64_t floecavern_run(uint8_t *state, size_t state_len, uint64_t base, uint8_t
  *   FLOECAVERN_STOP_VALUE (5)    its value is not what rd holds after the step (the row's value, what rd holds)
  *   512 + number                 the replay is refused, and state and memory are as they were: 1 or 2 as above; 12 the
  *                                log is no multiple of 48 bytes; 13 it has no rows (0, 0, behind 0 rows)
- *   FLOECAVERN_BAD_SIZE          state_len is not 2336 or told_len is not 24: nothing is written
+ *   FLOECAVERN_BAD_SIZE          state_len is not 2344 or told_len is not 24: nothing is written
  *
  * A stop, also one by a trap, is no refusal: state and memory are then written as after exactly the rows before it, and
  * with FLOECAVERN_STOP_AGREED as after all of them. What the bytes mean afterwards is the state that the model's replay
@@ -347,12 +361,74 @@ typedef enum {
 
 #define FLOECAVERN_ROW_SIZE 48
 
+/* ---- What boards are set to ---- */
+
+/* A board, as a settings file says it: 24 bytes, three numbers as a state has them. The kind of the core is not among
+ * them: every case says its own. */
+typedef struct {
+    uint64_t set_size;
+    uint64_t version;
+    uint64_t misaligned;
+} floecavern_board;
+
+#define FLOECAVERN_BOARD_SIZE 24
+#define FLOECAVERN_BOARDS 16         /* the most boards that a settings file has */
+
+/* The bytes of the longest settings file. A program that reads one from a disk takes one byte more than this, if there is
+ * one: cut off at this length, a longer file, which is refused, may look like a good one. */
+#define FLOECAVERN_SETTINGS_ROOM 200
+
+FLOECAVERN_ASSERT(a_board_is_24_bytes, sizeof(floecavern_board) == FLOECAVERN_BOARD_SIZE);
+
+/* A settings file; numbers have their lowest byte first:
+ *   at 0             its format, 1 or 2, and how many boards it has, 1 to 16: 4 bytes each
+ *   at 8 + 8 k       where the body of board k starts and how many bytes it has: 4 bytes each
+ *   then the bodies  set size (2 bytes), version of A (1); in format 2 also misaligned (1). In format 1 it is 0
+ * The bodies follow one another without a gap, from the end of the table to the end of the file.
+ *
+ * Reads one, whatever the bytes are.
+ *
+ * file, file_len       the bytes of the file
+ * boards, boards_len   384 bytes, which get 16 boards: those of the file, and zeros behind them. All zeros if it is refused
+ * told, told_len       16 bytes, which get two numbers of 8 bytes, the lowest first: the format and the number of boards;
+ *                      if it is refused, the place and 0
+ *
+ * Answers, the first that applies of
+ *   FLOECAVERN_BAD_SIZE   boards_len is not 384 or told_len is not 16: nothing is written
+ *   512 + 21              the file is shorter than 8 bytes (place 0)
+ *   512 + 22              its format is neither 1 nor 2 (place 0)
+ *   512 + 21              its number of boards, its table or its end is wrong (place 0); so is a body whose length is not 3
+ *                         in format 1 or 4 in format 2
+ *   512 + 23              a body is wrong: a set size that is no power of two from 8 to 4096, a version that is neither 20
+ *                         nor 21, or a misaligned that is neither 0 nor 1 (place: where the first such body starts)
+ *   0                     it is read */
+uint64_t floecavern_read_settings(const uint8_t *file, size_t file_len, uint8_t *boards, size_t boards_len, uint8_t *told,
+                                  size_t told_len);
+
+/* Writes a settings file of format 2.
+ *
+ * boards, boards_len   the boards, 24 bytes each
+ * out, out_len         where the file goes: 8 + 12 n bytes for n boards. What stands behind it is as it was
+ * told, told_len       8 bytes, which get a number, the lowest byte first: how many bytes the file has; if it is refused,
+ *                      the place
+ *
+ * Answers, the first that applies of
+ *   FLOECAVERN_BAD_SIZE   boards_len is no multiple of 24 or told_len is not 8: nothing is written
+ *   512 + 21              there are no boards or more than 16, or else out is too short (place 0)
+ *   512 + 23              a board is wrong, as above (place: where the body of the first such board would start)
+ *   0                     it is written
+ * A refusal leaves out as it was. What is written is read by the function above as the boards that were given
+ * (crates/capi_means/proofs/Boards.antt), and no other boards are written as the same bytes
+ * (crates/boards/proofs/Back.antt). */
+uint64_t floecavern_write_settings(const uint8_t *boards, size_t boards_len, uint8_t *out, size_t out_len, uint8_t *told,
+                                   size_t told_len);
+
 /* ---- The typed form ----
  *
- * Inline functions over the eight above. Sizes are right by type; a NULL or a length that no buffer can have is refused
- * by the model's own number, as each function says. What is asked is that state, machine, text, event, outcome and bytes
- * are not NULL, that a length is that of the buffer before it, and that a machine, its memory and a text overlap no other
- * argument. */
+ * Inline functions over the ten above. Sizes are right by type; a NULL or a length that no buffer can have is refused
+ * by the model's own number, as each function says. What is asked is that state, machine, text, event, outcome, board and
+ * bytes are not NULL, that a length is that of the buffer before it, and that a machine, its memory, a text and an out
+ * overlap no other argument. */
 #if defined(__GNUC__)
 #define FLOECAVERN_INLINE static __inline__
 #elif defined(__cplusplus) || (defined(__STDC_VERSION__) && __STDC_VERSION__ >= 199901L)
@@ -375,7 +451,7 @@ typedef enum {
 } floecavern_cause;
 
 /* Refusals: 1 to 5 of an event, 2 and 6 of a block, 7 to 11 of a case file, 1, 2 and 11 of a run, 1, 2, 12 and 13 of a
- * replay. */
+ * replay, 21 to 23 of a settings file. */
 typedef enum {
     FLOECAVERN_REFUSAL_NONE = 0,
     FLOECAVERN_REFUSAL_MEMORY = 1,
@@ -390,7 +466,10 @@ typedef enum {
     FLOECAVERN_REFUSAL_MEMORY_BODY = 10,
     FLOECAVERN_REFUSAL_EVENTS = 11,
     FLOECAVERN_REFUSAL_LOG_LENGTH = 12,
-    FLOECAVERN_REFUSAL_LOG_EMPTY = 13
+    FLOECAVERN_REFUSAL_LOG_EMPTY = 13,
+    FLOECAVERN_REFUSAL_SETTINGS_TABLE = 21,
+    FLOECAVERN_REFUSAL_SETTINGS_FORMAT = 22,
+    FLOECAVERN_REFUSAL_SETTINGS_BOARD = 23
 } floecavern_refusal;
 
 /* Why a block of words is rejected. */
@@ -426,7 +505,7 @@ FLOECAVERN_INLINE const char *floecavern_refusal_text(uint64_t refusal)
     switch (refusal) {
     case 0: return "not refused";
     case 1: return "the set size or the memory's length or base is wrong";
-    case 2: return "the version of A, the kind of core or the state is wrong";
+    case 2: return "a setting other than the set size, or the state, is wrong";
     case 3: return "the hart is not below the count";
     case 4: return "a device write of 0 or more than 8 bytes";
     case 5: return "a device write not wholly in memory";
@@ -438,6 +517,9 @@ FLOECAVERN_INLINE const char *floecavern_refusal_text(uint64_t refusal)
     case 11: return "an event or the length of the events is wrong";
     case 12: return "the log's length is not a multiple of 48";
     case 13: return "the log has no rows";
+    case 21: return "the settings file's length, number of boards, table or room is wrong";
+    case 22: return "the settings file's format is not 1 or 2";
+    case 23: return "a board's set size, version of A or misaligned is wrong";
     default: return "no refusal of the model";
     }
 }
@@ -572,6 +654,14 @@ FLOECAVERN_INLINE void floecavern_state_start(floecavern_state *state, uint64_t 
     static const floecavern_state defaults = FLOECAVERN_STATE_INIT;
     *state = defaults;
     state->count = count;
+}
+
+/* Sets a state to what a board is set to. Its kind stays. */
+FLOECAVERN_INLINE void floecavern_state_set_board(floecavern_state *state, const floecavern_board *board)
+{
+    state->set_size = board->set_size;
+    state->version = board->version;
+    state->misaligned = board->misaligned;
 }
 
 /* A machine: its state, and where its memory is, mem_len bytes of the caller's at the address base. All of it may be
@@ -721,15 +811,15 @@ FLOECAVERN_INLINE floecavern_replayed floecavern_machine_replay(floecavern_machi
 }
 
 /* Starts a machine of a kind of core, FLOECAVERN_KIND_64 or FLOECAVERN_KIND_32: count harts with their pc at base,
- * registers 0 and no reservations, the set size FLOECAVERN_SET_SIZE and the version FLOECAVERN_A_2_1. The memory is left as
- * it is. Answers FLOECAVERN_REFUSAL_NONE, or 1 or 2: the machine is then filled in all the same, and every call of it is
+ * registers 0 and no reservations, and the defaults of FLOECAVERN_STATE_INIT. The memory is left as it is. Answers FLOECAVERN_REFUSAL_NONE, or 1 or 2: the machine is then filled in all the same, and every call of it is
  * refused by that number. It asks by a run of no events, which changes nothing of such a machine. With a library of another
  * version the answer is no refusal of the model.
  *
  * For another set size, set machine->state.set_size after the start: where a memory fits that size, the start takes it
- * too. For A 2.0, set machine->state.version to FLOECAVERN_A_2_0. If the size does not fit, every call from then on is
- * refused by 1, and by 2 if the version is neither of the two; floecavern_machine_run(machine, NULL, 0, 0).refusal asks for
- * that. */
+ * too. For A 2.0, set machine->state.version to FLOECAVERN_A_2_0, for the other causes machine->state.misaligned; for
+ * all three at once, as a board has them, there is floecavern_state_set_board. If the size does not fit, every call from
+ * then on is refused by 1, and by 2 if the version or misaligned is neither of its two;
+ * floecavern_machine_run(machine, NULL, 0, 0).refusal asks for that. */
 FLOECAVERN_INLINE floecavern_refusal floecavern_machine_start_kind(floecavern_machine *machine, uint64_t kind,
                                                                    uint64_t count, uint64_t base, uint8_t *mem,
                                                                    size_t mem_len)
@@ -812,6 +902,74 @@ FLOECAVERN_INLINE floecavern_verdict floecavern_check_words_for(uint64_t version
 FLOECAVERN_INLINE floecavern_verdict floecavern_check_words(const uint32_t *words, size_t count)
 {
     return floecavern_check_words_for(FLOECAVERN_A_2_1, FLOECAVERN_KIND_64, words, count);
+}
+
+/* What a settings file says: its format, and count boards; those behind them are zeros. If refusal is not
+ * FLOECAVERN_REFUSAL_NONE, there are none, format is 0, and place is the refusal's, counted in bytes from the file's first.
+ */
+typedef struct {
+    floecavern_refusal refusal;
+    uint64_t place;
+    uint64_t format;
+    size_t count;
+    floecavern_board boards[FLOECAVERN_BOARDS];
+} floecavern_settings;
+
+/* Reads a settings file, whatever the bytes are. Refusals 21 to 23. file may be NULL: a file of 0 bytes. */
+FLOECAVERN_INLINE floecavern_settings floecavern_settings_read(const uint8_t *file, size_t len)
+{
+    static const uint8_t none[1] = {0};
+    uint8_t told[16] = {0};
+    floecavern_settings settings;
+    uint64_t answer;
+    memset(&settings, 0, sizeof settings);
+    answer = floecavern_read_settings(file == NULL ? none : file, file == NULL ? 0 : len, (uint8_t *)settings.boards,
+                                      sizeof settings.boards, told, sizeof told);
+    if (answer == 0) {
+        settings.format = floecavern_number(told);
+        settings.count = (size_t)floecavern_number(told + 8);
+    } else {
+        settings.refusal = (floecavern_refusal)FLOECAVERN_NUMBER(answer);
+        settings.place = floecavern_number(told);
+    }
+    return settings;
+}
+
+/* What the writing of a settings file came to: how many bytes it has; or, if refusal is not FLOECAVERN_REFUSAL_NONE, 0,
+ * and the refusal's place. */
+typedef struct {
+    floecavern_refusal refusal;
+    uint64_t place;
+    size_t len;
+} floecavern_written;
+
+/* Writes a settings file of format 2 for count boards. Refusals 21, also of boards or out of NULL, and 23; out is as it
+ * was then. FLOECAVERN_SETTINGS_ROOM bytes are enough for every file. */
+FLOECAVERN_INLINE floecavern_written floecavern_settings_write(const floecavern_board *boards, size_t count, uint8_t *out,
+                                                               size_t out_len)
+{
+    /* 17 boards are refused whatever they are, so that 17 of them say it of more. */
+    static const floecavern_board none[FLOECAVERN_BOARDS + 1] = {{0, 0, 0}};
+    static uint8_t nowhere[1];
+    uint8_t told[8] = {0};
+    floecavern_written written;
+    uint64_t answer;
+    if (boards == NULL)
+        count = 0;
+    if (boards == NULL || count > FLOECAVERN_BOARDS)
+        boards = none;
+    if (count > FLOECAVERN_BOARDS)
+        count = FLOECAVERN_BOARDS + 1;
+    answer = floecavern_write_settings((const uint8_t *)boards, FLOECAVERN_BOARD_SIZE * count, out == NULL ? nowhere : out,
+                                       out == NULL ? 0 : out_len, told, sizeof told);
+    memset(&written, 0, sizeof written);
+    if (answer == 0) {
+        written.len = (size_t)floecavern_number(told);
+    } else {
+        written.refusal = (floecavern_refusal)FLOECAVERN_NUMBER(answer);
+        written.place = floecavern_number(told);
+    }
+    return written;
 }
 
 /* A report: len characters of bytes are the lines, and no 0 ends them. It has 256 KiB: static or allocated, rather than

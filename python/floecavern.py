@@ -20,6 +20,10 @@ with Machine(2, 0, 128, version=A_2_0): there a device write breaks no reservati
 The core has registers of 64 bits, or of 32 with Machine(2, 0, 128, kind=KIND_32); `State` says what that asks. check_loop(words, kind=KIND_32)
 reads the words of a loop as RV32I. (The class Kind is another thing: what an event came to.)
 
+A misaligned LR gives cause 4 and a misaligned SC, AMO or AMOCAS cause 6, or 5 and 7 with Machine(2, 0, 128, misaligned=MISALIGNED_5_AND_7). What
+boards are set to can be kept in a settings file: read_settings(file) gives its boards, write_settings(boards) the bytes of one, and
+Machine(2, 0, 128, **board._asdict()) is a machine that is set as the board is.
+
 The names are those of include/floecavern.h and of rust/, whose `Answer` is the outcome here. What the model refuses is the exception Refused,
 and state and memory are as they were; a trap is an outcome. A value that isn't the model's at all is a TypeError or a ValueError before the
 library is called: a number that doesn't fit its bits, a memory that can't be written. One machine is for one thread at a time.
@@ -33,15 +37,18 @@ import struct
 from dataclasses import dataclass
 from typing import NamedTuple, Optional
 
-__version__ = '0.8.0'
+__version__ = '0.9.0'
 
 BUILD = 'cc -shared -o target/libfloecavern.so -Wl,--whole-archive target/staticlib/libcapi.a -Wl,--no-whole-archive'
 ROOT = os.path.dirname(os.path.dirname(os.path.abspath(__file__)))
 
-STATE_SIZE, EVENT_SIZE, ROW_SIZE, REPORT_ROOM, MAX_HARTS, MAX_MEMORY = 2336, 24, 48, 262_144, 8, 1_048_576
+STATE_SIZE, EVENT_SIZE, ROW_SIZE, REPORT_ROOM, MAX_HARTS, MAX_MEMORY = 2344, 24, 48, 262_144, 8, 1_048_576
 SET_SIZE = 64  # the set size that a state has by default, and that the machine of a case file always has
 A_2_0, A_2_1 = 20, 21  # the versions of A; a state has 2.1 by default, and the machine of a case file always has it
 KIND_64, KIND_32 = 0, 1  # the kinds of core; a state has the 64-bit one by default, and a case file says which one
+# what a misaligned LR and a misaligned SC, AMO or AMOCAS give; a state has the first by default, and the machine of a case file always has it
+MISALIGNED_4_AND_6, MISALIGNED_5_AND_7 = 0, 1
+BOARD_SIZE, MAX_BOARDS, SETTINGS_ROOM = 24, 16, 200  # the bytes of a board for the library, and the most of a settings file
 
 _BAD_SIZE, _TRAP, _REFUSED, _ALL = 2**64 - 1, 256, 512, 2**64 - 1
 
@@ -58,7 +65,8 @@ def _library():
     for name, arguments in [('report', [read, size, lent, size]), ('check_loop_for', [number, number, read, size]),
                             ('step', machine + [size, lent, size]), ('yield', machine + [size, lent, size]),
                             ('device_write', machine + [number, size, number, lent, size]),
-                            ('run', machine + [read, size, size, lent, size]), ('replay', machine + [read, size, lent, size])]:
+                            ('run', machine + [read, size, size, lent, size]), ('replay', machine + [read, size, lent, size]),
+                            ('read_settings', [read, size, lent, size, lent, size]), ('write_settings', [read, size, lent, size, lent, size])]:
         function = getattr(library, 'floecavern_' + name, None)
         if function is None:
             raise _other_version('has no floecavern_' + name)
@@ -117,9 +125,10 @@ class Cause(_Numbered):
 
 
 class Refusal(_Numbered):
-    """Why a call is refused: 1 to 5 an event, 2 and 6 a block, 7 to 11 a case file, 1, 2 and 11 a run, 1, 2, 12 and 13 a replay."""
+    """Why a call is refused: 1 to 5 an event, 2 and 6 a block, 7 to 11 a case file, 1, 2 and 11 a run, 1, 2, 12 and 13 a replay, 21
+    to 23 a settings file."""
     MEMORY = 1, "the set size or the memory's length or base is wrong"
-    STATE = 2, 'the version of A, the kind of core or the state is wrong'
+    STATE = 2, 'a setting other than the set size, or the state, is wrong'
     HART = 3, 'the hart is not below the count'
     DEVICE_SIZE = 4, 'a device write of 0 or more than 8 bytes'
     DEVICE_ADDRESS = 5, 'a device write not wholly in memory'
@@ -131,6 +140,9 @@ class Refusal(_Numbered):
     EVENTS = 11, 'an event or the length of the events is wrong'
     LOG_LENGTH = 12, "the log's length is not a multiple of 48"
     LOG_EMPTY = 13, 'the log has no rows'
+    SETTINGS_TABLE = 21, "the settings file's length, number of boards, table or room is wrong"
+    SETTINGS_FORMAT = 22, "the settings file's format is not 1 or 2"
+    SETTINGS_BOARD = 23, "a board's set size, version of A or misaligned is wrong"
 
 
 class Reason(_Numbered):
@@ -144,7 +156,7 @@ class Reason(_Numbered):
 
 
 class Refused(Exception):
-    """A call that the model refuses: nothing has changed. `place` is that of a run or a report, else None."""
+    """A call that the model refuses: nothing has changed. `place` is that of a run, a report or a settings file, else None."""
 
     def __init__(self, refusal, place=None):
         super().__init__(refusal, place)
@@ -248,7 +260,8 @@ class Reservation(NamedTuple):
 class State:
     """The state: of harts 0 to count - 1, 1 to 8 of them, the registers x[hart][register], pc[hart] and the reservation; and for all of them
     set_size, how many bytes the set of a reservation has, a power of two from 8 to 4,096, version, that of A which the machine follows, A_2_0 or
-    A_2_1, and kind, that of the core, KIND_64 or KIND_32. No call changes the size, the version or the kind.
+    A_2_1, kind, that of the core, KIND_64 or KIND_32, and misaligned, what a misaligned LR, SC, AMO or AMOCAS gives, MISALIGNED_4_AND_6 or
+    MISALIGNED_5_AND_7. No call changes these four.
 
     The registers and pcs of a 32-bit core have 32 bits, and an upper half that is zero: -1 is 2**32 - 1. In a used hart any other is refused by 2,
     and so is a reservation 8 wide. Every event keeps the upper halves zero.
@@ -258,15 +271,15 @@ class State:
     __slots__ = '_bytes', '_numbers', '_x', '_pc'
     __hash__ = None
 
-    def __init__(self, count, *, set_size=SET_SIZE, version=A_2_1, kind=KIND_64):
-        """Registers and pcs are 0, and there are no reservations. What isn't allowed is refused when it is used: a set size by 1, a version, a kind
-        or a count by 2."""
+    def __init__(self, count, *, set_size=SET_SIZE, version=A_2_1, kind=KIND_64, misaligned=MISALIGNED_4_AND_6):
+        """Registers and pcs are 0, and there are no reservations. What isn't allowed is refused when it is used: a set size by 1, a version, a kind,
+        a misaligned or a count by 2."""
         self._bytes = bytearray(STATE_SIZE)
         # Numbers of 64 bits over the bytes: assigning one that doesn't fit is an error, of Python's own.
         self._numbers = memoryview(self._bytes).cast('Q')
         self._x = tuple(self._numbers[1 + 32 * h:33 + 32 * h] for h in range(MAX_HARTS))
         self._pc = self._numbers[257:265]
-        self.count, self.set_size, self.version, self.kind = count, set_size, version, kind
+        self.count, self.set_size, self.version, self.kind, self.misaligned = count, set_size, version, kind, misaligned
 
     @property
     def count(self):
@@ -301,6 +314,14 @@ class State:
         self._numbers[291] = _number('kind', kind)
 
     @property
+    def misaligned(self):
+        return self._numbers[292]
+
+    @misaligned.setter
+    def misaligned(self, misaligned):
+        self._numbers[292] = _number('misaligned', misaligned)
+
+    @property
     def x(self):
         return self._x
 
@@ -328,12 +349,12 @@ class State:
             self._numbers[n] = number
 
     def to_bytes(self):
-        """Its 2336 bytes, as the header says: every number 8 bytes, the lowest first."""
+        """Its 2344 bytes, as the header says: every number 8 bytes, the lowest first."""
         return bytes(self._bytes)
 
     @classmethod
     def from_bytes(cls, data):
-        """The state that has these 2336 bytes: any bytes are one."""
+        """The state that has these 2344 bytes: any bytes are one."""
         data = _read(data)
         if len(data) != STATE_SIZE:
             raise ValueError('%d bytes: a state has %d' % (len(data), STATE_SIZE))
@@ -342,7 +363,7 @@ class State:
         return state
 
     def _meaning(self):
-        return self._numbers[:265].tolist(), [self.reservation(h) for h in range(MAX_HARTS)], self.set_size, self.version, self.kind
+        return self._numbers[:265].tolist(), [self.reservation(h) for h in range(MAX_HARTS)], self._numbers[289:].tolist()
 
     def __eq__(self, other):
         return self._meaning() == other._meaning() if isinstance(other, State) else NotImplemented
@@ -354,7 +375,9 @@ class State:
         pcs = ' '.join('%#x' % pc for pc in self.pc[:min(self.count, MAX_HARTS)])
         version = {A_2_0: 'A 2.0', A_2_1: 'A 2.1'}.get(self.version, 'version %d' % self.version)
         kind = {KIND_64: '64 bits', KIND_32: '32 bits'}.get(self.kind, 'kind %d' % self.kind)
-        return '<State of %d harts, %s, %s, sets of %d bytes, pcs %s>' % (self.count, kind, version, self.set_size, pcs)
+        # The default goes without saying.
+        misaligned = {MISALIGNED_4_AND_6: '', MISALIGNED_5_AND_7: ', misaligned 5 and 7'}.get(self.misaligned, ', misaligned %d' % self.misaligned)
+        return '<State of %d harts, %s, %s, sets of %d bytes%s, pcs %s>' % (self.count, kind, version, self.set_size, misaligned, pcs)
 
 
 @dataclass(frozen=True)
@@ -530,18 +553,54 @@ def check_loop(words, *, version=A_2_1, kind=KIND_64):
     return Verdict(False, answer // 256 - 1, Reason(answer % 256))
 
 
+class Board(NamedTuple):
+    """What a board is set to, as a settings file has it; a case says the kind of core itself. The defaults are a state's."""
+    set_size: int = SET_SIZE
+    version: int = A_2_1
+    misaligned: int = MISALIGNED_4_AND_6
+
+
+class SettingsFile(NamedTuple):
+    """A settings file: its format, 1 or 2, and its boards, 1 to 16. Those of a file of format 1 have MISALIGNED_4_AND_6."""
+    format: int
+    boards: tuple
+
+
+def read_settings(file):
+    """The settings file that bytes are, whatever they are. Refusals 21, 22, 21 again and 23, in this order; the place of 23 is where the first bad
+    board's body starts, that of the others 0."""
+    file, boards, told = _read(file), (ctypes.c_uint64 * (3 * MAX_BOARDS))(), (ctypes.c_uint64 * 2)()
+    answer = _library().floecavern_read_settings(file, len(file), boards, MAX_BOARDS * BOARD_SIZE, told, 16)
+    assert answer != _BAD_SIZE, 'the sizes are right'
+    if answer != 0:
+        raise Refused(answer - _REFUSED, told[0])
+    return SettingsFile(told[0], tuple(Board(*boards[3 * k:3 * k + 3]) for k in range(told[1])))
+
+
+def write_settings(boards):
+    """The bytes of the settings file of these boards, of format 2. Refusals 21, if there are none or more than 16, and 23, whose place is where the
+    body of the first bad board would start."""
+    given = b''.join(struct.pack('<3Q', *(_number(name, number) for name, number in zip(Board._fields, Board(*board)))) for board in boards)
+    out, told = (ctypes.c_uint8 * SETTINGS_ROOM)(), (ctypes.c_uint64 * 1)()
+    answer = _library().floecavern_write_settings(given, len(given), out, SETTINGS_ROOM, told, 8)
+    assert answer != _BAD_SIZE, 'the sizes are right'
+    if answer != 0:
+        raise Refused(answer - _REFUSED, told[0])
+    return bytes(out[:told[0]])
+
+
 class Machine:
     """A state and a memory, a bytearray, at `base`. All of it may be read and written between calls: what the model doesn't take is
     refused by the next call."""
     __slots__ = 'state', 'base', 'mem'
     __hash__ = None
 
-    def __init__(self, harts, base, length, *, set_size=SET_SIZE, version=A_2_1, kind=KIND_64):
+    def __init__(self, harts, base, length, *, set_size=SET_SIZE, version=A_2_1, kind=KIND_64, misaligned=MISALIGNED_4_AND_6):
         """`harts` harts with their pc at `base`, registers 0 and no reservations; `length` bytes of memory, all 0; sets of `set_size` bytes; the
-        `version` of A that it follows; the `kind` of its core. Refusals 1 and 2: 1 also if the size isn't a power of two from 8 to 4,096, if the
-        length or the base isn't a multiple of it, or if the memory of a 32-bit machine would end above 2^32, 2 also if the version is neither A_2_0
-        nor A_2_1 or the kind neither KIND_64 nor KIND_32."""
-        state, base = State(harts, set_size=set_size, version=version, kind=kind), _number('base', base)
+        `version` of A that it follows; the `kind` of its core; what a `misaligned` LR, SC, AMO or AMOCAS gives. Refusals 1 and 2: 1 also if the size
+        isn't a power of two from 8 to 4,096, if the length or the base isn't a multiple of it, or if the memory of a 32-bit machine would end above
+        2^32, 2 also if the version, the kind or misaligned is neither of its two."""
+        state, base = State(harts, set_size=set_size, version=version, kind=kind, misaligned=misaligned), _number('base', base)
         for hart in range(min(state.count, MAX_HARTS)):
             state.pc[hart] = base
         # Before so much is allocated.

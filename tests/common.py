@@ -7,7 +7,7 @@ import sys
 import tempfile
 
 ROOT = os.path.normpath(os.path.join(os.path.dirname(os.path.abspath(__file__)), '..'))
-CASE, NIGHTLY = os.path.join(ROOT, 'tools', 'case'), os.path.join(ROOT, 'tools', 'nightly')
+CASE, NIGHTLY, SETTINGS = (os.path.join(ROOT, 'tools', name) for name in ('case', 'nightly', 'settings'))
 PROGRAM = os.path.join(ROOT, 'target', 'bin', 'floecavern')
 EXAMPLE, EXAMPLE_LINES = os.path.join(ROOT, 'crates', 'floecavern', 'stdin'), os.path.join(ROOT, 'crates', 'floecavern', 'stdout')
 sys.path.insert(0, os.path.join(ROOT, 'tools'))
@@ -33,7 +33,7 @@ PAIRS = '''\
 equal: x8 22222222, x9 11111111, the words at 64 ffffffff 00000007
 not equal: x8 ffffffff, x9 00000007, the words at 64 ffffffff 00000007
 rd is x9: trap 2 0000000028a2b4af: illegal instruction
-64 bits in x8: refusal 2: the version of A, the kind of core or the state is wrong
+64 bits in x8: refusal 2: a setting other than the set size, or the state, is wrong
 a memory that ends above 2^32: refusal 1: the set size or the memory's length or base is wrong
 '''
 

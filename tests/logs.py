@@ -23,7 +23,7 @@ DIFFERENT = RIGHT[:3] + [row(0, 4, SC, 7, 0)]
 # A program that knows the answer for each log, and finds a value that is changed in a copy of one; EDIT changes what it does.
 FAKE = '''#!%s -SE
 import os, sys, time
-case, log = sys.argv[1:]
+case, log, *settings = sys.argv[1:]         # with a settings file, that and a board
 name = os.path.basename(log)
 rows, right = open(log, 'rb').read(), open(os.path.join(os.path.dirname(case), name), 'rb').read()
 out = %r.get(name, %r)

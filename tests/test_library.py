@@ -43,31 +43,32 @@ h0 sc.w: sc failed
 h0 lr.w: retired
 a byte at 67, A 2.0: retired
 h0 sc.w: sc stored
-h0 lr.w: refused 2 (the version of A, the kind of core or the state is wrong)
-a byte at 67, A 2.2: refused 2 (the version of A, the kind of core or the state is wrong)
-h0 sc.w: refused 2 (the version of A, the kind of core or the state is wrong)
+h0 lr.w: refused 2 (a setting other than the set size, or the state, is wrong)
+a byte at 67, A 2.2: refused 2 (a setting other than the set size, or the state, is wrong)
+h0 sc.w: refused 2 (a setting other than the set size, or the state, is wrong)
 a run of 5 events: performed 5
 x7 of the harts: 1 0; the word at 64: 12345678
 with a budget of 2: performed 2
 with an event of hart 7: refused 11 at 96 (an event or the length of the events is wrong)
 '''
 
-# Every function that writes, with each buffer a byte short, a byte long and empty (too small, for a report), a state without kind, without version or
-# without set_size too, as programs of versions 0.7, 0.6 and 0.5 have it, and a block that isn't whole words, under any version and kind: nothing is written.
+# Every function that writes, with each buffer a byte short, a byte long and empty (too small, for a report), a state without misaligned, without kind,
+# without version or without set_size too, as programs of versions 0.8, 0.7, 0.6 and 0.5 have it, and a block that isn't whole words, under any version
+# and kind: nothing is written.
 SIZES = '''
 #include <stdlib.h>
 #include <string.h>
 #include "floecavern.h"
-static uint8_t state[2337], mem[128], out[25], was_state[2337], was_mem[128], was_out[25];
+static uint8_t state[2345], mem[128], out[25], was_state[2345], was_mem[128], was_out[25];
 static void check(uint64_t r)
 {
-    if (r != FLOECAVERN_BAD_SIZE || memcmp(state, was_state, 2337) || memcmp(mem, was_mem, 128) || memcmp(out, was_out, 25))
+    if (r != FLOECAVERN_BAD_SIZE || memcmp(state, was_state, 2345) || memcmp(mem, was_mem, 128) || memcmp(out, was_out, 25))
         abort();
 }
 int main(void)
 {
     size_t sizeless = offsetof(floecavern_state, set_size), versionless = offsetof(floecavern_state, version);
-    size_t kindless = offsetof(floecavern_state, kind);
+    size_t kindless = offsetof(floecavern_state, kind), alignless = offsetof(floecavern_state, misaligned);
     was_state[0] = state[0] = 1;
     was_state[sizeless] = state[sizeless] = 64;
     was_state[versionless] = state[versionless] = 21;
@@ -76,8 +77,8 @@ int main(void)
     memset(was_out, 0xa5, 25);
     static const uint8_t event[24] = {1};
     static const char row[] = "0 0000000000000000 00000013 00 0000000000000000\\n";
-    size_t sizes[][4] = {{2335, 8, 16, 24}, {2337, 8, 16, 24}, {sizeless, 8, 16, 24}, {versionless, 8, 16, 24}, {kindless, 8, 16, 24}, {0, 8, 16, 24},
-                         {2336, 7, 15, 23}, {2336, 9, 17, 25}, {2336, 0, 0, 0}};
+    size_t sizes[][4] = {{2343, 8, 16, 24}, {2345, 8, 16, 24}, {sizeless, 8, 16, 24}, {versionless, 8, 16, 24}, {kindless, 8, 16, 24},
+                         {alignless, 8, 16, 24}, {0, 8, 16, 24}, {2344, 7, 15, 23}, {2344, 9, 17, 25}, {2344, 0, 0, 0}};
     for (size_t i = 0; i < sizeof sizes / sizeof *sizes; i++) {
         size_t n = sizes[i][0], v = sizes[i][1], r = sizes[i][2], t = sizes[i][3];
         check(floecavern_step(state, n, 0, mem, 128, 0, out, v));
@@ -93,6 +94,19 @@ int main(void)
             if (room[k] != 0)
                 abort();
     }
+    static uint8_t boards[408];
+    static const size_t rooms[][2] = {{383, 16}, {385, 16}, {0, 16}, {384, 15}, {384, 17}, {384, 0}, {400, 24}};
+    for (size_t i = 0; i < sizeof rooms / sizeof *rooms; i++)
+        check(floecavern_read_settings(event, 24, boards, rooms[i][0], out, rooms[i][1]));
+    for (size_t n = 0; n < sizeof boards; n++) {
+        if (n % 24 != 0)
+            check(floecavern_write_settings(boards, n, room, sizeof room, out, 8));
+        if (n != 8)
+            check(floecavern_write_settings(boards, 24, room, sizeof room, out, n < 25 ? n : 25));
+    }
+    for (size_t k = 0; k < sizeof boards; k++)
+        if (boards[k] != 0 || room[k] != 0)
+            abort();
     for (size_t n = 1; n < 8; n++) {
         if ((floecavern_check_loop(event, n) == FLOECAVERN_BAD_SIZE) != (n % 4 != 0))
             abort();
@@ -101,10 +115,10 @@ int main(void)
                 if ((floecavern_check_loop_for(version, kind, event, n) == FLOECAVERN_BAD_SIZE) != (n % 4 != 0))
                     abort();
     }
-    if (floecavern_replay(state, 2336, 0, mem, 128, (const uint8_t *)row, 48, out, 24) != FLOECAVERN_STOP_AGREED || out[0] != 1 || out[1] != 0)
+    if (floecavern_replay(state, 2344, 0, mem, 128, (const uint8_t *)row, 48, out, 24) != FLOECAVERN_STOP_AGREED || out[0] != 1 || out[1] != 0)
         abort();
     state[2056] = 0;
-    return floecavern_step(state, 2336, 0, mem, 128, 0, out, 8) == FLOECAVERN_RETIRED ? 0 : 1;
+    return floecavern_step(state, 2344, 0, mem, 128, 0, out, 8) == FLOECAVERN_RETIRED ? 0 : 1;
 }
 '''
 
@@ -422,7 +436,7 @@ static void kinds(void)
     floecavern_event event = floecavern_event_step(0);
     floecavern_replayed r;
     size_t i;
-    CHECK(FLOECAVERN_KIND_64 == 0 && FLOECAVERN_KIND_32 == 1 && FLOECAVERN_STATE_SIZE == 2336);
+    CHECK(FLOECAVERN_KIND_64 == 0 && FLOECAVERN_KIND_32 == 1 && FLOECAVERN_STATE_SIZE == 2344);
     for (i = 0; i < sizeof wide_word / sizeof *wide_word; i++) {
         start_kind(FLOECAVERN_KIND_32, wide_word[i]);
         CHECK(is(floecavern_machine_step(&machine, 0), FLOECAVERN_TRAP, FLOECAVERN_CAUSE_ILLEGAL_INSTRUCTION, wide_word[i], 0));
@@ -529,6 +543,7 @@ static void states(void)
     floecavern_state_start(&second, 8);
     CHECK(second.count == 8 && second.set_size == FLOECAVERN_SET_SIZE && second.version == FLOECAVERN_A_2_1 && first.count == 0);
     CHECK(second.kind == FLOECAVERN_KIND_64 && first.kind == FLOECAVERN_KIND_64);
+    CHECK(second.misaligned == FLOECAVERN_MISALIGNED_4_AND_6 && first.misaligned == FLOECAVERN_MISALIGNED_4_AND_6);
     first.count = 8;
     CHECK(memcmp(&first, &second, sizeof first) == 0);
     memset(&zeros, 0, sizeof zeros);
@@ -740,6 +755,86 @@ static void loops_by_kind(void)
     CHECK(floecavern_check_loop_for(FLOECAVERN_A_2_1, FLOECAVERN_KIND_32, (const uint8_t *)loop, 16) == FLOECAVERN_LOOP_ACCEPTED);
 }
 
+/* A misaligned LR, SC, AMO or AMOCAS by the setting, a load and a store whatever it is; no other number is taken. */
+static void misaligned(void)
+{
+    static const struct {
+        uint32_t word;
+        floecavern_cause low, high;
+    } access[] = {{LR, FLOECAVERN_CAUSE_LOAD_ADDRESS_MISALIGNED, FLOECAVERN_CAUSE_LOAD_ACCESS_FAULT},
+                  {SC, FLOECAVERN_CAUSE_STORE_ADDRESS_MISALIGNED, FLOECAVERN_CAUSE_STORE_ACCESS_FAULT},
+                  {0x0082a3af /* amoadd.w x7,x8,(x5) */, FLOECAVERN_CAUSE_STORE_ADDRESS_MISALIGNED, FLOECAVERN_CAUSE_STORE_ACCESS_FAULT},
+                  {0x28a2c42f /* amocas.q x8,x10,(x5) */, FLOECAVERN_CAUSE_STORE_ADDRESS_MISALIGNED, FLOECAVERN_CAUSE_STORE_ACCESS_FAULT},
+                  {LW, FLOECAVERN_CAUSE_LOAD_ADDRESS_MISALIGNED, FLOECAVERN_CAUSE_LOAD_ADDRESS_MISALIGNED},
+                  {0x0082a023 /* sw x8,0(x5) */, FLOECAVERN_CAUSE_STORE_ADDRESS_MISALIGNED, FLOECAVERN_CAUSE_STORE_ADDRESS_MISALIGNED}};
+    static const uint64_t wrong[] = {2, 3, 255, 256, 257, (uint64_t)1 << 32, UINT64_MAX};
+    size_t i;
+    for (i = 0; i < sizeof access / sizeof *access; i++) {
+        start_kind(FLOECAVERN_KIND_64, access[i].word);
+        machine.state.x[0][5] = 4162;
+        CHECK(is(floecavern_machine_step(&machine, 0), FLOECAVERN_TRAP, access[i].low, 4162, 0));
+        machine.state.misaligned = FLOECAVERN_MISALIGNED_5_AND_7;
+        was = machine;
+        CHECK(is(floecavern_machine_step(&machine, 0), FLOECAVERN_TRAP, access[i].high, 4162, 0));
+        CHECK(memcmp(&machine, &was, sizeof was) == 0);
+    }
+    for (i = 0; i < sizeof wrong / sizeof *wrong; i++) {
+        start_kind(FLOECAVERN_KIND_64, LR);
+        machine.state.misaligned = wrong[i];
+        was = machine;
+        CHECK(refused(floecavern_machine_step(&machine, 0), FLOECAVERN_REFUSAL_STATE));
+        CHECK(floecavern_machine_run(&machine, NULL, 0, 0).refusal == FLOECAVERN_REFUSAL_STATE && memcmp(&machine, &was, sizeof was) == 0);
+    }
+}
+
+/* What boards are set to, written and read. */
+static void settings(void)
+{
+    /* Format 1, two boards; the second one's version stands at 29. */
+    static const uint8_t old[] = {1, 0, 0, 0, 2, 0, 0, 0, 24, 0, 0, 0, 3, 0, 0, 0, 27, 0, 0, 0, 3, 0, 0, 0, 0, 16, 20, 64, 0, 21};
+    static const uint8_t untouched[FLOECAVERN_SETTINGS_ROOM] = {0};
+    uint8_t file[FLOECAVERN_SETTINGS_ROOM] = {0}, bad[sizeof old];
+    floecavern_board boards[FLOECAVERN_BOARDS + 1];
+    floecavern_settings read = floecavern_settings_read(old, sizeof old);
+    floecavern_written written;
+    size_t i;
+    CHECK(read.refusal == FLOECAVERN_REFUSAL_NONE && read.place == 0 && read.format == 1 && read.count == 2);
+    CHECK(read.boards[0].set_size == 4096 && read.boards[0].version == FLOECAVERN_A_2_0 && read.boards[0].misaligned == 0);
+    CHECK(read.boards[1].set_size == 64 && read.boards[1].version == FLOECAVERN_A_2_1 && read.boards[2].set_size == 0);
+    memcpy(bad, old, sizeof old);
+    bad[29] = 22;
+    read = floecavern_settings_read(bad, sizeof bad);
+    CHECK(read.refusal == FLOECAVERN_REFUSAL_SETTINGS_BOARD && read.place == 27 && read.format == 0 && read.count == 0 && read.boards[0].set_size == 0);
+    read = floecavern_settings_read(old, sizeof old - 1);
+    CHECK(read.refusal == FLOECAVERN_REFUSAL_SETTINGS_TABLE && read.place == 0);
+    bad[0] = 3;
+    CHECK(floecavern_settings_read(bad, 8).refusal == FLOECAVERN_REFUSAL_SETTINGS_FORMAT);
+    CHECK(floecavern_settings_read(NULL, 8).refusal == FLOECAVERN_REFUSAL_SETTINGS_TABLE);
+    for (i = 0; i <= FLOECAVERN_BOARDS; i++) {
+        boards[i].set_size = (uint64_t)8 << i % 10;
+        boards[i].version = 20 + i % 2;
+        boards[i].misaligned = i / 2 % 2;
+    }
+    written = floecavern_settings_write(boards, FLOECAVERN_BOARDS, file, sizeof file);
+    CHECK(written.refusal == FLOECAVERN_REFUSAL_NONE && written.place == 0 && written.len == FLOECAVERN_SETTINGS_ROOM);
+    read = floecavern_settings_read(file, written.len);
+    CHECK(read.format == 2 && read.count == FLOECAVERN_BOARDS && memcmp(read.boards, boards, sizeof read.boards) == 0);
+    memset(file, 0, sizeof file);
+    CHECK(floecavern_settings_write(boards, 2, file, 31).refusal == FLOECAVERN_REFUSAL_SETTINGS_TABLE);
+    CHECK(floecavern_settings_write(boards, 0, file, sizeof file).refusal == FLOECAVERN_REFUSAL_SETTINGS_TABLE);
+    CHECK(floecavern_settings_write(boards, FLOECAVERN_BOARDS + 1, file, sizeof file).refusal == FLOECAVERN_REFUSAL_SETTINGS_TABLE);
+    CHECK(floecavern_settings_write(boards, SIZE_MAX, file, sizeof file).refusal == FLOECAVERN_REFUSAL_SETTINGS_TABLE);
+    CHECK(floecavern_settings_write(NULL, 2, file, sizeof file).refusal == FLOECAVERN_REFUSAL_SETTINGS_TABLE);
+    CHECK(floecavern_settings_write(boards, 2, NULL, 200).refusal == FLOECAVERN_REFUSAL_SETTINGS_TABLE);
+    boards[1].misaligned = 256;
+    written = floecavern_settings_write(boards, 2, file, sizeof file);
+    CHECK(written.refusal == FLOECAVERN_REFUSAL_SETTINGS_BOARD && written.place == 28 && written.len == 0);
+    CHECK(memcmp(file, untouched, sizeof file) == 0);
+    start_kind(FLOECAVERN_KIND_32, LR);
+    floecavern_state_set_board(&machine.state, &boards[3]);
+    CHECK(machine.state.set_size == 64 && machine.state.version == 21 && machine.state.misaligned == 1 && machine.state.kind == FLOECAVERN_KIND_32);
+}
+
 static void others(void)
 {
     floecavern_refused_at refused;
@@ -752,7 +847,7 @@ static void others(void)
     refused = floecavern_report_text(NULL, 40, &text);
     CHECK(refused.refusal == FLOECAVERN_REFUSAL_FILE_LENGTH && refused.place == 0);
     CHECK(text.len == 12 && memcmp(text.bytes, "refused 7 0\n", 12) == 0);
-    CHECK(FLOECAVERN_VERSION_MAJOR == 0 && FLOECAVERN_VERSION_MINOR == 8 && FLOECAVERN_VERSION_PATCH == 0);
+    CHECK(FLOECAVERN_VERSION_MAJOR == 0 && FLOECAVERN_VERSION_MINOR == 9 && FLOECAVERN_VERSION_PATCH == 0);
 }
 
 int main(int argc, char **argv)
@@ -776,6 +871,8 @@ int main(int argc, char **argv)
     replays();
     loops();
     loops_by_kind();
+    misaligned();
+    settings();
     others();
     CHECK(floecavern_report_text(file, n, &text).refusal == FLOECAVERN_REFUSAL_NONE && text.len > 40);
     file[720] = 9;
@@ -783,7 +880,7 @@ int main(int argc, char **argv)
     CHECK(floecavern_report_text(file, n, &text).place == 720);
     for (i = 0; i <= 9; i++)
         printf("cause %d %s\n", (int)i, floecavern_cause_text(i));
-    for (i = 0; i <= 14; i++)
+    for (i = 0; i <= 24; i++)
         printf("refusal %d %s\n", (int)i, floecavern_refusal_text(i));
     for (i = 0; i <= 7; i++)
         printf("reason %d %s\n", (int)i, floecavern_reason_text(i));
@@ -804,6 +901,8 @@ uint64_t floecavern_yield(STATE, size_t hart, OUT) { return FLOECAVERN_BAD_SIZE;
 uint64_t floecavern_run(STATE, const uint8_t *events, size_t len, size_t budget, OUT) { return FLOECAVERN_BAD_SIZE; }
 uint64_t floecavern_replay(STATE, const uint8_t *log, size_t len, OUT) { return FLOECAVERN_BAD_SIZE; }
 uint64_t floecavern_check_loop_for(uint64_t version, uint64_t kind, const uint8_t *words, size_t len) { return FLOECAVERN_LOOP_REFUSED; }
+uint64_t floecavern_read_settings(const uint8_t *file, size_t len, uint8_t *boards, size_t boards_len, OUT) { return FLOECAVERN_BAD_SIZE; }
+uint64_t floecavern_write_settings(const uint8_t *boards, size_t len, uint8_t *file, size_t file_len, OUT) { return FLOECAVERN_BAD_SIZE; }
 
 static void refused(floecavern_outcome o)
 {
@@ -835,11 +934,13 @@ int main(void)
 
 CAUSES = ['instruction address misaligned', 'instruction access fault', 'illegal instruction', 'breakpoint', 'load address misaligned', 'load access fault',
           'store/AMO address misaligned', 'store/AMO access fault', 'environment call', 'no cause of the model']
-REFUSALS = ['not refused', "the set size or the memory's length or base is wrong", 'the version of A, the kind of core or the state is wrong',
+REFUSALS = ['not refused', "the set size or the memory's length or base is wrong", 'a setting other than the set size, or the state, is wrong',
             'the hart is not below the count', 'a device write of 0 or more than 8 bytes', 'a device write not wholly in memory',
             'a block of fewer than 2 or more than 16 words', "the file's length is not 40 to 65536", 'the table of contents is wrong',
             'the harts body is wrong', "the memory body's length, or base plus length, is wrong",
-            'an event or the length of the events is wrong', "the log's length is not a multiple of 48", 'the log has no rows', 'no refusal of the model']
+            'an event or the length of the events is wrong', "the log's length is not a multiple of 48", 'the log has no rows',
+            *['no refusal of the model'] * 7, "the settings file's length, number of boards, table or room is wrong", "the settings file's format is not 1 or 2",
+            "a board's set size, version of A or misaligned is wrong", 'no refusal of the model']
 REASONS = ['not rejected', 'place 0 is not an LR', 'a word that a retry loop may not hold', 'a jump or branch that a retry loop may not make',
            "the LR's rs1 is written before the SC", 'the SC has another width or rs1 than the LR', 'no SC', 'no reason of the model']
 TEXTS = ''.join('%s %d %s\n' % (name, n, line) for name, lines in [('cause', CAUSES), ('refusal', REFUSALS), ('reason', REASONS)]
@@ -857,7 +958,7 @@ STACK = '''
 #include "floecavern.h"
 enum { SIZE = 1 << 18 };
 static uint8_t stack[SIZE] __attribute__((aligned(4096)));
-static uint8_t file[65536], out[FLOECAVERN_REPORT_ROOM], mem[65536], value[8], ran[16], told[24], events[24 * 1000];
+static uint8_t file[65536], out[FLOECAVERN_REPORT_ROOM], mem[65536], value[8], ran[16], told[24], events[24 * 1000], boards[384], kept[200];
 static size_t len;
 static floecavern_state state = FLOECAVERN_STATE_INIT;
 static void *nothing(void *p) { return p; }
@@ -868,6 +969,8 @@ static void *step(void *p) { floecavern_step((uint8_t *)&state, sizeof state, 0,
 static void *device(void *p) { floecavern_device_write((uint8_t *)&state, sizeof state, 0, mem, sizeof mem, 64, 8, 1, value, 8); return p; }
 static void *yield(void *p) { floecavern_yield((uint8_t *)&state, sizeof state, 0, mem, sizeof mem, 0, value, 8); return p; }
 static void *run(void *p) { floecavern_run((uint8_t *)&state, sizeof state, 0, mem, sizeof mem, events, sizeof events, 1000, ran, 16); return p; }
+static void *read_settings(void *p) { floecavern_read_settings(kept, 200, boards, sizeof boards, ran, 16); return p; }
+static void *write_settings(void *p) { floecavern_write_settings(boards, sizeof boards, kept, sizeof kept, value, 8); return p; }
 static void *replay(void *p)
 {
     static const char row[] = "0 0000000000000000 1002a32f 06 000000001002a32e\\n";
@@ -898,7 +1001,9 @@ int main(int argc, char **argv)
     mem[0] = 0x2f, mem[1] = 0xa3, mem[2] = 0x02, mem[3] = 0x10; /* lr.w x6,(x5) */
     for (size_t i = 0; i < sizeof events; i += 24)
         events[i] = 1, events[i + 1] = i / 24 % 8;
-    void *(*calls[])(void *) = {report, loop, loop_for, step, device, yield, run, replay};
+    for (size_t i = 0; i < sizeof boards; i += 24)
+        boards[i] = 64, boards[i + 8] = 21;
+    void *(*calls[])(void *) = {report, loop, loop_for, step, device, yield, run, replay, write_settings, read_settings};
     size_t most = 0, none = used(nothing);
     for (size_t i = 0; i < sizeof calls / sizeof *calls; i++) {
         size_t n = used(calls[i]);

@@ -50,7 +50,7 @@ class Logs(unittest.TestCase):
 
     def test_other_arguments(self):
         for arguments in ([], [CASE], [CASE, LOG, LOG]):
-            self.assertEqual(run(REPLAY, *arguments), ('', 'use: replay CASE LOG\n'))
+            self.assertEqual(run(REPLAY, *arguments), ('', 'use: replay CASE LOG [SETTINGS BOARD]\n'))
 
     def test_files_that_are_not_there(self):
         self.assert_no_answer(self.path('none'), LOG, self.path('none') + ': No such file or directory')

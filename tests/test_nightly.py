@@ -457,8 +457,8 @@ class Nightly(NightlyCase):
         whole = data(files[1])
         for change, what in ((lambda r: r['cases'].pop(), 'does not agree with itself'), (lambda r: r.pop('beside'), 'no counts file'),
                              (lambda r: r.update(sha256='0'), 'another program'), (lambda r: r.update(list='0'), 'another list of cases'),
-                             (lambda r: r.update(format='floecavern nightly counts 4'), 'is no counts file of this version of tools/nightly: '
-                              "its format is 'floecavern nightly counts 4', not 'floecavern nightly counts 5'\n"),
+                             (lambda r: r.update(format='floecavern nightly counts 5'), 'is no counts file of this version of tools/nightly: '
+                              "its format is 'floecavern nightly counts 5', not 'floecavern nightly counts 6'\n"),
                              (lambda r: r.clear(), 'no counts file')):
             self.rewrite(files[1], change)
             self.assert_not_merged(what, *files)

@@ -1,13 +1,14 @@
-"""The outside vectors of requests 5, 7 and 10 of document 02, all lines of tests/vectors/05-sizes.jsonl, 07-versions.jsonl and 10-kind32.jsonl, against
-the library, byte for byte; and the case files of 10-cases and the logs of 10-logs against the library and, where they are built, the programs.
+"""The outside vectors of requests 5, 7, 10 and 11 of document 02, all lines of tests/vectors/05-sizes.jsonl, 07-versions.jsonl, 10-kind32.jsonl and
+11-misaligned.jsonl, against the library, byte for byte; the settings files of 11-settings.jsonl, read and written by the library; and the case files of
+10-cases and the logs of 10-logs against the library and, where they are built, the programs.
 
 The library is called as include/floecavern.h has it, on target/libfloecavern.so (FLOECAVERN_SO names a shared object at another place):
 
     cc -shared -o target/libfloecavern.so -Wl,--whole-archive target/staticlib/libcapi.a -Wl,--no-whole-archive
 
-Each line is one call. Compared are the answer, what is told, every byte of the state (all eight harts, unused ones too, the set size, the version
-and the kind) and all of memory; of a loop the answer. The events of a run are performed by single calls as well, since the line has the answer of
-each of them.
+Each line is one call. Compared are the answer, what is told, every byte of the state (all eight harts, unused ones too, the set size, the version,
+the kind and what a misaligned atomic gives) and all of memory; of a loop the answer. The events of a run are performed by single calls as well, since
+the line has the answer of each of them.
 """
 import ctypes
 import importlib.machinery
@@ -28,18 +29,23 @@ SO = os.environ.get('FLOECAVERN_SO', os.path.join(ROOT, 'target', 'libfloecavern
 
 PROGRAM, REPLAY = (os.path.join(ROOT, 'target', 'bin', name) for name in ('floecavern', 'replay'))
 
-LINES = {outside.SIZES: 739, outside.VERSIONS: 336, outside.KINDS: 629}
-IN_EVENT_TABLE = {outside.SIZES: 611, outside.VERSIONS: 221, outside.KINDS: 483}
+LINES = {outside.SIZES: 739, outside.VERSIONS: 336, outside.KINDS: 629, outside.MISALIGNED: 688}
+IN_EVENT_TABLE = {outside.SIZES: 611, outside.VERSIONS: 221, outside.KINDS: 483, outside.MISALIGNED: 652}
+# Of 11-settings.jsonl: files to be read and lists of boards to be written.
+TO_READ, TO_WRITE = 508, 142
 
 BAD_SIZE = 2 ** 64 - 1
 TRAP, REFUSED = 256, 512
-STATE, PC, RESERVATION, SET_SIZE, VERSION, KIND = 2336, 2056, 2120, 2312, 2320, 2328
+STATE, PC, RESERVATION, SET_SIZE, VERSION, KIND, MISALIGNED = 2344, 2056, 2120, 2312, 2320, 2328, 2336
+BOARD, BOARDS = 24, 16
 REPORT_ROOM = 262144
 EVENT = 24
 # No version of A, but some have the number of one in a part of their bits.
 OTHER_VERSIONS = (0, 1, 2, 19, 22, 32, 33, 210, 20 << 8, 20 << 32, (1 << 32) + 20, (1 << 63) + 21, 2 ** 64 - 1)
 # The same of the kind of core.
 OTHER_KINDS = (2, 3, 32, 64, 255, 256, 257, 1 << 32, (1 << 32) + 1, 1 << 63, (1 << 63) + 1, 2 ** 64 - 1)
+# The same of what a misaligned atomic gives.
+OTHER_MISALIGNED = (2, 3, 4, 5, 6, 7, 255, 256, 257, 1 << 32, (1 << 32) + 1, 1 << 63, (1 << 63) + 1, 2 ** 64 - 1)
 # What stands where the library reads nothing, or has not written yet.
 RUBBISH = 0xA5A5A5A5A5A5A5A5
 
@@ -65,7 +71,7 @@ def buffer(data):
 
 
 class Machine:
-    """A state of 2336 bytes and a memory, lent to one call after another."""
+    """A state of 2344 bytes and a memory, lent to one call after another."""
 
     def __init__(self, library, state, base, memory):
         self.library, self.base = library, base
@@ -89,13 +95,18 @@ class Machine:
         return bytes(self.state)[:self.state_len], bytes(self.memory)[:self.memory_len]
 
 
+def settings_of(line):
+    """Set size, version, kind and misaligned."""
+    return outside.set_size(line), outside.version(line), outside.kind(line), outside.misaligned(line)
+
+
 def state_bytes(line):
     """The state that a line gives. Where a hart has no reservation, address and width mean nothing, and are rubbish."""
     harts = list(outside.harts(line))
     numbers = [line['count']] + [value for x, _, _ in harts for value in x] + [pc for _, pc, _ in harts]
     for _, _, held in harts:
         numbers += [0, RUBBISH, RUBBISH] if held is None else [1, *held]
-    return struct.pack('<292Q', *numbers, outside.set_size(line), outside.version(line), outside.kind(line))
+    return struct.pack('<293Q', *numbers, *settings_of(line))
 
 
 def written(line):
@@ -111,11 +122,11 @@ def written(line):
 
 
 def meaning(state):
-    """Count, set size, version, kind and harts of a state's bytes; the harts as the module outside has them."""
-    numbers = struct.unpack('<292Q', state)
+    """Count, settings and harts of a state's bytes; the harts as the module outside has them."""
+    numbers = struct.unpack('<293Q', state)
     x, pcs, held = numbers[1:257], numbers[257:265], numbers[265:289]
     harts = [(list(x[32 * h:32 * h + 32]), pcs[h], tuple(held[3 * h + 1:3 * h + 3]) if held[3 * h] else None) for h in range(8)]
-    return numbers[0], numbers[289], numbers[290], numbers[291], harts
+    return numbers[0], *numbers[289:], harts
 
 
 def answered(answer, broke):
@@ -187,8 +198,7 @@ class Vectors(unittest.TestCase):
         part = outside.afterwards(line)
         self.assertEqual(memory, outside.memory(line, part))
         self.assertEqual(state, written(line) if writes else state_bytes(line))
-        settings = outside.set_size(line), outside.version(line), outside.kind(line)
-        self.assertEqual(meaning(state), (line['count'], *settings, list(outside.harts(part))))
+        self.assertEqual(meaning(state), (line['count'], *settings_of(line), list(outside.harts(part))))
 
     def single(self, line):
         machine = self.machine(line)
@@ -268,17 +278,112 @@ class Vectors(unittest.TestCase):
     def test_other_kinds(self):
         self.others(outside.KINDS, 'kind', OTHER_KINDS)
 
+    def test_other_numbers_for_misaligned(self):
+        self.others(outside.MISALIGNED, 'misaligned', OTHER_MISALIGNED)
+
+    def test_loops_have_no_misaligned(self):
+        """The loop checker is given version and kind alone: its lines say nothing of misaligned atomics."""
+        loops = [line for _, _, line in outside.lines() if line['call'] == 'loop']
+        self.assertEqual({name for line in loops for name in line} - {'open'}, {'call', 'words', 'version', 'kind', 'answer'})
+
     def test_length_of_a_state(self):
-        """Every function takes 2336 bytes of a state and no other number of them; then nothing is written."""
+        """Every function takes 2344 bytes of a state and no other number of them; then nothing is written."""
         _, _, line = next(outside.lines())
         for name, arguments, told in (('step', (0,), 1), ('yield', (0,), 1), ('device_write', (0, 1, 0), 1), ('run', (*buffer(b''), 0), 2),
                                       ('replay', buffer(b''), 3)):
-            for length in (0, 8, 2304, SET_SIZE, VERSION, KIND, STATE - 1, STATE + 1, STATE + 8):
+            for length in (0, 8, 2304, SET_SIZE, VERSION, KIND, MISALIGNED, STATE - 1, STATE + 1, STATE + 8):
                 with self.subTest(call=name, length=length):
                     state = (state_bytes(line) + bytes(8))[:length]
                     machine = Machine(self.library, state, outside.base(line), outside.memory(line, line))
                     self.assertEqual(machine.call(name, arguments, told), (BAD_SIZE, (RUBBISH,) * told))
                     self.assertEqual(machine.bytes(), (state, outside.memory(line, line)))
+
+
+class SettingsFiles(unittest.TestCase):
+    """Every line of 11-settings.jsonl by the library's reader or writer: the answer, what is told, and every byte that was lent."""
+
+    @classmethod
+    def setUpClass(cls):
+        if not os.path.exists(SO):
+            raise unittest.SkipTest('no %s: the command is in the first lines of this file' % SO)
+        cls.library = library()
+        for function in cls.library.floecavern_read_settings, cls.library.floecavern_write_settings:
+            function.argtypes, function.restype = [ctypes.POINTER(ctypes.c_uint8), ctypes.c_size_t] * 3, ctypes.c_uint64
+
+    def call(self, name, given, out, told):
+        """The answer of a call, and the bytes of the two buffers that were lent, which held rubbish before."""
+        (lent, room), (said, length) = (buffer(b'\xA5' * size) for size in (out, told))
+        answer = getattr(self.library, 'floecavern_%s_settings' % name)(*buffer(given), lent, room, said, length)
+        return answer, bytes(lent)[:room], bytes(said)[:length]
+
+    @staticmethod
+    def lent(boards):
+        return b''.join(struct.pack('<3Q', *board) for board in boards)
+
+    def reads(self, file, answer):
+        if 'refused' in answer:
+            number, place = answer['refused']
+            expected = REFUSED + number, bytes(BOARD * BOARDS), struct.pack('<2Q', place, 0)
+        else:
+            boards = outside.boards(answer['boards'])
+            expected = 0, self.lent(boards + [(0, 0, 0)] * (BOARDS - len(boards))), struct.pack('<2Q', answer['version'], len(boards))
+        self.assertEqual(self.call('read', file, BOARD * BOARDS, 16), expected)
+
+    def writes(self, boards, room, answer):
+        if 'refused' in answer:
+            number, place = answer['refused']
+            expected = REFUSED + number, b'\xA5' * room, struct.pack('<Q', place)
+        else:
+            file = bytes.fromhex(answer['file'])
+            expected = 0, file + b'\xA5' * (room - len(file)), struct.pack('<Q', len(file))
+        self.assertEqual(self.call('write', self.lent(boards), room, 8), expected)
+
+    def test_reader(self):
+        for number, line in outside.settings_lines():
+            if 'file' in line:
+                with self.subTest(line=number, name=line['name']):
+                    self.reads(bytes.fromhex(line['file']), line['answer'])
+
+    def test_writer(self):
+        for number, line in outside.settings_lines():
+            if 'boards' in line:
+                with self.subTest(line=number, name=line['name']):
+                    self.writes(outside.boards(line['boards']), line['room'], line['answer'])
+
+    def test_written_again(self):
+        """What is read is written as the same boards; a file of version 2 as itself."""
+        for number, line in outside.settings_lines():
+            if 'file' in line and 'boards' in line['answer']:
+                with self.subTest(line=number, name=line['name']):
+                    boards = outside.boards(line['answer']['boards'])
+                    length = 8 + 12 * len(boards)
+                    answer, file, told = self.call('write', self.lent(boards), length, 8)
+                    self.assertEqual((answer, told), (0, struct.pack('<Q', length)))
+                    self.reads(file, {**line['answer'], 'version': 2})
+                    if line['answer']['version'] == 2:
+                        self.assertEqual(file, bytes.fromhex(line['file']))
+
+    def test_numbers_of_more_bytes(self):
+        """A number that a body has no room for is a bad one, and not cut. The vectors have none above 65535."""
+        for bad in ((65536 + 64, 21, 0), (64, 256 + 21, 0), (64, 21, 256), (64, 21, 257), (1 << 32 | 64, 20, 0), (64, 1 << 63 | 20, 0),
+                    (64, 20, 1 << 63)):
+            for k in range(3):
+                with self.subTest(bad=bad, place=k):
+                    boards = [(64, 21, 0)] * k + [bad] * (3 - k)
+                    self.writes(boards, 44, {'refused': [23, 32 + 4 * k]})
+                    self.writes(boards, 43, {'refused': [21, 0]})
+        self.writes([(0, 0, 2 ** 64 - 1)] * 17, 1000, {'refused': [21, 0]})
+
+    def test_lengths(self):
+        """Buffers of any other length are a bad size, and nothing is written."""
+        file = bytes.fromhex('0200000001000000100000000400000040001501')
+        for out, told in ((0, 16), (BOARD, 16), (383, 16), (385, 16), (408, 16), (384, 0), (384, 8), (384, 15), (384, 17)):
+            with self.subTest(boards=out, told=told):
+                self.assertEqual(self.call('read', file, out, told), (BAD_SIZE, b'\xA5' * out, b'\xA5' * told))
+        for given, told in ((1, 8), (23, 8), (25, 8), (47, 8), (24, 0), (24, 7), (24, 9), (24, 16)):
+            with self.subTest(boards=given, told=told):
+                boards = self.lent([(64, 21, 1)] * 2)[:given]
+                self.assertEqual(self.call('write', boards, 64, told), (BAD_SIZE, b'\xA5' * 64, b'\xA5' * told))
 
 
 def read(path):
@@ -380,6 +485,16 @@ class Counts(unittest.TestCase):
         """A test method for each call that a line has."""
         self.assertEqual({line['call'] for _, _, line in outside.lines()}, set(Vectors.CALLS))
 
+    def test_settings_files(self):
+        """Each line is a file to be read or a list of boards to be written, and every number that it has fits into 8 bytes."""
+        lines = [line for _, line in outside.settings_lines()]
+        to_read, to_write = (sum(name in line for line in lines) for name in ('file', 'boards'))
+        self.assertEqual((to_read, to_write, len(lines)), (TO_READ, TO_WRITE, TO_READ + TO_WRITE))
+        for line in lines:
+            given = outside.boards(line.get('boards', [])) + outside.boards(line['answer'].get('boards', []))
+            self.assertTrue(all(0 <= number < 2 ** 64 for board in given for number in board), line['name'])
+            self.assertEqual((len(line.get('file', '')) % 2, len(line['answer'].get('file', '')) % 2), (0, 0), line['name'])
+
     def test_files(self):
         """One case more than the 182 of request 10 is the older one that changes with it."""
         self.assertEqual((len(outside.cases(outside.CASES)), len(outside.cases(outside.LOGS))), (183, 20))
@@ -391,7 +506,8 @@ class Counts(unittest.TestCase):
         self.assertEqual({kind: len(numbers) for kind, numbers in others.items()},
                          {(outside.SIZES, 'runs and replays'): 78, (outside.SIZES, 'more memory than 8192 bytes'): 50,
                           (outside.VERSIONS, 'runs and replays'): 55, (outside.VERSIONS, 'loops'): 60,
-                          (outside.KINDS, 'runs and replays'): 70, (outside.KINDS, 'more memory than 8192 bytes'): 1, (outside.KINDS, 'loops'): 75})
+                          (outside.KINDS, 'runs and replays'): 70, (outside.KINDS, 'more memory than 8192 bytes'): 1, (outside.KINDS, 'loops'): 75,
+                          (outside.MISALIGNED, 'runs and replays'): 34, (outside.MISALIGNED, 'loops'): 2})
         for name in outside.FILES:
             told = [number for file, number, _ in cases if file == name]
             self.assertEqual(len(told), IN_EVENT_TABLE[name])

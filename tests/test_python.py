@@ -19,9 +19,9 @@ import casetext
 
 sys.path.insert(0, os.path.join(ROOT, 'python'))
 import floecavern
-from floecavern import (A_2_0, A_2_1, KIND_32, KIND_64, RETIRED, SC_FAILED, SC_STORED, Cause, Event, Kind, Machine, Outcome, Reason, Refusal, Refused,
-                        Replayed, Reservation, State, Stop, StopKind, Verdict, check_loop, device_write, harts, replay, report, report_text, run, run_bytes,
-                        step, trap, yield_hart)
+from floecavern import (A_2_0, A_2_1, KIND_32, KIND_64, MISALIGNED_4_AND_6, MISALIGNED_5_AND_7, RETIRED, SC_FAILED, SC_STORED, Board, Cause, Event, Kind,
+                        Machine, Outcome, Reason, Refusal, Refused, Replayed, Reservation, SettingsFile, State, Stop, StopKind, Verdict, check_loop,
+                        device_write, harts, read_settings, replay, report, report_text, run, run_bytes, step, trap, write_settings, yield_hart)
 
 LIBRARY = os.path.join(ROOT, 'target', 'staticlib', 'libcapi.a')
 LR, SC = 0x1002a32f, 0x1882a3af  # lr.w x6,(x5); sc.w x7,x8,(x5)
@@ -354,7 +354,7 @@ class Sets(Refuses):
 
     def test_default(self):
         self.assertEqual((floecavern.SET_SIZE, State(1).set_size, Machine(1, 0, 64).state.set_size), (64, 64, 64))
-        self.assertEqual(State(2).to_bytes(), b'\x02' + bytes(2311) + b'\x40' + bytes(7) + b'\x15' + bytes(7) + bytes(8))
+        self.assertEqual(State(2).to_bytes(), b'\x02' + bytes(2311) + b'\x40' + bytes(7) + b'\x15' + bytes(7) + bytes(16))
         self.assertEqual((State(1, set_size=64), State(1, set_size=16).set_size), (State(1), 16))
         self.assertNotEqual(State(1, set_size=16), State(1))
         self.assertEqual(repr(State(2, set_size=16)), '<State of 2 harts, 64 bits, A 2.1, sets of 16 bytes, pcs 0x0 0x0>')
@@ -374,7 +374,7 @@ class Sets(Refuses):
                 self.refuses_unchanged(Refusal.MEMORY, m, device_write, 0, 0, 0)
                 self.refuses_unchanged(Refusal.MEMORY, m, run, [], place=0)
                 self.refuses_unchanged(Refusal.MEMORY, m, replay, b'')
-        zeros = State.from_bytes(b'\x01' + bytes(2335))
+        zeros = State.from_bytes(b'\x01' + bytes(2343))
         self.refuses(Refusal.MEMORY, step, zeros, 0, bytearray(64), 0)
         self.assertEqual(str(Refused(1)), "refusal 1: the set size or the memory's length or base is wrong")
 
@@ -441,7 +441,7 @@ class Versions(Refuses):
         self.assertEqual((State(1, version=A_2_1), State(1, version=A_2_0).version), (State(1), 20))
         self.assertEqual(Machine(1, 0, 64, version=A_2_0).state, Machine(1, 0, 64, set_size=64, version=20).state)
         self.assertNotEqual(State(1, version=A_2_0), State(1))
-        self.assertEqual(State(2, version=A_2_0).to_bytes()[2312:], b'\x40' + bytes(7) + b'\x14' + bytes(15))
+        self.assertEqual(State(2, version=A_2_0).to_bytes()[2312:], b'\x40' + bytes(7) + b'\x14' + bytes(23))
         self.assertEqual(repr(State(1, version=A_2_0)), '<State of 1 harts, 64 bits, A 2.0, sets of 64 bytes, pcs 0x0>')
         self.assertEqual(repr(State(1, version=0)), '<State of 1 harts, 64 bits, version 0, sets of 64 bytes, pcs 0x0>')
 
@@ -461,7 +461,7 @@ class Versions(Refuses):
             self.refuses_unchanged(Refusal.STATE, m, replay, b'')
             m.base = 1
             self.refuses_unchanged(Refusal.MEMORY, m, step, 0)
-        self.assertEqual(str(Refused(2)), 'refusal 2: the version of A, the kind of core or the state is wrong')
+        self.assertEqual(str(Refused(2)), 'refusal 2: a setting other than the set size, or the state, is wrong')
 
     def test_device_writes(self):
         """They break what the LR read under 2.1 and nothing under 2.0. The memory is written under both."""
@@ -542,7 +542,7 @@ class Kinds(Refuses):
         self.assertEqual((KIND_64, KIND_32, State(1).kind, Machine(1, 0, 64).state.kind), (0, 1, 0, 0))
         self.assertEqual((State(1, kind=KIND_64), State(1, kind=KIND_32).kind), (State(1), 1))
         self.assertNotEqual(State(1, kind=KIND_32), State(1))
-        self.assertEqual(State(2, kind=KIND_32).to_bytes()[2328:], b'\x01' + bytes(7))
+        self.assertEqual(State(2, kind=KIND_32).to_bytes()[2328:], b'\x01' + bytes(15))
         self.assertEqual(repr(State(1, kind=KIND_32)), '<State of 1 harts, 32 bits, A 2.1, sets of 64 bytes, pcs 0x0>')
         self.assertEqual(repr(State(1, kind=7)), '<State of 1 harts, kind 7, A 2.1, sets of 64 bytes, pcs 0x0>')
 
@@ -660,6 +660,86 @@ class Kinds(Refuses):
             self.refuses(Refusal.STATE, lambda: check_loop(block, kind=2))
 
 
+class Misaligned(Refuses):
+    """What a misaligned LR, SC, AMO or AMOCAS gives, by the state."""
+    WRONG = [2, 3, 4, 7, 255, 256, 257, 2**32, 2**32 + 1, 2**63, 2**64 - 1]
+    # With x5 for the address: lr.w, lr.d; sc.w, amoadd.w, amocas.w, amocas.q; lw; sw.
+    ACCESSES = [(LR, 4, 5), (0x1002b32f, 4, 5), (SC, 6, 7), (0x0082a3af, 6, 7), (0x2882a3af, 6, 7), (0x2882c32f, 6, 7), (0x0002a303, 4, 4), (0x0082a023, 6, 6)]
+
+    def test_default(self):
+        self.assertEqual((MISALIGNED_4_AND_6, MISALIGNED_5_AND_7, State(1).misaligned, Machine(1, 0, 64).state.misaligned), (0, 1, 0, 0))
+        self.assertNotEqual(State(1, misaligned=1), State(1))
+        self.assertEqual(State(2, misaligned=1).to_bytes()[2336:], b'\x01' + bytes(7))
+        self.assertEqual(repr(State(1, misaligned=1)), '<State of 1 harts, 64 bits, A 2.1, sets of 64 bytes, misaligned 5 and 7, pcs 0x0>')
+        self.assertEqual(repr(State(1, misaligned=7)), '<State of 1 harts, 64 bits, A 2.1, sets of 64 bytes, misaligned 7, pcs 0x0>')
+
+    def test_causes(self):
+        """A trap leaves all as it was, in memory and outside; an aligned access doesn't ask."""
+        for word, *causes in self.ACCESSES:
+            for misaligned, cause in enumerate(causes):
+                for address in [65, 66, 255, 257, 2**64 - 1]:
+                    m = machine(words=[word])
+                    m.state.misaligned, m.state.x[0][5] = misaligned, address
+                    before = copy.deepcopy(m)
+                    self.assertEqual(m.step(0), trap(cause, address))
+                    self.assertEqual(m, before)
+            low, high = machine(words=[word]), machine(words=[word])
+            high.state.misaligned = 1
+            self.assertEqual(low.step(0), high.step(0))
+            low.state.misaligned = 1
+            self.assertEqual(low, high)
+
+    def test_wrong_numbers(self):
+        """Refusal 2 of every call, after 1 and before what is asked of a call alone."""
+        for misaligned in self.WRONG:
+            self.refuses(Refusal.STATE, lambda: Machine(1, 0, 64, misaligned=misaligned))
+            self.refuses(Refusal.MEMORY, lambda: Machine(1, 0, 65, misaligned=misaligned))
+            m = machine()
+            m.state.misaligned = misaligned
+            self.refuses_unchanged(Refusal.STATE, m, step, 0)
+            self.refuses_unchanged(Refusal.STATE, m, yield_hart, 9)
+            self.refuses_unchanged(Refusal.STATE, m, device_write, 0, 0, 0)
+            self.refuses_unchanged(Refusal.STATE, m, run, [Event.step(9)], place=0)
+            self.refuses_unchanged(Refusal.STATE, m, replay, b'')
+        self.assertRaises(ValueError, State, 1, misaligned=-1)
+        self.assertRaises(TypeError, State, 1, misaligned='1')
+
+
+class Settings(Refuses):
+    """Settings files. tests/test_settings.py has the outside vectors."""
+    BOARDS = [Board(8 << k % 10, 20 + k % 2, k // 2 % 2) for k in range(16)]
+
+    def test_files(self):
+        for n in range(1, 17):
+            file = write_settings(self.BOARDS[:n])
+            self.assertEqual(len(file), 8 + 12 * n)
+            self.assertEqual(read_settings(file), SettingsFile(2, tuple(self.BOARDS[:n])))
+            self.refuses(Refusal.SETTINGS_TABLE, read_settings, file[:-1], place=0)
+            self.refuses(Refusal.SETTINGS_TABLE, read_settings, file + b'\0', place=0)
+        self.assertEqual(read_settings(bytearray(file)), read_settings(memoryview(file)))
+        self.assertEqual(write_settings(iter([(64, 21, 0)])), write_settings([Board()]))
+        self.assertEqual(Board(), Board(64, A_2_1, MISALIGNED_4_AND_6))
+
+    def test_refusals(self):
+        self.refuses(Refusal.SETTINGS_TABLE, read_settings, b'', place=0)
+        self.refuses(Refusal.SETTINGS_FORMAT, read_settings, b'\3' + bytes(7), place=0)
+        self.refuses(Refusal.SETTINGS_TABLE, write_settings, [], place=0)
+        self.refuses(Refusal.SETTINGS_TABLE, write_settings, [Board()] * 17, place=0)
+        for bad in [Board(24), Board(65536 + 64), Board(64, 22), Board(64, 256 + 21), Board(64, 21, 2), Board(64, 21, 256), Board(64, 21, 2**63)]:
+            self.refuses(Refusal.SETTINGS_BOARD, write_settings, [Board(), bad, bad], place=36)
+        self.assertEqual(str(Refused(23, 36)), "refusal 23 at 36: a board's set size, version of A or misaligned is wrong")
+        for bad in [[Board(-1)], [Board(2**64)]]:
+            self.assertRaises(ValueError, write_settings, bad)
+        for bad in [[Board('64')], [(64, 21, 0, 0)], [64], None]:
+            self.assertRaises(TypeError, write_settings, bad)
+        self.assertRaises(TypeError, read_settings, 'text')
+
+    def test_machine(self):
+        m = Machine(1, 0, 4096, **Board(4096, A_2_0, 1)._asdict())
+        self.assertEqual((m.state.set_size, m.state.version, m.state.kind, m.state.misaligned), (4096, 20, 0, 1))
+        self.refuses(Refusal.MEMORY, lambda: Machine(1, 0, 64, **Board(4096)._asdict()))
+
+
 class Values(Refuses):
     """What isn't the model's at all is an error before the library is called."""
 
@@ -722,7 +802,7 @@ class Values(Refuses):
             self.assertRaises(TypeError, step, State(1), 0, mem, 0)
         state = State(1)
         self.assertRaises(ValueError, step, state, 0, state.x[0], 0)
-        self.assertRaises(TypeError, step, bytearray(2336), 0, bytearray(64), 0)
+        self.assertRaises(TypeError, step, bytearray(2344), 0, bytearray(64), 0)
         for bad in [24, 'text', None]:
             self.assertRaises(TypeError, report, bad)
             self.unchanged(TypeError, run_bytes, bad)
@@ -752,20 +832,20 @@ class Values(Refuses):
         self.assertEqual(m.bytes(128, 9), b'\xff' * 8 + b'\x80')
 
     def test_states(self):
-        given = bytes(i % 251 for i in range(2336))
+        given = bytes(i % 251 for i in range(2344))
         state = State.from_bytes(given)
         self.assertEqual(state.to_bytes(), given)
-        self.assertEqual((state.count, state.x[7][31], state.pc[7], state.set_size, state.version, state.kind),
-                         tuple(number(given[at:at + 8]) for at in [0, 2048, 2112, 2312, 2320, 2328]))
+        self.assertEqual((state.count, state.x[7][31], state.pc[7], state.set_size, state.version, state.kind, state.misaligned),
+                         tuple(number(given[at:at + 8]) for at in [0, 2048, 2112, 2312, 2320, 2328, 2336]))
         self.assertEqual(state.reservation(7), Reservation(number(given[2296:2304]), number(given[2304:2312])))
         self.assertEqual(State.from_bytes(given[:2288] + bytes([given[2288] ^ 1]) + given[2289:]), state)
-        for at in [2296, 2311, 2312, 2319, 2320, 2327, 2328, 2335]:
+        for at in [2296, 2311, 2312, 2319, 2320, 2327, 2328, 2335, 2336, 2343]:
             self.assertNotEqual(State.from_bytes(given[:at] + bytes([given[at] ^ 1]) + given[at + 1:]), state)
         self.assertEqual((pickle.loads(pickle.dumps(state)), copy.deepcopy(state)), (state, state))
         state.set_reservation(7, None)
         self.assertEqual(state.to_bytes()[2288:], bytes(24) + given[2312:])
-        for bad in [given[:-1], given + b'\0', b'', given[:2320], given[:2328]]:
-            self.assertRaisesRegex(ValueError, '^%d bytes: a state has 2336$' % len(bad), State.from_bytes, bad)
+        for bad in [given[:-1], given + b'\0', b'', given[:2320], given[:2328], given[:2336]]:
+            self.assertRaisesRegex(ValueError, '^%d bytes: a state has 2344$' % len(bad), State.from_bytes, bad)
         self.assertRaises(IndexError, state.reservation, 8)
         self.assertRaises(AttributeError, setattr, state, 'pcs', 1)
         self.assertRaises(AttributeError, setattr, state, 'pc', [0] * 8)
@@ -849,7 +929,7 @@ class Interface(unittest.TestCase):
             state = State(1)
             before = state.to_bytes()
             for call in [lambda: step(state, 0, bytearray(64), 0), lambda: run(state, 0, bytearray(64), []), lambda: Machine(1, 0, 64)]:
-                self.assertRaisesRegex(OSError, 'takes no state of 2344 bytes: it is of another version', call)
+                self.assertRaisesRegex(OSError, 'takes no state of 2352 bytes: it is of another version', call)
             self.assertEqual(state.to_bytes(), before)
 
     def test_older_version(self):
@@ -865,16 +945,17 @@ class Interface(unittest.TestCase):
                                  'In the repository, after `rt staticlib capi`: ' + floecavern.BUILD)
 
     def test_version_without_a_kind(self):
-        """A shared object of 0.7.0 has every function, but one of them has other arguments: told at the first call too, whatever it is."""
+        """A shared object whose states have another size, and one of whose functions may have other arguments, as 0.7.0 had: told at the first call too,
+        whatever it is."""
         with tempfile.TemporaryDirectory() as folder:
             made = os.path.join(folder, 'old.so')
-            names = ['report', 'check_loop', 'check_loop_for', 'step', 'device_write', 'yield', 'run', 'replay']
+            names = ['report', 'check_loop', 'check_loop_for', 'step', 'device_write', 'yield', 'run', 'replay', 'read_settings', 'write_settings']
             source = ''.join('unsigned long floecavern_%s(void) { return -1; }\n' % name for name in names)
             subprocess.run(['cc', '-shared', '-fPIC', '-x', 'c', '-', '-o', made], input=source.encode(), check=True)
             env = dict(os.environ, FLOECAVERN_SO=made, PYTHONPATH=os.path.join(ROOT, 'python'))
             for call in ['report_text(b"")', 'check_loop([])', 'Machine(1, 0, 64)']:
                 done = subprocess.run([sys.executable, '-c', 'import floecavern; floecavern.' + call], env=env, capture_output=True, text=True)
-                self.assertEqual(done.stderr.splitlines()[-1], 'OSError: the shared object takes no state of 2336 bytes: it is of another version. '
+                self.assertEqual(done.stderr.splitlines()[-1], 'OSError: the shared object takes no state of 2344 bytes: it is of another version. '
                                  'In the repository, after `rt staticlib capi`: ' + floecavern.BUILD)
 
     def test_pairs(self):

@@ -27,8 +27,11 @@ class Tables(unittest.TestCase):
     def test_touch_table(self):
         self.same('touch-table', 'touch_table')
 
+    def test_boards_table(self):
+        self.same('boards-table', 'boards_table', ['tests/vectors/11-settings.jsonl'])
+
     def test_event_table(self):
-        vectors = ['05-sizes.jsonl', '07-versions.jsonl', '10-kind32.jsonl']
+        vectors = ['05-sizes.jsonl', '07-versions.jsonl', '10-kind32.jsonl', '11-misaligned.jsonl']
         self.same('event-table', 'event_table', ['tests/outside.py', *('tests/vectors/' + name for name in vectors)])
 
     @unittest.skipUnless(shutil.which('riscv64-linux-gnu-as') and shutil.which('riscv64-linux-gnu-objdump'), 'needs binutils-riscv64-linux-gnu')

@@ -3,10 +3,13 @@ import re
 import struct
 from collections import Counter, namedtuple
 
+from settingsfile import DEFAULT
+
 STEP, DEVICE, YIELD = 1, 2, 3
 Hart = namedtuple('Hart', 'registers pc')                    # registers: x1 to x31
 Event = namedtuple('Event', 'kind hart size address data')
-Case = namedtuple('Case', 'base harts memory events kind', defaults=(0,))    # kind: of the core, a place in WIDTHS
+# kind: of the core, a place in WIDTHS; board: that the case was read on
+Case = namedtuple('Case', 'base harts memory events kind board', defaults=(0, DEFAULT))
 Answer = namedtuple('Answer', 'said losers')                 # said: 'ok', 'sc 0', 'sc 1', 'trap CAUSE VALUE'; losers: of HARTS, those behind `broke`
 WIDTHS = (64, 32)                                            # of the registers, by the kind
 HARTS = tuple('h%d' % hart for hart in range(8))
@@ -48,7 +51,12 @@ def read_table(data):
     return bodies
 
 
-def read_harts(body):
+def granule(board):
+    """What the memory's base and length are multiples of, on a board."""
+    return max(64, board.size)
+
+
+def read_harts(body, board):
     """The base, the harts and the kind."""
     if len(body) < 16:
         raise Refused(9, 40, 'the body has %d bytes, fewer than 16' % len(body))
@@ -59,8 +67,8 @@ def read_harts(body):
         raise Refused(9, 40, 'the body of %d harts has %d bytes, not %d' % (count, len(body), 16 + 256 * count))
     if kind >= len(WIDTHS):
         raise Refused(9, 40, 'the kind is %d, not 0 (64-bit) or 1 (32-bit)' % kind)
-    if base % 64 or base > 1 << 40:
-        raise Refused(9, 40, 'the base %#x is no multiple of 64, or above 2^40' % base)
+    if base % granule(board) or base > 1 << 40:
+        raise Refused(9, 40, 'the base %#x is no multiple of %d, or above 2^40' % (base, granule(board)))
     harts = []
     for h in range(count):
         *registers, pc = struct.unpack_from('<32Q', body, 16 + 256 * h)
@@ -105,18 +113,18 @@ def read_events(body, start, base, length, harts):
     return events
 
 
-def read(data):
-    """The case of a file's bytes. Raises Refused, tried in the program's order."""
+def read(data, board=DEFAULT):
+    """The case of a file's bytes, read on a board. Raises Refused, tried in the program's order."""
     if not 40 <= len(data) <= 65536:
         raise Refused(7, 0, '%d bytes, not 40 to 65536' % len(data))
     harts_body, memory, events_body = read_table(data)
-    base, harts, kind = read_harts(harts_body)
+    base, harts, kind = read_harts(harts_body, board)
     start = 40 + len(harts_body)
-    if not 64 <= len(memory) <= 1 << 20 or len(memory) % 64:
-        raise Refused(10, start, '%d bytes, no multiple of 64 from 64 on' % len(memory))
+    if not 64 <= len(memory) <= 1 << 20 or len(memory) % granule(board):
+        raise Refused(10, start, '%d bytes, no multiple of %d from 64 on' % (len(memory), granule(board)))
     if WIDTHS[kind] == 32 and base + len(memory) > 1 << 32:
         raise Refused(10, start, '%d bytes at %#x, which end above 2^32' % (len(memory), base))
-    return Case(base, harts, memory, read_events(events_body, start + len(memory), base, len(memory), len(harts)), kind)
+    return Case(base, harts, memory, read_events(events_body, start + len(memory), base, len(memory), len(harts)), kind, board)
 
 
 def write(case):

@@ -53,16 +53,11 @@ from collections import namedtuple
 import elf
 import riscv
 from casefile import CAUSES, DEVICE, STEP, WIDTHS, YIELD, Case, Event, Hart, event_fault, right_line, write
+from toolfiles import TextError
 
 SIZES = {'.byte': 1, '.half': 2, '.word': 4, '.dword': 8}
 NOP = riscv.assemble('addi x0,x0,0').to_bytes(4, 'little')
 Piece = namedtuple('Piece', 'line place size encode name', defaults=('',))    # of the memory; name: of a segment, for what is said of it
-
-
-class TextError(Exception):
-    def __init__(self, line, what):
-        super().__init__(what)
-        self.line = line
 
 
 # ---- a text to its case
@@ -443,12 +438,17 @@ def printable(line):
     return re.sub(r'[^ -~]', lambda found: found.group().encode('unicode_escape').decode(), line)
 
 
+# The lines may be those of a board whose misaligned atomics give 5 and 7; they don't say which word trapped.
+BY_BOARD = {5: ', or a misaligned LR by its board', 7: ', or a misaligned SC or AMO by its board'}
+
+
 def event_line(number, event, lines, case):
     """An event with its number or, where lines are given, what the program wrote for it; behind a device write of a word, its disassembly."""
     mine = ['%d' % number] if lines is None else lines.get(number, ['%d: no line' % number])
     comment = ' | '.join(map(printable, mine))
     if len(mine) == 1 and ' trap ' in comment and right_line(number, event, comment, len(case.harts)):
-        comment += '  (%s)' % CAUSES[int(comment.split()[3])]
+        cause = int(comment.split()[3])
+        comment += '  (%s%s)' % (CAUSES[cause], BY_BOARD.get(cause, ''))
     word = riscv.disassemble(event.data, WIDTHS[case.kind]) if event.size == 4 and event.address % 4 == 0 else None
     if word:
         comment += '  (%s)' % word

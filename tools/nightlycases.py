@@ -5,7 +5,7 @@ A record is what the page, the counts and the JUnit file are made of. It has one
   outcome, what (is missing or wrong), different (from the .out), refusal (`NUMBER PLACE`), counts, seconds, kept (the paths of what it wrote, if it
   failed), unkept (why that couldn't be kept), logs (a row for each log of a board, see nightlylogs.py), unlogged (the folder has logs, but none of it)
 and `beside`, what is missing of the folder, the programs or the parts: [name, what]; `strays`, the rows of logs that have no case; `logs`, the number
-of logs in the whole folder.
+of logs in the whole folder; `settings`, `settings_sha256` and `boards`, the settings file, its hash and the boards that it has.
 """
 import json
 import os
@@ -21,7 +21,7 @@ from nightlylogs import one_log, stray_log
 from nightlypage import case_failed, failed, seconds
 from nightlyrun import kill_all, run, stop
 
-FORMAT = 'floecavern nightly counts 5'
+FORMAT = 'floecavern nightly counts 6'
 
 
 # ---- one case
@@ -171,7 +171,7 @@ def run_cases(args, mine, hashes, kept, logs):
 
 
 def beside(args, before, after, rows, sha256):
-    """What is missing of the folder and the programs themselves. sha256: the programs' hashes by their paths."""
+    """What is missing of the folder, the programs and the settings file themselves. sha256: the programs' hashes by their paths."""
     wrong, told = list(before.unreadable), {row['name'] for case in rows for row in (case, *case['logs']) if row['outcome'] == 'missing'}
     there, here = ({*found.names, *all_logs(found)} for found in (before, after))
     if not before.names:
@@ -184,6 +184,8 @@ def beside(args, before, after, rows, sha256):
     wrong += [[name, 'vanished during the run'] for name in sorted(there - here - told)]
     wrong += [row for row in after.unreadable if row not in wrong]
     wrong += [[path, 'the program was replaced during the run'] for path, before in sha256.items() if file_hash(path) != before]
+    if args.settings and file_hash(args.settings) != args.settings_sha256:
+        wrong.append([args.settings, 'the settings file was changed during the run'])
     return wrong
 
 
@@ -217,6 +219,7 @@ def run_all(args, found, kept):
         'only': args.only is not None, 'list': list_hash(found.names, logs), 'contents': contents_hash(hashes, logs), 'of': len(found.names),
         'logs': len(logs), 'others': found.others, 'program': args.program, 'sha256': sha256[args.program],
         'replay': args.replay if found.logs else '', 'replay_sha256': sha256.get(args.replay, '') if found.logs else '',
+        'settings': args.settings or '', 'settings_sha256': args.settings_sha256, 'boards': [list(board) for board in args.boards],
         'expect': args.expect, 'started': stamp, 'began': began, 'seconds': taken,
         'time': '%s with %d at once' % (seconds(taken), args.jobs), 'counts': totals(rows, strays), 'beside': wrong, 'since': None, 'strays': strays,
         'cases': rows,

@@ -16,7 +16,7 @@ from nightlyfolder import is_log
 # A whole file of an earlier night, from its first byte to its last, by what is to be written there: what a user added at its end is a user's.
 OWN = {
     'text': rb'Floecavern nightly[^\n]*\n\n(clean|partly clean|not clean|complete|not complete|different)\b[^\n]*\n.*\nCounts\n.*\nThis run\n'
-            rb'(  (night|folder|program|replay|SHA-256|started|time|slowest|not run) +[^\n]*\n)+',
+            rb'(  (night|folder|program|replay|settings|SHA-256|started|time|slowest|not run) +[^\n]*\n)+',
     'html': rb'<!doctype html>\n<html lang="en"><head><meta charset="utf-8">\n(<meta [^\n]*>\n)*<title>Floecavern nightly.*</main></body></html>\n',
     'counts': rb'\{\s*"format": "floecavern nightly counts \d+".*\}\n',
     'junit': rb'<\?xml [^\n]*\?>\n<testsuites name="floecavern nightly".*</testsuites>\n',

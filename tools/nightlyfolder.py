@@ -6,6 +6,7 @@ import stat
 from collections import namedtuple
 
 from casefile import Refused, read
+from settingsfile import DEFAULT
 
 Found = namedtuple('Found', 'names outputs others unreadable logs strays')
 
@@ -123,10 +124,10 @@ def list_hash(names, logs):
     return hash_of(sorted(names) + sorted(logs))
 
 
-def opened(file):
-    """An open file's case (None if it is none) and its refusal (None, or `NUMBER PLACE`)."""
+def opened(file, board=DEFAULT):
+    """An open file's case on a board (None if it is none) and its refusal (None, or `NUMBER PLACE`)."""
     try:
-        return read(file.read(65537)), None         # a longer file is refused for its length, whatever it holds
+        return read(file.read(65537), board), None         # a longer file is refused for its length, whatever it holds
     except Refused as refused:
         return None, '%d %d' % (refused.number, refused.place)
 

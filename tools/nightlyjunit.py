@@ -3,14 +3,16 @@
 A folder is a suite, and a case and a log are tests. A missing answer is an error, a wrong or different one a failure. Of a log, a stop is a failure
 too, and one that was not compared for another reason an error, as is a case without a log where the folder has logs. What is missing of the folder,
 the program or the parts, a log without a case and a file that is like a log are errors of the suite `the night`, so that no reader of the file takes
-a night that isn't complete or clean for a good one.
+a night that isn't complete or clean for a good one. With a settings file, every suite has it and its boards as properties, and what is at fault with a
+log begins with its board.
 """
 import os
 import re
 import xml.etree.ElementTree as xml
 
+from nightlyboards import settings_text
 from nightlypage import fault, title, verdict
-from nightlysheet import alike, log_fault, log_reason
+from nightlysheet import alike, board_text, log_fault, log_reason
 
 NO_XML = re.compile('[^\t\n\r\x20-\ud7ff\ue000-\ufffd\U00010000-\U0010ffff]')
 
@@ -37,14 +39,23 @@ def test(suite, folder, name, time, bad, kept=()):
 def start(top, record, name, time):
     """A suite, with the night's verdict: that it is of a part, or only of cases that were run again, stands there too."""
     suite = element(top, 'testsuite', name=name, time='%.3f' % time, timestamp=record['started'][:19].replace(' ', 'T'))
-    element(element(suite, 'properties'), 'property', name='verdict', value=': '.join(verdict(record)))
+    given = [('settings', record['settings']), ('settings SHA-256', record['settings_sha256'])] if record['settings'] else []
+    given += [('board %d' % k, settings_text(settings)) for k, settings in enumerate(record['boards'])]
+    properties = element(suite, 'properties')
+    for key, value in [('verdict', ': '.join(verdict(record))), *given]:
+        element(properties, 'property', name=key, value=value)
     return suite
+
+
+def log_message(log):
+    """What is at fault with a log, and with a settings file its board and what that is set to before it."""
+    return (board_text(log)[2:] + ': ' if log['settings'] else '') + log_fault(log)
 
 
 def log_tests(suite, folder, row):
     """The tests of a case's logs; of a case without one, that it has none."""
     for log in row['logs']:
-        test(suite, folder, os.path.basename(log['name']), log['seconds'], (log_reason(log), log_fault(log)) if log_reason(log) else None, log['kept'])
+        test(suite, folder, os.path.basename(log['name']), log['seconds'], (log_reason(log), log_message(log)) if log_reason(log) else None, log['kept'])
     if row['unlogged']:
         test(suite, folder, os.path.basename(row['name'])[:-5] + '.log', 0, ('missing', 'the case has no log'))
 

@@ -1,8 +1,9 @@
-"""A board's step log, and the answer of `replay CASE LOG` to it, which is judged and not believed. Used by tools/nightly.
+"""A board's step log, and the answer of `replay CASE LOG` to it, or with a settings file of `replay CASE LOG SETTINGS BOARD`, which is judged and not
+believed. Used by tools/nightly.
 
 A log has a row in the record:
-  name, board, sha256, bytes (None if it couldn't be read: nobody knows its rows), outcome, what (is wrong or missing), refusal (`NUMBER PLACE`),
-  stop, counts, seconds, kept, unkept, uncontrolled (why no control row was tried)
+  name, board, settings (what its board is set to; None without a settings file), sha256, bytes (None if it couldn't be read: nobody knows its rows),
+  outcome, what (is wrong or missing), refusal (`NUMBER PLACE`), stop, counts, seconds, kept, unkept, uncontrolled (why no control row was tried)
 Its outcome is
   agreed     every row was compared, and agrees
   stopped    a row is badly formed, differs or traps: `stop` has row, field, board's and model's value, the row itself and how its form is wrong
@@ -10,6 +11,7 @@ Its outcome is
   wrong      the program's answer can't be right
   missing    there is no answer
   stray      there is no case for it
+  unset      its name has no board of the settings file, so nobody knows under what to compare it
 Every row of it is counted once: `rows agreed`, `rows differ` (the row of a stop), `rows malformed` (the same, badly formed), `rows behind` a stop,
 `rows unanswered` (of a log with another outcome); and by what it holds: `row KIND`, and `agreed KIND` of those that agreed.
 """
@@ -21,10 +23,12 @@ import time
 from collections import Counter, namedtuple
 
 from casefile import WIDTHS
+from nightlyboards import name_fault, number_of, settings_of
 from nightlyfolder import board, file_hash, opened, plain
 from nightlyrows import ALWAYS_TRAP, ROW, Rows, cannot_agree, form_fault, in_memory, rd_of, split, well_formed, width_of
 from nightlyrun import run
 from riscv import decode, target
+from settingsfile import DEFAULT, Board
 
 ROWS_A_SECOND = 100000         # a log has a second more for every so many rows
 STRAY = 'there is no case for it'
@@ -59,25 +63,42 @@ def width(name):
     return {'b': 1, 'h': 2, 'w': 4, 'd': 8, 'q': 16}[letter]
 
 
+def access_causes(form, misaligned):
+    """The cause of a misaligned access, and that of one outside memory. misaligned: of the board, by which only those of atomics go."""
+    outside = 5 if form in ('load', 'lr') else 7
+    return outside if misaligned and form in ('lr', 'amo') else outside - 1, outside
+
+
+def causes_of(name, form, misaligned):
+    """The causes by which a step of an instruction can trap, but for 1."""
+    alone = {None: (2,), 'ebreak': (3,), 'ecall': (8,), 'jalr': (0,)}.get(name)
+    return alone or ((0,) if form in ('jump', 'branch') else access_causes(form, misaligned) if form in ('load', 'lr', 'store', 'amo') else ())
+
+
+def access_fault(case, found, cause, address):
+    """Why an access can't trap by this cause of its own at an address; None if it can."""
+    (skewed, outside), size = access_causes(found[1], case.board.misaligned), width(found[0])
+    if address % size:
+        return None if cause == skewed else 'the address is misaligned'
+    if cause != outside:
+        return 'the address is aligned'
+    return 'the address is in memory' if in_memory(case, address, size) else None
+
+
 def trap_fault(case, row, cause, value):
     """Why a row's step can't trap in this way; None if it can."""
     pc, word, xlen = int(row.pc, 16), int(row.word, 16), width_of(case)
-    found = decode(word, xlen)
+    found = decode(word, xlen) or (None, None)
     if (cause == 1) != (not in_memory(case, pc, 4)):
         return 'pc %#x is %s memory' % (pc, 'in' if cause == 1 else 'not in')
-    name, form = found or (None, None)
-    causes = (2,) if not found else {'ebreak': (3,), 'ecall': (8,)}.get(name) or (
-        (0,) if form in ('jump', 'branch') or name == 'jalr' else (4, 5) if form in ('load', 'lr') else (6, 7) if form in ('store', 'amo') else ())
-    if cause != 1 and cause not in causes:
-        return '%s has no such trap' % (name or 'a word that is no instruction')
+    if cause != 1 and cause not in causes_of(*found, case.board.misaligned):
+        return '%s has no such trap%s' % (found[0] or 'a word that is no instruction', ' on its board' if cause in causes_of(*found, 0) else '')
     exact = {1: pc, 2: word, 3: 0, 8: 0, 0: (pc + target(word)) % 2 ** xlen if target(word) is not None else value}.get(cause, value)
     if value != exact or value >> xlen:
         return 'its value would be %016x' % exact if value != exact else 'its value has more than %d bits' % xlen
-    if cause == 0 and value % 4 == 0 or cause in (4, 6) and value % width(name) == 0:
+    if cause == 0 and value % 4 == 0:
         return 'the address is aligned'
-    if cause in (5, 7) and (value % width(name) or in_memory(case, value, width(name))):
-        return 'the address is %s' % ('misaligned' if value % width(name) else 'in memory')
-    return None
+    return access_fault(case, found, cause, value) if cause in (4, 5, 6, 7) else None
 
 
 def stop_fault(case, answer, row):
@@ -160,15 +181,20 @@ def altered(row):
     return b'%s%016x\n' % (row[:31], int(row[31:47], 16) ^ 1)
 
 
-def control(args, case_path, copy, k, rows, limit):
+def replay_arguments(args, case_path, path, row):
+    """What the program of --replay is given for a log, or for a copy of it."""
+    return (case_path, path) + ((args.settings, str(number_of(row['board']))) if row['settings'] else ())
+
+
+def control(args, given, k, rows, limit):
     """Changes the value of row k in a copy of a log, which agreed up to there, and asks the program: it must stop there. Gives what is wrong, or None."""
-    with open(copy, 'r+b', buffering=0) as file:
+    with open(given[1], 'r+b', buffering=0) as file:
         file.seek(k * ROW)
         row = file.read(ROW)
         other = altered(row)
         file.seek(k * ROW)
         file.write(other)
-        output, _, why = run(args.replay, None, limit, args.output_limit, (case_path, copy))
+        output, _, why = run(args.replay, None, limit, args.output_limit, given)
         file.seek(k * ROW)
         file.write(row)
     right = 'log %d rows\nrow %d value %s %s\nend %d\n' % (rows, k, split(other).value, split(row).value, k)
@@ -178,7 +204,7 @@ def control(args, case_path, copy, k, rows, limit):
     return None
 
 
-def controls(args, case_path, path, found, agreed, limit):
+def controls(args, case_path, path, row, found, agreed, limit):
     """Tries the program on one row of each instruction that agreed, and on the last row that did. Gives how many rows it tried, what is wrong with
     an answer (or None), and why no row could be tried (or None)."""
     if not agreed or not args.controls:
@@ -190,7 +216,8 @@ def controls(args, case_path, path, found, agreed, limit):
             copy = shutil.copyfile(path, os.path.join(folder, os.path.basename(path)))
         except OSError as error:
             return 0, None, 'no copy of the log can be made: %s' % (error.strerror or error)
-        wrong = next(filter(None, (control(args, case_path, copy, k, found.rows, limit) for k in tried)), None)
+        given = replay_arguments(args, case_path, copy, row)
+        wrong = next(filter(None, (control(args, given, k, found.rows, limit) for k in tried)), None)
         return len(tried), wrong, None
     finally:
         if folder:
@@ -215,8 +242,8 @@ def row_counts(found, outcome, k, field):
 
 
 def readable(*files):
-    """Raises OSError where a case or a log is no plain file, can't be opened, or is there no more. files: (path, what it is, its hash before the
-    night)."""
+    """Raises OSError where a case, a log or a settings file is no plain file, can't be opened, or is there no more. files: (path, what it is, its hash
+    before the night)."""
     for name, what, sha256 in files:
         try:
             plain(name)
@@ -229,12 +256,13 @@ def readable(*files):
 
 def answer_log(args, case_path, case_hash, path, row, wrote):
     """Runs the program over one log and fills its row."""
-    files = (case_path, 'its case', case_hash), (path, 'the log', row['sha256'])
+    files = [(case_path, 'its case', case_hash), (path, 'the log', row['sha256'])]
+    files += [(args.settings, 'the settings file', args.settings_sha256)] if row['settings'] else []
     readable(*files)
     with open(case_path, 'rb') as file:
-        case, refusal = opened(file)
+        case, refusal = opened(file, Board(*(row['settings'] or DEFAULT)))
     limit, start = args.timeout + os.stat(path).st_size // ROW // ROWS_A_SECOND, time.monotonic()
-    wrote['got'], wrote['err'], row['what'] = run(args.replay, None, limit, args.output_limit, (case_path, path))
+    wrote['got'], wrote['err'], row['what'] = run(args.replay, None, limit, args.output_limit, replay_arguments(args, case_path, path, row))
     row['seconds'] = time.monotonic() - start
     readable(*files)
     text = wrote['got'].decode('ascii', 'backslashreplace')
@@ -248,11 +276,13 @@ def answer_log(args, case_path, case_hash, path, row, wrote):
 
 
 def still(files, log_hash):
-    """Raises OSError where the case or the log isn't what it was before the night."""
+    """Raises OSError where the case, the log or the settings file isn't what it was before the night. log_hash: the log's, from its latest reading."""
     readable(*files)
-    (case_path, _, case_hash), (_, _, before) = files
+    (case_path, _, case_hash), (_, _, before), *settings = files
     if file_hash(case_path) != case_hash or log_hash != before:
         raise OSError(0, 'the case or the log was changed during the run')
+    if any(file_hash(path) != sha256 for path, _, sha256 in settings):
+        raise OSError(0, 'the settings file was changed during the run')
 
 
 def take_answer(args, case_path, path, row, given):
@@ -260,7 +290,7 @@ def take_answer(args, case_path, path, row, given):
     text, answer, case, due, found, limit = given
     outcome, row['what'] = judged(text, case, due, found)
     if outcome in ('agreed', 'stopped'):
-        tried, row['what'], row['uncontrolled'] = controls(args, case_path, path, found, answer.row, limit)
+        tried, row['what'], row['uncontrolled'] = controls(args, case_path, path, row, found, answer.row, limit)
     row['outcome'] = 'wrong' if row['what'] else outcome
     if row['outcome'] in ('agreed', 'stopped'):
         row['counts'] = row_counts(found, outcome, answer.row, answer.field) + Counter(controls=tried)
@@ -268,9 +298,9 @@ def take_answer(args, case_path, path, row, given):
     row['refusal'] = due if outcome == 'refused' else None
 
 
-def new_row(name, board_name, sha256):
-    return {'name': name, 'board': board_name, 'sha256': sha256, 'bytes': None, 'outcome': 'missing', 'what': None, 'refusal': None, 'stop': None,
-            'counts': Counter(logs=1), 'seconds': 0.0, 'kept': [], 'unkept': None, 'uncontrolled': None}
+def new_row(name, board_name, sha256, settings=None):
+    return {'name': name, 'board': board_name, 'settings': settings, 'sha256': sha256, 'bytes': None, 'outcome': 'missing', 'what': None, 'refusal': None,
+            'stop': None, 'counts': Counter(logs=1), 'seconds': 0.0, 'kept': [], 'unkept': None, 'uncontrolled': None}
 
 
 def only_count(row, path):
@@ -286,7 +316,10 @@ def only_count(row, path):
 
 def one_log(args, case_name, case_hash, name, sha256, kept):
     """The row of one log. Whatever goes wrong with it, the night goes on."""
-    row, wrote = new_row(name, board(name, case_name), sha256), {'got': b'', 'err': b''}
+    board_name = board(name, case_name)
+    if name_fault(args.boards, board_name):
+        return uncompared(args.folder, new_row(name, board_name, sha256), 'unset', name_fault(args.boards, board_name))
+    row, wrote = new_row(name, board_name, sha256, settings_of(args.boards, board_name)), {'got': b'', 'err': b''}
     case_path, path = (os.path.abspath(os.path.join(args.folder, file)) for file in (case_name, name))
     try:
         answer_log(args, case_path, case_hash, path, row, wrote)
@@ -306,10 +339,14 @@ def one_log(args, case_name, case_hash, name, sha256, kept):
     return row
 
 
-def stray_log(folder, name, sha256):
-    """The row of a log that has no case: its rows are counted, and none is compared."""
-    row = new_row(name, '', sha256)
-    row['outcome'] = 'stray'
-    row['what'] = ', and '.join(filter(None, (STRAY, only_count(row, os.path.join(folder, name)))))
+def uncompared(folder, row, outcome, why):
+    """The row of a log for which no program is asked: its rows are counted, and none is compared."""
+    row['outcome'] = outcome
+    row['what'] = ', and '.join(filter(None, (why, only_count(row, os.path.join(folder, row['name'])))))
     row['counts'] = {key: n for key, n in row['counts'].items() if n}
     return row
+
+
+def stray_log(folder, name, sha256):
+    """The row of a log that has no case."""
+    return uncompared(folder, new_row(name, '', sha256), 'stray', STRAY)

@@ -4,6 +4,7 @@ import re
 from collections import Counter
 
 from casefile import HARTS, WRITERS
+from nightlyboards import is_board, number_of, settings_of
 from nightlycases import FORMAT, seal, totals
 from nightlyfolder import board, contents_hash, is_log, list_hash
 from nightlylogs import possible_stop
@@ -12,13 +13,13 @@ from nightlyrows import KINDS
 from nightlysheet import alike, log_reason, logs_of, printable, seconds
 
 SHAPE = {'format': str, 'night': str, 'part': int, 'parts': int, 'folder': str, 'only': bool, 'list': str, 'contents': str, 'of': int, 'others': list,
-         'logs': int, 'strays': list, 'replay': str, 'replay_sha256': str,
+         'logs': int, 'strays': list, 'replay': str, 'replay_sha256': str, 'settings': str, 'settings_sha256': str, 'boards': list,
          'program': str, 'sha256': str, 'expect': bool, 'started': str, 'began': float, 'seconds': float, 'time': str, 'counts': dict, 'beside': list,
          'cases': list, 'seal': str}
 TEXT = (str, type(None))
 ROW = {'name': str, 'sha256': str, 'expected': str, 'uncompared': bool, 'outcome': str, 'what': TEXT, 'different': TEXT, 'refusal': TEXT, 'counts': dict,
        'seconds': float, 'kept': list, 'unkept': TEXT, 'logs': list, 'unlogged': bool}
-LOG = {'name': str, 'board': str, 'sha256': str, 'bytes': (int, type(None)), 'outcome': str, 'what': TEXT, 'refusal': TEXT,
+LOG = {'name': str, 'board': str, 'settings': (list, type(None)), 'sha256': str, 'bytes': (int, type(None)), 'outcome': str, 'what': TEXT, 'refusal': TEXT,
        'stop': (dict, type(None)), 'counts': dict, 'seconds': float, 'kept': list, 'unkept': TEXT, 'uncontrolled': TEXT}
 STOP = {'row': int, 'field': str, 'board': TEXT, 'model': TEXT, 'line': str, 'form': TEXT, 'xlen': int}
 BROKE = {'broke %s %s' % (writer, loser) for writer in WRITERS for loser in HARTS if writer != loser}         # a hart doesn't break its own
@@ -34,7 +35,8 @@ def well_shaped(record):
         shaped(log, LOG) and (log['stop'] is None or shaped(log['stop'], STOP)) for _, log in logs_of(record)) and all(
         type(n) is int and n >= 0 for counts in [record['counts']] + [row['counts'] for row in all_rows(record)] for n in counts.values()) and all(
         type(row) is list and [type(x) for x in row] == [str, str] for row in record['beside']) and all(
-        type(x) is str for texts in [record['others']] + [row['kept'] for row in all_rows(record)] for x in texts)
+        type(x) is str for texts in [record['others']] + [row['kept'] for row in all_rows(record)] for x in texts) and all(
+        map(is_board, record['boards'] + [log['settings'] for _, log in logs_of(record) if log['settings'] is not None]))
 
 
 def broke_agrees(c):
@@ -64,7 +66,9 @@ def agrees(row):
 
 def log_agrees(log, case):
     """Whether a log's row agrees with itself and its case's name: each row of the log is in one count of what it came to, and in one of what it holds."""
-    outcomes = ('agreed', 'stopped', 'refused', 'wrong', 'missing') if case else ('stray',)
+    outcomes = ('agreed', 'stopped', 'refused', 'wrong', 'missing', 'unset') if case else ('stray',)
+    if log['settings'] and (log['outcome'] in ('unset', 'stray') or number_of(log['board']) is None):
+        return False
     if not is_log(log['name']) or case and not (log['name'].startswith(case[:-4]) and log['board'] == board(log['name'], case)):
         return False
     c, kinds = Counter(log['counts']), {key: sum(log['counts'].get('%s %s' % (key, kind), 0) for kind in KINDS) for key in ('row', 'agreed')}
@@ -89,6 +93,16 @@ def logs_agree(record):
         for row in record['cases'])
 
 
+def boards_agree(record):
+    """Whether the settings of a record agree with its logs: each log has those of its board, or has no board of the settings file and says so. Of a merged
+    night that isn't asked: its parts may have had several files, which is then its fault."""
+    if bool(record['boards']) != bool(record['settings_sha256']) or bool(record['settings']) != bool(record['settings_sha256']):
+        return False
+    return not record['part'] or all(
+        log['settings'] == settings_of(record['boards'], log['board']) and (log['outcome'] == 'unset') == bool(record['boards'] and not log['settings'])
+        for row in record['cases'] for log in row['logs'])
+
+
 def load(path):
     """A record, or a sentence that says why the file is none."""
     try:
@@ -109,7 +123,7 @@ def load(path):
     if record['counts'] != totals(record['cases'], record['strays']):
         return 'does not agree with itself: its counts are not the sums of its cases'
     wrong = [row['name'] for row in record['cases'] if not agrees(row)]
-    if wrong or not 0 <= record['part'] <= record['parts'] or not logs_agree(record):
+    if wrong or not 0 <= record['part'] <= record['parts'] or not logs_agree(record) or not boards_agree(record):
         return 'does not agree with itself' + (': the counts of %s' % ascii(wrong[0]) if wrong else '')
     return record
 
@@ -124,7 +138,7 @@ def strangers(records):
             wrong.append([path, 'is no part: it is of %s' % ('cases that were run again' if r['only'] else 'a whole night, merged')])
         wrong += [[path, 'this part has another %s than %s' % (what, records[0][0])] for key, what in (
             ('night', 'night'), ('parts', 'number of parts'), ('list', 'list of cases'), ('sha256', 'program'), ('replay_sha256', 'program of --replay'),
-            ('expect', '--expect')) if r[key] != first[key]]
+            ('settings_sha256', 'settings file'), ('expect', '--expect')) if r[key] != first[key]]
         if r['list'] == first['list'] and r['contents'] != first['contents'] and r['expect'] == first['expect']:
             wrong.append([path, 'this part has the same names as %s, but the files have other contents' % records[0][0]])
     return wrong
@@ -208,6 +222,10 @@ def notes(old, new):
         yield 'only %s night compared with expected outputs' % ('that' if old['expect'] else 'this')
     if bool(old['logs']) != bool(new['logs']):
         yield 'only %s night compared boards' % ('that' if old['logs'] else 'this')
+    if bool(old['settings']) != bool(new['settings']):
+        yield 'only %s night compared boards under a settings file' % ('that' if old['settings'] else 'this')
+    elif old['settings_sha256'] != new['settings_sha256']:
+        yield 'that night had another settings file: %s' % printable(old['settings'])
 
 
 def units(record):
@@ -253,6 +271,7 @@ def compare(old, new):
         ('gone, or where it could not be looked' if hidden else 'gone', sorted(before.keys() - after.keys())),
         ('have other contents, or their expected outputs have' if expect else 'have other contents',
          [name for name in both if changed(before[name][1], after[name][1], expect)]),
+        ('are compared under other settings', [name for name in both if before[name][1].get('settings') != after[name][1].get('settings')]),
     ]
     return {'night': old['night'], 'started': old['started'], 'program': old['sha256'], 'notes': list(notes(old, new)),
             'groups': [[what, names] for what, names in groups if names]}

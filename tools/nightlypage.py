@@ -153,7 +153,8 @@ def about(record):
     rows = [('night', printable(record['night']))] if record['night'] else []
     rows += [('folder', printable(record['folder'])), ('program', printable(record['program'])), ('SHA-256', record['sha256'] or 'unknown'),
              ('started', record['started'] or 'unknown'), ('time', record['time'] or 'unknown')]
-    rows[-2:-2] = [('replay', printable(record['replay'])), ('SHA-256', record['replay_sha256'] or 'unknown')] if record['replay'] else []
+    for key in ('replay', 'settings'):
+        rows[-2:-2] = [(key, printable(record[key])), ('SHA-256', record[key + '_sha256'] or 'unknown')] if record[key] else []
     slowest = sorted(((row['seconds'], row['name']) for case in record['cases'] for row in (case, *case['logs'])), reverse=True)[:3]
     if slowest:
         rows.append(('slowest', ', '.join('%s %s' % (printable(name), seconds(s)) for s, name in slowest)))

@@ -2,16 +2,18 @@
 from collections import Counter
 
 from casefile import CAUSES, REFUSALS
+from nightlyboards import NO_BOARD, number_of, settings_text
 from nightlyfolder import log_like
-from nightlylogs import LOG_REFUSALS, STRAY
+from nightlylogs import LOG_REFUSALS, STRAY, width
 from nightlyrows import ALWAYS_TRAP, KINDS, split
-from riscv import INSTRUCTIONS, disassemble
+from riscv import INSTRUCTIONS, decode, disassemble
 
 NO_LOG, NO_CASE, EMPTY, ALIKE = 'cases without a log', 'logs without a case', 'empty logs', "files with names like a log's"
 SHORT = 'log with fewer rows than its case has steps', 'logs with fewer rows than their cases have steps'
 NOT_IN_ROWS = 'In no row, and seen only where a later row shows them: memory, the second register of an amocas.q, and steps that trap on a board'
 # Why a night isn't clean, as its verdict counts it: of one, of more.
 REASONS = {'stopped': ('stop', 'stops'), 'unlogged': ('case without a log', NO_LOG), 'stray': ('log without a case', NO_CASE),
+           'unset': ('log without a board of the settings file', 'logs without a board of the settings file'),
            'empty': ('empty log', EMPTY), 'alike': ("file with a name like a log's", ALIKE),
            'missing': ('log without an answer', 'logs without an answer'),
            'wrong': ('log with a wrong answer', 'logs with a wrong answer'), 'refused': ('log refused', 'logs refused')}
@@ -59,8 +61,9 @@ def log_fault(log):
         return stop_text(log) if log['stop'] else None
     if log['refusal']:
         k = int(log['refusal'].split()[0])
-        return 'refused %s: %s' % (log['refusal'], LOG_REFUSALS.get(k) or 'the case file is none: %s%s' % (
-            REFUSALS[k], '; the log is empty' if log['bytes'] == 0 else ''))
+        wide = k in (9, 10) and log['settings'] and log['settings'][0] > 64         # then it may be one on another board
+        return 'refused %s: %s' % (log['refusal'], LOG_REFUSALS.get(k) or 'the case file is none%s: %s%s' % (
+            ' on a board with sets of %d bytes' % log['settings'][0] if wide else '', REFUSALS[k], '; the log is empty' if log['bytes'] == 0 else ''))
     return log['what']
 
 
@@ -81,8 +84,8 @@ def why_not_compared(log):
     if reason in (None, 'stopped'):
         return None
     what = log_fault(log)
-    return {'stray': (1, NO_CASE + what[len(STRAY):]), 'empty': (2, EMPTY), 'missing': (4, 'no answer: ' + what), 'wrong': (5, 'a wrong answer: ' + what),
-            'refused': (6, what)}[reason]
+    return {'stray': (1, NO_CASE + what[len(STRAY):]), 'unset': (2, what), 'empty': (3, EMPTY), 'missing': (5, 'no answer: ' + what),
+            'wrong': (6, 'a wrong answer: ' + what), 'refused': (7, what)}[reason]
 
 
 def alike(record):
@@ -91,9 +94,9 @@ def alike(record):
 
 
 def not_compared(record):
-    """{what: names}, of a folder with logs: cases without a log, logs without a case, empty logs, files that are like logs, and logs that were not
-    compared for another reason."""
-    found = {(0, NO_LOG): [row['name'] for row in record['cases'] if row['unlogged']], (3, ALIKE): alike(record)}
+    """{what: names}, of a folder with logs: cases without a log, logs without a case, logs without a board of the settings file, empty logs, files that
+    are like logs, and logs that were not compared for another reason."""
+    found = {(0, NO_LOG): [row['name'] for row in record['cases'] if row['unlogged']], (4, ALIKE): alike(record)}
     for _, log in logs_of(record):
         if why_not_compared(log):
             found.setdefault(why_not_compared(log), []).append(log['name'])
@@ -126,12 +129,21 @@ def word_text(word, xlen):
     return disassemble(int(word, 16), xlen) or '%s, no instruction of the model' % word
 
 
+def cause_text(cause, value, word, xlen):
+    """What a cause means, of a trap with this value at a word. On a board whose misaligned atomics give 5 and 7 these may be such."""
+    name, form = decode(int(word, 16), xlen) or (None, None)
+    if cause in (5, 7) and form in ('lr', 'amo') and value % width(name):
+        return 'misaligned LR' if form == 'lr' else 'misaligned SC or AMO'
+    return CAUSES[cause]
+
+
 def difference_text(stop, row):
     """The field in which board and model differ, and both values."""
     field, board, model = stop['field'], stop['board'], stop['model']
     if field == 'trap':
         cause, value = int(model[0]), int(model[2:], 16)
-        return 'trap: board x%d = %s, model cause %d (%s), value %s' % (int(row.rd), short(int(row.value, 16)), cause, CAUSES[cause], short(value))
+        return 'trap: board x%d = %s, model cause %d (%s), value %s' % (
+            int(row.rd), short(int(row.value, 16)), cause, cause_text(cause, value, row.word, stop['xlen']), short(value))
     if field == 'word':
         return 'word: board %s, model %s (%s)' % (board, model, word_text(model, stop['xlen']))
     base = 10 if field == 'rd' else 16
@@ -150,8 +162,8 @@ def stop_text(log):
 
 
 def board_text(log):
-    """What stands behind the name of a log's case: its board, if it has a name."""
-    return ', board ' + printable(log['board']) if log['board'] else ''
+    """What stands behind the name of a log's case: its board, if it has a name, and what that is set to, if there is a settings file."""
+    return (', board ' + printable(log['board']) if log['board'] else '') + (' (%s)' % settings_text(log['settings']) if log['settings'] else '')
 
 
 # ---- the verdict and the tables
@@ -190,7 +202,7 @@ def logs_counted(record):
     """(number, what) of logs and rows: each log is in one line below the first, and each row in one below `rows in the logs`."""
     c, why = record['counts'], reasons(record)
     logs = c.get('logs', 0)
-    unanswered = why['missing'] + why['wrong'] + why['refused'] + why['empty'] + why['stray']
+    unanswered = why['missing'] + why['wrong'] + why['refused'] + why['empty'] + why['stray'] + why['unset']
     table = [(logs, 'logs'), (logs - unanswered - why['stopped'], '.. agreed in every row'), (why['stopped'], '.. stopped'),
              (unanswered, '.. not compared'), (c.get('unlogged', 0), NO_LOG), (c.get('log rows', 0), 'rows in the logs'),
              (c.get('rows agreed', 0), '.. compared, and agreed'), (c.get('rows differ', 0), '.. compared, and differ or trap: a stop'),
@@ -208,18 +220,36 @@ def no_board(record):
     return 'No board was compared: no log was found in the folder%s.' % (', but %s %s' % (number(n), REASONS['alike'][n != 1]) if n else '')
 
 
+def board_key(log):
+    """What the logs of one board have in common, so that boards sort by it: those of a settings file by their number and what they are set to, others
+    by their name, those that a settings file hasn't last."""
+    if log['settings']:
+        return 0, number_of(log['board']), *log['settings']
+    return 2 if log['outcome'] == 'unset' else 1, log['board']
+
+
+def board_label(rank, name, *settings):
+    """The board of a key as the table names it."""
+    if settings:
+        return '%d: %s' % (name, settings_text(settings))
+    return (printable(name) if name else '(no name)') + (': ' + NO_BOARD if rank == 2 else '')
+
+
 def boards(record):
-    """Of each board: its logs, the cases of which it has none, its rows, agreed rows, rows that were not compared, stops, and its name."""
-    found, cases = {}, Counter(name for row in record['cases'] for name in {log['board'] for log in row['logs']})
+    """Of each board: its logs, the cases of which it has none, its rows, agreed rows, rows that were not compared, stops, and its name. Those of a
+    settings file are there also without any log."""
+    found, cases = {}, Counter(key for row in record['cases'] for key in {board_key(log) for log in row['logs']})
+    for k, settings in enumerate(record['boards'] if record['logs'] else ()):
+        found[(0, k, *settings)] = [0] * 6
     for row in record['cases']:
         for log in row['logs']:
-            mine, c = found.setdefault(log['board'], [0] * 6), log['counts']
+            mine, c = found.setdefault(board_key(log), [0] * 6), log['counts']
             rows, agreed = c.get('log rows', 0), c.get('rows agreed', 0)
             for k, n in enumerate((1, 0, rows, agreed, rows - agreed - c.get('rows differ', 0), log['outcome'] == 'stopped')):
                 mine[k] += n
-    for name, mine in found.items():
-        mine[1] = len(record['cases']) - cases[name]
-    return [[*map(number, numbers), printable(name) if name else '(no name)'] for name, numbers in sorted(found.items())]
+    for key, mine in found.items():
+        mine[1] = len(record['cases']) - cases[key]
+    return [[*map(number, numbers), board_label(*key)] for key, numbers in sorted(found.items())]
 
 
 def held(record):

@@ -1,10 +1,11 @@
-//! The calls of include/floecavern.h on a machine, answered by this crate.
+//! The calls of include/floecavern.h, answered by this crate.
 
 use crate::case::{run, EVENT};
 use crate::layout;
 use crate::log::{replay, Reason};
 use crate::loops::{self, Verdict};
 use crate::machine::{Memory, Outcome, State, A_2_1, KIND_64};
+use crate::settings::{self, Board, MAX_BOARDS};
 
 /// The answer to a size that is wrong.
 pub const BAD_SIZE: u64 = u64::MAX;
@@ -155,6 +156,60 @@ pub fn check_loop_for(version: u64, kind: u64, words: &[u8]) -> u64 {
     }
 }
 
+/// A board as it is lent: set size, version and what a misaligned atomic raises, 8 bytes each, the lowest first.
+pub const BOARD: usize = 24;
+/// What a settings file is read into, however many boards it has.
+pub const BOARDS: usize = MAX_BOARDS * BOARD;
+
+pub fn board_bytes(board: Board) -> [u8; BOARD] {
+    let mut bytes = [0; BOARD];
+    for (n, number) in [board.set_size, board.version, board.misaligned].into_iter().enumerate() {
+        layout::put(&mut bytes, 8 * n, number);
+    }
+    bytes
+}
+
+pub fn board_of(bytes: &[u8]) -> Board {
+    let [set_size, version, misaligned] = [0, 8, 16].map(|place| layout::get(bytes, place));
+    Board { set_size, version, misaligned }
+}
+
+/// Reads a settings file into `boards`, zeros behind those that it has, and zeros alone where it is refused. Told are the file's format and how many
+/// boards it has, or the place of the refusal and 0.
+pub fn read_settings(file: &[u8], boards: &mut [u8], told: &mut [u8]) -> u64 {
+    if boards.len() != BOARDS || told.len() != 16 {
+        return BAD_SIZE;
+    }
+    boards.fill(0);
+    let (answer, numbers) = match settings::read(file) {
+        Ok(read) => {
+            for (place, &board) in boards.chunks_exact_mut(BOARD).zip(&read.boards) {
+                place.copy_from_slice(&board_bytes(board));
+            }
+            (0, [read.format.into(), read.boards.len() as u64])
+        }
+        Err(refusal) => (REFUSED + refusal.number as u64, [refusal.place as u64, 0]),
+    };
+    layout::put(told, 0, numbers[0]);
+    layout::put(told, 8, numbers[1]);
+    answer
+}
+
+/// Writes the settings file of `boards` to the start of `out`, or nothing where it is refused. Told is the file's length, or the place of the
+/// refusal.
+pub fn write_settings(boards: &[u8], out: &mut [u8], told: &mut [u8]) -> u64 {
+    if !boards.len().is_multiple_of(BOARD) || told.len() != 8 {
+        return BAD_SIZE;
+    }
+    let boards: Vec<Board> = boards.chunks_exact(BOARD).map(board_of).collect();
+    let (answer, number) = match settings::write(&boards, out) {
+        Ok(length) => (0, length),
+        Err(refusal) => (REFUSED + refusal.number as u64, refusal.place),
+    };
+    layout::put(told, 0, number as u64);
+    answer
+}
+
 #[cfg(test)]
 mod tests {
     use super::*;
@@ -176,21 +231,48 @@ mod tests {
         }
     }
 
+    /// A buffer of another length than the one wanted, and nothing is written.
+    #[test]
+    fn settings_lengths() {
+        let file = [2u32, 1, 16, 4, 0x0114_0040].map(u32::to_le_bytes).concat();
+        let (mut boards, mut told) = ([0xA5; BOARDS], [0xA5; 16]);
+        assert_eq!(read_settings(&file, &mut boards, &mut told), 0);
+        assert_eq!(told, [2u64, 1].map(u64::to_le_bytes).concat()[..]);
+        assert_eq!(boards[..BOARD], [64u64, 20, 1].map(u64::to_le_bytes).concat()[..]);
+        assert_eq!(boards[BOARD..], [0; BOARDS - BOARD]);
+        assert_eq!(read_settings(&file[..19], &mut boards, &mut told), REFUSED + 21);
+        assert_eq!((boards, told), ([0; BOARDS], [0; 16]));
+        for (boards_len, told_len) in [(0, 16), (383, 16), (385, 16), (408, 16), (384, 0), (384, 8), (384, 15), (384, 17)] {
+            let (mut boards, mut told) = (vec![0xA5; boards_len], vec![0xA5; told_len]);
+            assert_eq!(read_settings(&file, &mut boards, &mut told), BAD_SIZE);
+            assert!(boards.iter().chain(&told).all(|&byte| byte == 0xA5));
+        }
+        let one = board_bytes(Board { set_size: 64, version: 20, misaligned: 1 });
+        let (mut out, mut told) = ([0xA5; 21], [0xA5; 8]);
+        assert_eq!(write_settings(&one, &mut out, &mut told), 0);
+        assert_eq!((&out[..20], out[20], told), (&file[..], 0xA5, 20u64.to_le_bytes()));
+        for (boards_len, told_len) in [(1, 8), (23, 8), (25, 8), (24, 0), (24, 7), (24, 16)] {
+            let (mut out, mut told) = ([0xA5; 64], vec![0xA5; told_len]);
+            assert_eq!(write_settings(&[one, one].concat()[..boards_len], &mut out, &mut told), BAD_SIZE);
+            assert!(out.iter().chain(&told).all(|&byte| byte == 0xA5));
+        }
+    }
+
     /// Whose reservation is gone after an event, as a number.
     fn lost(before: &State, after: &State) -> u64 {
         let gone = |h: &usize| before.harts[*h].reservation.is_some() && after.harts[*h].reservation.is_none();
         (0..before.harts.len()).filter(gone).map(|h| 1 << h).sum()
     }
 
-    /// The set size has the 8 bytes from 2312 on, the version those from 2320 on, the kind those from 2328 on, the lowest first; a state of any
-    /// other length is no state, that of earlier versions of the library too.
+    /// The set size has the 8 bytes from 2312 on, the version those from 2320 on, the kind those from 2328 on, what a misaligned atomic raises those
+    /// from 2336 on, the lowest first; a state of any other length is no state, that of earlier versions of the library too.
     #[test]
     fn state_lengths() {
-        let state = State { set_size: 4096, version: A_2_0, kind: KIND_32, ..State::default() };
+        let state = State { set_size: 4096, version: A_2_0, kind: KIND_32, misaligned: (1 << 56) + 1, ..State::default() };
         let bytes = layout::bytes(&state);
-        assert_eq!((bytes.len(), &bytes[2312..]), (2336, &[4096u64, 20, 1].map(u64::to_le_bytes).concat()[..]));
+        assert_eq!((bytes.len(), &bytes[2312..]), (2344, &[4096u64, 20, 1, (1 << 56) + 1].map(u64::to_le_bytes).concat()[..]));
         assert_eq!(layout::read(&bytes), Some(state));
-        for length in [0, 2304, 2311, 2312, 2319, 2320, 2321, 2327, 2328, 2329, 2335, 2337, 2344] {
+        for length in [0, 2304, 2311, 2312, 2319, 2320, 2321, 2327, 2328, 2329, 2335, 2336, 2337, 2343, 2345, 2352] {
             let mut machine = Machine { state: bytes.clone(), base: 0, memory: vec![0; 4096] };
             machine.state.resize(length, 0);
             let (given, mut told) = (machine.clone(), [0xA5; 8]);
@@ -218,7 +300,8 @@ mod tests {
                     _ => 0,
                 };
                 let value = layout::get(&told, 0);
-                assert_eq!((before.set_size, before.version, before.kind), (after.set_size, after.version, after.kind));
+                let settings = |state: &State| [state.set_size, state.version, state.kind, state.misaligned];
+                assert_eq!(settings(&before), settings(&after));
                 match answer {
                     0..TRAP => {
                         assert_eq!(value, lost(&before, &after) & !own, "seed {seed}, {call:?}");

@@ -14,11 +14,11 @@ pub struct Refusal {
     pub place: usize,
 }
 
-fn refuse<T>(number: u8, place: usize) -> Result<T, Refusal> {
+pub(crate) fn refuse<T>(number: u8, place: usize) -> Result<T, Refusal> {
     Err(Refusal { number, place })
 }
 
-fn u32_at(bytes: &[u8], place: usize) -> u32 {
+pub(crate) fn u32_at(bytes: &[u8], place: usize) -> u32 {
     u32::from_le_bytes(bytes[place..place + 4].try_into().unwrap())
 }
 
@@ -26,8 +26,8 @@ fn u64_at(bytes: &[u8], place: usize) -> u64 {
     u64::from_le_bytes(bytes[place..place + 8].try_into().unwrap())
 }
 
-/// A read case: the parts of the file and the state at the start. A file says no set size and no version, so it has the defaults; it says the
-/// kind.
+/// A read case: the parts of the file and the state at the start. A file says no set size, no version and nothing of misaligned atomics, so it has
+/// the defaults; it says the kind.
 pub struct Case<'a> {
     pub state: State,
     pub base: u64,

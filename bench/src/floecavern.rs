@@ -37,6 +37,18 @@ pub fn check_loop(words: &[u8]) -> u64 {
     unsafe { floecavern_check_loop(words.as_ptr(), words.len()) }
 }
 
+/// Reads a settings file, as `calls::read_settings` does.
+pub fn read_settings(file: &[u8], boards: &mut [u8], told: &mut [u8]) -> u64 {
+    // SAFETY: as above.
+    unsafe { floecavern_read_settings(file.as_ptr(), file.len(), boards.as_mut_ptr(), boards.len(), told.as_mut_ptr(), told.len()) }
+}
+
+/// Writes a settings file, as `calls::write_settings` does.
+pub fn write_settings(boards: &[u8], out: &mut [u8], told: &mut [u8]) -> u64 {
+    // SAFETY: as above.
+    unsafe { floecavern_write_settings(boards.as_ptr(), boards.len(), out.as_mut_ptr(), out.len(), told.as_mut_ptr(), told.len()) }
+}
+
 pub fn check_loop_for(version: u64, kind: u64, words: &[u8]) -> u64 {
     // SAFETY: as above.
     unsafe { floecavern_check_loop_for(version, kind, words.as_ptr(), words.len()) }

@@ -1,10 +1,10 @@
 //! A state kept as bytes, as C and Rust callers of the library keep it: the count, x of every hart, pc of every hart, the reservation of
-//! every hart (held: 0 for none, any other number for one; address; width), the set size, the version of the A extension, the kind of core.
-//! Every number has 8 bytes, the lowest first.
+//! every hart (held: 0 for none, any other number for one; address; width), the set size, the version of the A extension, the kind of core, what a
+//! misaligned atomic raises. Every number has 8 bytes, the lowest first.
 
 use crate::machine::{Reservation, State, MAX_HARTS};
 
-pub const SIZE: usize = 2336;
+pub const SIZE: usize = 2344;
 pub const COUNT: usize = 0;
 /// What stands before it is all of a state as it was before request 5.
 pub const SET_SIZE: usize = 2312;
@@ -12,6 +12,8 @@ pub const SET_SIZE: usize = 2312;
 pub const VERSION: usize = 2320;
 /// What stands before it is all of a state as it was before request 10.
 pub const KIND: usize = 2328;
+/// What stands before it is all of a state as it was before request 11.
+pub const MISALIGNED: usize = 2336;
 
 pub fn x(hart: usize, register: usize) -> usize {
     8 + 8 * (32 * hart + register)
@@ -46,8 +48,8 @@ pub fn read(bytes: &[u8]) -> Option<State> {
     if bytes.len() != SIZE {
         return None;
     }
-    let [count, set_size, version, kind] = [COUNT, SET_SIZE, VERSION, KIND].map(|place| get(bytes, place));
-    let mut state = State { count: count as usize, set_size, version, kind, ..State::default() };
+    let [count, set_size, version, kind, misaligned] = [COUNT, SET_SIZE, VERSION, KIND, MISALIGNED].map(|place| get(bytes, place));
+    let mut state = State { count: count as usize, set_size, version, kind, misaligned, ..State::default() };
     for (h, hart) in state.harts.iter_mut().enumerate() {
         hart.x = std::array::from_fn(|r| get(bytes, x(h, r)));
         hart.pc = get(bytes, pc(h));
@@ -75,7 +77,8 @@ pub fn write(state: &State, bytes: &mut [u8]) {
 /// The bytes of a state; zero where `write` leaves them.
 pub fn bytes(state: &State) -> Vec<u8> {
     let mut bytes = vec![0; SIZE];
-    for (place, number) in [(COUNT, state.count as u64), (SET_SIZE, state.set_size), (VERSION, state.version), (KIND, state.kind)] {
+    let settings = [(SET_SIZE, state.set_size), (VERSION, state.version), (KIND, state.kind), (MISALIGNED, state.misaligned)];
+    for (place, number) in [(COUNT, state.count as u64)].into_iter().chain(settings) {
         put(&mut bytes, place, number);
     }
     write(state, &mut bytes);

@@ -1,6 +1,6 @@
 //! Harts, memory, steps, device writes and yields. What breaks a reservation is quoted from document 01, who is told of it from request 3 of
 //! document 02, the size of the sets from request 5, what the two versions of the A extension differ in from request 7, what the two kinds of
-//! core differ in from request 10.
+//! core differ in from request 10, by which causes a misaligned atomic traps from request 11.
 //!
 //! It is one machine over the width of its registers, `xlen` bits. Registers, pc and addresses of 32 bits are kept as 64-bit numbers whose upper
 //! half is zero, and sums of them are taken modulo 2^32.
@@ -18,6 +18,11 @@ pub const A_2_1: u64 = 21;
 /// The kinds of core: "0 is 64-bit, 1 is 32-bit".
 pub const KIND_64: u64 = 0;
 pub const KIND_32: u64 = 1;
+/// What a misaligned LR, SC, AMO or AMOCAS raises, which 000 leaves to the implementation: "If the address is not naturally aligned, an
+/// address-misaligned exception or an access-fault exception will be generated". "0 where a misaligned LR, SC or AMO gives 4 and 6, 1 where it
+/// gives, as 000 permits, 5 and 7".
+pub const ADDRESS_MISALIGNED: u64 = 0;
+pub const ACCESS_FAULT: u64 = 1;
 /// "Base plus length is at most 2^32 for this kind".
 pub const ADDRESSES_32: u64 = 1 << 32;
 
@@ -44,6 +49,8 @@ pub struct State {
     pub version: u64,
     /// That of the core. Any number may be given; what is performed has an allowed one.
     pub kind: u64,
+    /// What a misaligned atomic raises. Any number may be given; what is performed has an allowed one.
+    pub misaligned: u64,
 }
 
 /// The lent memory.
@@ -119,6 +126,22 @@ pub fn version_allowed(version: u64) -> bool {
 
 pub fn kind_allowed(kind: u64) -> bool {
     kind == KIND_64 || kind == KIND_32
+}
+
+pub fn misaligned_allowed(misaligned: u64) -> bool {
+    misaligned == ADDRESS_MISALIGNED || misaligned == ACCESS_FAULT
+}
+
+/// The causes of a misaligned atomic under an allowed setting: those of a load for an LR, those of a store for all others. AMOCAS is among these,
+/// by 001: "the same exception options apply if the address is not naturally aligned". A plain load or store isn't asked: it has 4 or 6.
+#[inline]
+fn misaligned_cause(op: AtomicOp, misaligned: u64) -> u8 {
+    match (op, misaligned) {
+        (AtomicOp::Lr, ACCESS_FAULT) => 5,
+        (AtomicOp::Lr, _) => 4,
+        (_, ACCESS_FAULT) => 7,
+        (_, _) => 6,
+    }
 }
 
 /// The width of the registers of an allowed kind.
@@ -400,15 +423,24 @@ fn trap<T, E: From<Trap>>(cause: u8, value: u64) -> Result<T, E> {
 
 impl Default for State {
     fn default() -> Self {
-        State { count: 1, harts: [Hart::default(); MAX_HARTS], set_size: DEFAULT_SET, version: A_2_1, kind: KIND_64 }
+        State {
+            count: 1,
+            harts: [Hart::default(); MAX_HARTS],
+            set_size: DEFAULT_SET,
+            version: A_2_1,
+            kind: KIND_64,
+            misaligned: ADDRESS_MISALIGNED,
+        }
     }
 }
 
 impl State {
-    /// "any other version is 2", as all that is wrong with a state: so after 1 and before 3. The same of a kind that is neither.
+    /// "any other version is 2", as all that is wrong with a state: so after 1 and before 3. The same of a kind that is neither, and of what a
+    /// misaligned atomic raises: "default 0, any other value refusal 2".
     fn check(&self, memory: &Memory) -> Result<(), u8> {
         memory.check(self.set_size, self.kind)?;
-        let numbers = version_allowed(self.version) && kind_allowed(self.kind) && (1..=MAX_HARTS).contains(&self.count);
+        let settings = version_allowed(self.version) && kind_allowed(self.kind) && misaligned_allowed(self.misaligned);
+        let numbers = settings && (1..=MAX_HARTS).contains(&self.count);
         if numbers && self.harts[..self.count].iter().all(|hart| hart.sound(memory, self.xlen())) {
             Ok(())
         } else {
@@ -571,12 +603,11 @@ impl State {
         let hart = &mut self.harts[number];
         let width = a.width as u64;
         let addr = hart.get(a.rs1);
-        let load = a.op == AtomicOp::Lr;
         if !aligned(addr, width) {
-            return trap(if load { 4 } else { 6 }, addr);
+            return trap(misaligned_cause(a.op, self.misaligned), addr);
         }
         let Some(place) = memory.place(addr, width) else {
-            return trap(if load { 5 } else { 7 }, addr);
+            return trap(if a.op == AtomicOp::Lr { 5 } else { 7 }, addr);
         };
         let bytes = &mut memory.bytes[place..place + width as usize];
         if a.op == AtomicOp::Sc {
@@ -657,7 +688,7 @@ fn cas_pair(hart: &mut Hart, bytes: &mut [u8], a: Atomic) -> bool {
 #[cfg(test)]
 mod tests {
     use super::*;
-    use crate::generate::words::{atomic, s_type, AMOS, CAS, D, LR, Q, SC, W};
+    use crate::generate::words::{atomic, i_type, s_type, AMOS, CAS, D, LR, Q, SC, W};
 
     const SIZES: [u64; 10] = [8, 16, 32, 64, 128, 256, 512, 1024, 2048, 4096];
     const BAD_SIZES: [u64; 25] = [
@@ -911,6 +942,109 @@ mod tests {
             assert_eq!(of(version).state.yield_hart(memory, 8), Err(2));
             assert_eq!(of(version).state.device(memory, 0, 9, 0), Err(2));
             assert_eq!(of(version).state.device(memory, 4096, 1, 0), Err(2));
+        }
+    }
+
+    const BAD_MISALIGNED: [u64; 14] = [2, 3, 4, 5, 6, 7, 255, 256, 257, (1 << 32) + 1, 1 << 32, 1 << 63, (1 << 63) + 1, u64::MAX];
+
+    /// Every atomic that `kind` has, with its width and whether it is an LR. Pairs are even.
+    fn atomics(kind: u64) -> Vec<(u32, u64, bool)> {
+        let widths: &[(u32, u64)] = if kind == KIND_32 { &[(W, 4)] } else { &[(W, 4), (D, 8)] };
+        let of_widths =
+            |funct5, rs2| widths.iter().map(move |&(funct3, width)| (atomic(funct5, funct3, 0, 6, 5, rs2), width, funct5 == LR));
+        let plain = AMOS.into_iter().chain([SC, CAS]).flat_map(|funct5| of_widths(funct5, 8));
+        let pair = if kind == KIND_32 { (D, 8) } else { (Q, 16) };
+        of_widths(LR, 0).chain(plain).chain([(atomic(CAS, pair.0, 0, 6, 5, 8), pair.1, false)]).collect()
+    }
+
+    /// "0 where a misaligned LR, SC or AMO gives 4 and 6, 1 where it gives, as 000 permits, 5 and 7": every atomic at every misaligned offset,
+    /// inside memory, over its end and outside it, with a reservation and without, under both versions. A trap leaves all as it was.
+    #[test]
+    fn misaligned_atomics() {
+        let mut tried = 0;
+        for (kind, version) in [(KIND_64, A_2_1), (KIND_64, A_2_0), (KIND_32, A_2_1), (KIND_32, A_2_0)] {
+            for (word, width, lr) in atomics(kind) {
+                for near in [0x1000, 12_288 - width, 12_288, 0x8000_0000] {
+                    for at in near + 1..near + width {
+                        for (misaligned, cause) in [(ADDRESS_MISALIGNED, if lr { 4 } else { 6 }), (ACCESS_FAULT, if lr { 5 } else { 7 })] {
+                            for held in [None, Some(Reservation { addr: 0x1000, width: 4 })] {
+                                let mut machine = Machine::new(64);
+                                (machine.state.kind, machine.state.version, machine.state.misaligned) = (kind, version, misaligned);
+                                machine.state.harts[0].reservation = held;
+                                machine.state.harts[0].x[5] = at;
+                                machine.bytes[..4].copy_from_slice(&word.to_le_bytes());
+                                let (state, bytes) = (machine.state.clone(), machine.bytes.clone());
+                                let trap = Ok(Outcome::Trap(Trap { cause, value: at }));
+                                assert_eq!(machine.step(0, word, at), trap, "{word:#010x} at {at:#x}, {misaligned}");
+                                assert!(machine.state == state && machine.bytes == bytes, "{word:#010x} at {at:#x}, {misaligned}");
+                                tried += 1;
+                            }
+                        }
+                    }
+                }
+            }
+        }
+        // 12 W of 3 bytes and 12 D of 7 and Q of 15, or 12 W and the pair of 7; four places, four ways, two versions.
+        assert_eq!(tried, 2 * 4 * 4 * (12 * 3 + 12 * 7 + 15 + 12 * 3 + 7));
+    }
+
+    /// Aligned atomics are as they were: in memory they retire alike, outside it they give 5 and 7 whatever the setting.
+    #[test]
+    fn aligned_atomics() {
+        for kind in [KIND_64, KIND_32] {
+            for (word, _, lr) in atomics(kind) {
+                let [one, other] = [ADDRESS_MISALIGNED, ACCESS_FAULT].map(|misaligned| {
+                    let mut machine = Machine::reserved(64, 0x1000, 4);
+                    (machine.state.kind, machine.state.misaligned) = (kind, misaligned);
+                    let outside = machine.step(0, word, 12_288);
+                    assert_eq!(outside, Ok(Outcome::Trap(Trap { cause: if lr { 5 } else { 7 }, value: 12_288 })));
+                    let retired = machine.step(0, word, 0x1000);
+                    assert!(matches!(retired, Ok(Outcome::Retired { .. } | Outcome::Sc { .. })), "{word:#010x}");
+                    machine.state.misaligned = 0;
+                    (retired, machine.state, machine.bytes)
+                });
+                assert!(one == other, "{word:#010x}");
+            }
+        }
+    }
+
+    /// "a misaligned LR, SC or AMO" alone: plain loads and stores are 4 and 6 under both.
+    #[test]
+    fn misaligned_loads_and_stores() {
+        for (funct3, width) in [(1, 2), (2, 4), (3, 8)] {
+            for (word, cause) in [(i_type(3, funct3, 6, 5, 0), 4), (s_type(funct3, 5, 6, 0), 6)] {
+                for near in [0x1000, 12_288, 12_288 - width] {
+                    for (at, misaligned) in (near + 1..near + width).flat_map(|at| [(at, ADDRESS_MISALIGNED), (at, ACCESS_FAULT)]) {
+                        let mut machine = Machine::new(64);
+                        machine.state.misaligned = misaligned;
+                        assert_eq!(machine.step(0, word, at), Ok(Outcome::Trap(Trap { cause, value: at })), "{word:#010x}, {misaligned}");
+                    }
+                }
+            }
+        }
+    }
+
+    /// "any other value refusal 2": after 1, whatever else is wrong with the state, and before 3, 4 and 5.
+    #[test]
+    fn misaligned_numbers() {
+        let of = |misaligned| {
+            let mut machine = Machine::new(64);
+            machine.state.misaligned = misaligned;
+            machine
+        };
+        assert_eq!((of(0).refusal(), of(1).refusal()), (None, None));
+        assert_eq!(State::default().misaligned, 0);
+        for misaligned in BAD_MISALIGNED {
+            assert_eq!(of(misaligned).refusal(), Some(2), "{misaligned}");
+            let (mut size, mut base, mut count) = (of(misaligned), of(misaligned), of(misaligned));
+            (size.state.set_size, base.base, count.state.count) = (48, 32, 9);
+            assert_eq!((size.refusal(), base.refusal(), count.refusal()), (Some(1), Some(1), Some(2)), "{misaligned}");
+            let mut bytes = vec![0; 4096];
+            let memory = &mut Memory { base: 0, bytes: &mut bytes };
+            assert_eq!(of(misaligned).state.step(memory, 2), Err(2));
+            assert_eq!(of(misaligned).state.yield_hart(memory, 8), Err(2));
+            assert_eq!(of(misaligned).state.device(memory, 0, 9, 0), Err(2));
+            assert_eq!(of(misaligned).state.device(memory, 4096, 1, 0), Err(2));
         }
     }
 

@@ -3,6 +3,7 @@
 
 use crate::log::{fits, follow, read_row, rows_of, Reason, Row, FORM, ROW};
 use crate::machine::{Hart, Memory, Outcome, State};
+use crate::misaligned::Stops;
 use crate::word::{decode, Atomic, AtomicOp, Instr};
 use std::collections::BTreeMap;
 
@@ -192,6 +193,8 @@ pub struct Reached {
     value: Digits,
     rd_agreed: [u64; 32],
     rd_stopped: [u64; 100],
+    /// Traps of accesses, by what a misaligned atomic gives.
+    accesses: Stops,
 }
 
 impl Reached {
@@ -211,6 +214,7 @@ impl Reached {
             value: Digits::default(),
             rd_agreed: [0; 32],
             rd_stopped: [0; 100],
+            accesses: Stops::default(),
         }
     }
 
@@ -231,6 +235,9 @@ impl Reached {
             match (follow(&mut state, memory, bytes), met) {
                 (Ok(_), met) => self.agreed(met.expect("a row that agrees is well formed")),
                 (Err(reason), met) => {
+                    if let (Reason::Trap(trap), Some((_, row))) = (reason, &met) {
+                        self.accesses.count(&state, memory, row.hart, trap);
+                    }
                     self.first += (number == 0) as u64;
                     self.last += (number + 1 == rows.len()) as u64;
                     self.greatest = self.greatest.max(number);
@@ -275,6 +282,11 @@ impl Reached {
         }
     }
 
+    /// The rows that a misaligned atomic stopped under a setting of these.
+    pub fn stops_by_misaligned(&self, setting: usize) -> u64 {
+        self.accesses.misaligned_atomics(setting)
+    }
+
     /// The rows that agreed, of all replays.
     pub fn rows(&self) -> u64 {
         self.rd_agreed.iter().sum()
@@ -295,6 +307,8 @@ impl Reached {
         println!("    rd of rows that agreed: {}; rd of rows that differ in it: {}", reached(&self.rd_agreed), reached(&self.rd_stopped));
         self.print_stops();
         self.print_retired();
+        // A case file has the default of all settings but the kind: only a state that is lent says what a misaligned atomic gives.
+        self.accesses.print(if self.refusals.contains(&7) { 1 } else { 2 });
     }
 
     /// A dot stands where nothing can be reached.

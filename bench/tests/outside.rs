@@ -1,14 +1,18 @@
 //! This crate against the outside vectors of tests/vectors, which another independent model made from the documents: every line of 05-sizes.jsonl,
-//! 07-versions.jsonl and 10-kind32.jsonl, a library call each; the blocks of 07-loops.txt and 10-loops.txt; the case files of 10-cases and the logs of
-//! 10-logs. Their form is described in tests/outside.py.
+//! 07-versions.jsonl, 10-kind32.jsonl and 11-misaligned.jsonl, a library call each; every line of 11-settings.jsonl, a settings file read or
+//! written; the blocks of 07-loops.txt and 10-loops.txt; the case files of 10-cases and the logs of 10-logs. Their form is described in
+//! tests/outside.py.
 
 mod json;
 
-use bench::calls::{of_events, Call};
+use bench::calls::{board_bytes, board_of, of_events, read_settings, write_settings, Call, BOARD, BOARDS, REFUSED};
 use bench::case::{read_case, run, Refusal};
 use bench::log::{replay, replay_report, Reason, Replayed};
 use bench::loops::{check_loop, Verdict};
-use bench::machine::{Hart, HartMask, Memory, Outcome, Reservation, State, A_2_0, A_2_1, DEFAULT_SET, KIND_32, KIND_64};
+use bench::machine::{
+    Hart, HartMask, Memory, Outcome, Reservation, State, ADDRESS_MISALIGNED, A_2_0, A_2_1, DEFAULT_SET, KIND_32, KIND_64,
+};
+use bench::settings::{self, Board, Settings};
 use json::Json;
 use std::fs;
 use std::path::{Path, PathBuf};
@@ -57,6 +61,7 @@ fn state(line: &Json, part: &Json) -> State {
         set_size: setting(line, "size", DEFAULT_SET),
         version: setting(line, "version", A_2_1),
         kind: setting(line, "kind", KIND_64),
+        misaligned: setting(line, "misaligned", ADDRESS_MISALIGNED),
     }
 }
 
@@ -224,6 +229,95 @@ fn versions() {
 #[test]
 fn kinds() {
     assert_eq!(compare_lines("10-kind32.jsonl"), 629);
+}
+
+#[test]
+fn misaligned() {
+    assert_eq!(compare_lines("11-misaligned.jsonl"), 688);
+}
+
+/// The boards of a line.
+fn boards(given: &Json) -> Vec<Board> {
+    let board = |given: &Json| {
+        let [set_size, version, misaligned] = ["size", "a", "misaligned"].map(|name| given.field(name).number());
+        Board { set_size, version, misaligned }
+    };
+    given.list().iter().map(board).collect()
+}
+
+/// What an answer refuses with, if it does: number and place.
+fn refused(answer: &Json) -> Option<Refusal> {
+    let numbers = answer.get("refused")?.list();
+    Some(Refusal { number: numbers[0].number() as u8, place: numbers[1].number() as usize })
+}
+
+/// A file read, by the reader itself and by the call.
+fn compare_read(line: &Json) {
+    let (file, answer) = (hex_bytes(line.field("file")), line.field("answer"));
+    let (mut lent, mut told) = ([0xA5; BOARDS], [0xA5; 16]);
+    let called = read_settings(&file, &mut lent, &mut told);
+    let numbers = [0, 8].map(|place| u64::from_le_bytes(told[place..place + 8].try_into().expect("8 bytes")));
+    let expected = match refused(answer) {
+        Some(refusal) => {
+            assert_eq!((called, numbers, lent), (REFUSED + u64::from(refusal.number), [refusal.place as u64, 0], [0; BOARDS]));
+            Err(refusal)
+        }
+        None => {
+            let (format, boards) = (answer.field("version").number(), boards(answer.field("boards")));
+            assert_eq!((called, numbers), (0, [format, boards.len() as u64]));
+            let all: Vec<Board> = lent.chunks_exact(BOARD).map(board_of).collect();
+            assert_eq!(all[..boards.len()], boards);
+            assert!(all[boards.len()..].iter().all(|&board| board == Board::default()));
+            // What is written of it again means the same.
+            let mut again = [0; 200];
+            let length = settings::write(&boards, &mut again).expect("boards that were read");
+            assert_eq!(settings::read(&again[..length]), Ok(Settings { format: 2, boards: boards.clone() }));
+            assert!(format != 2 || again[..length] == file);
+            Ok(Settings { format: format as u32, boards })
+        }
+    };
+    assert_eq!(settings::read(&file), expected);
+}
+
+/// A file written, by the writer itself and by the call: "bytes behind the file, and all of them after a refusal, stay".
+fn compare_write(line: &Json) {
+    let (boards, room, answer) = (boards(line.field("boards")), line.field("room").number() as usize, line.field("answer"));
+    let lent: Vec<u8> = boards.iter().flat_map(|&board| board_bytes(board)).collect();
+    let (mut out, mut called_out, mut told) = (vec![0xA5; room], vec![0xA5; room], [0xA5; 8]);
+    let (written, called) = (settings::write(&boards, &mut out), write_settings(&lent, &mut called_out, &mut told));
+    let mut expected = vec![0xA5; room];
+    let (answer, number) = match refused(answer) {
+        Some(refusal) => {
+            assert_eq!(written, Err(refusal));
+            (REFUSED + u64::from(refusal.number), refusal.place)
+        }
+        None => {
+            let file = hex_bytes(answer.field("file"));
+            assert_eq!(written, Ok(file.len()));
+            expected[..file.len()].copy_from_slice(&file);
+            (0, file.len())
+        }
+    };
+    assert_eq!((called, told), (answer, (number as u64).to_le_bytes()));
+    assert!(out == expected && called_out == expected);
+}
+
+#[test]
+fn settings_files() {
+    let file = text(&vectors("11-settings.jsonl"));
+    let (mut read, mut written) = (0, 0);
+    for line in file.lines() {
+        let line = Json::of(line);
+        println!("11-settings.jsonl {}", line.field("name").text());
+        if line.get("file").is_some() {
+            compare_read(&line);
+            read += 1;
+        } else {
+            compare_write(&line);
+            written += 1;
+        }
+    }
+    assert_eq!((read, written), (508, 142));
 }
 
 /// A line is the words of a block, ` | ` and the answer.

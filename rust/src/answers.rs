@@ -83,9 +83,9 @@ numbered! {
     /// 2^32.
     Memory = 1, "the set size or the memory's length or base is wrong";
     /// The version of A is neither 2.0 nor 2.1, or the kind of core neither the 64-bit nor the 32-bit one, of a state or of a
-    /// check of a loop; the count isn't 1 to 8; or, of a used hart, x0, the pc or the reservation is wrong, or, of the 32-bit
-    /// kind, a register has an upper half that isn't zero.
-    State = 2, "the version of A, the kind of core or the state is wrong";
+    /// check of a loop; `misaligned` is neither 0 nor 1; the count isn't 1 to 8; or, of a used hart, x0, the pc or the
+    /// reservation is wrong, or, of the 32-bit kind, a register has an upper half that isn't zero.
+    State = 2, "a setting other than the set size, or the state, is wrong";
     Hart = 3, "the hart is not below the count";
     DeviceSize = 4, "a device write of 0 or more than 8 bytes";
     DeviceAddress = 5, "a device write not wholly in memory";
@@ -97,6 +97,11 @@ numbered! {
     Events = 11, "an event or the length of the events is wrong";
     LogLength = 12, "the log's length is not a multiple of 48";
     LogEmpty = 13, "the log has no rows";
+    /// Fewer than 8 bytes, a number of boards that isn't 1 to 16, a table or an end that is wrong; of a file to be written, its
+    /// number of boards or a buffer that is too short.
+    SettingsTable = 21, "the settings file's length, number of boards, table or room is wrong";
+    SettingsFormat = 22, "the settings file's format is not 1 or 2";
+    SettingsBoard = 23, "a board's set size, version of A or misaligned is wrong";
 }
 
 numbered! {

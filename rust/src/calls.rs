@@ -12,12 +12,12 @@ pub const REPORT_ROOM: usize = 262_144;
 /// The bytes of a row of a log.
 pub const ROW_SIZE: usize = 48;
 
-const BAD_SIZE: u64 = u64::MAX;
+pub(crate) const BAD_SIZE: u64 = u64::MAX;
 const TRAP: u64 = 256;
-const REFUSED: u64 = 512;
+pub(crate) const REFUSED: u64 = 512;
 
 /// The sizes are right by type. So the library is of another version, in which a state has another size.
-fn bad_size() -> ! {
+pub(crate) fn bad_size() -> ! {
     panic!("libcapi.a takes no state of {STATE_SIZE} bytes: it is of another version; run `rt staticlib capi`")
 }
 
@@ -34,8 +34,8 @@ fn ask_for_its_version() {
     }
 }
 
-fn refusal(number: u64) -> Refusal {
-    Refusal::of(number).expect("refusals are 1 to 13")
+pub(crate) fn refusal(number: u64) -> Refusal {
+    Refusal::of(number).expect("refusals are 1 to 13 and 21 to 23")
 }
 
 /// All that the program `floecavern` writes for the bytes of a case file, whatever they are: of a file that is no case,

@@ -41,7 +41,9 @@
 //!
 //! The set of a reservation has 64 bytes, [`SET_SIZE`], or as many as [`Machine::with_set_size`] says. The machine follows
 //! A 2.1, [`A_2_1`], or the version that [`Machine::with_version`] says. Its core is the 64-bit one, [`KIND_64`], or of the
-//! kind that [`Machine::with_kind`] says, such as [`KIND_32`]. [`State`] has an example of each.
+//! kind that [`Machine::with_kind`] says, such as [`KIND_32`]. [`State`] has an example of each. A misaligned LR, SC, AMO or
+//! AMOCAS gives cause 4 or 6, or what [`Machine::with_misaligned`] says. What boards are set to can be kept in a settings
+//! file: [`read_settings`], [`write_settings`], [`Machine::with_board`].
 //!
 //! A refusal can't be passed over by mistake:
 //!
@@ -52,6 +54,7 @@
 //! ```
 
 mod answers;
+mod boards;
 mod calls;
 mod event;
 mod harts;
@@ -60,6 +63,7 @@ pub mod raw;
 mod state;
 
 pub use answers::{Answer, Cause, Outcome, Reason, Refusal, RefusedAt, Replayed, Stop, Trap, Verdict};
+pub use boards::{read_settings, write_settings, Board, SettingsFile, MAX_BOARDS, SETTINGS_ROOM};
 pub use calls::{
     check_loop, check_loop_for, device_write, replay, report, report_text, run, run_bytes, step, yield_hart,
     REPORT_ROOM, ROW_SIZE,
@@ -67,7 +71,10 @@ pub use calls::{
 pub use event::Event;
 pub use harts::Harts;
 pub use machine::{Machine, MAX_MEMORY};
-pub use state::{Reservation, State, A_2_0, A_2_1, KIND_32, KIND_64, MAX_HARTS, SET_SIZE, STATE_SIZE};
+pub use state::{
+    Reservation, State, A_2_0, A_2_1, KIND_32, KIND_64, MAX_HARTS, MISALIGNED_4_AND_6, MISALIGNED_5_AND_7, SET_SIZE,
+    STATE_SIZE,
+};
 
 /// The version of this interface, which is also that of `include/floecavern.h`. Those of the extension A are [`A_2_0`] and
 /// [`A_2_1`].

@@ -1,6 +1,6 @@
 //! A machine that owns its state and its memory.
 
-use crate::{calls, Answer, Event, Refusal, RefusedAt, Replayed, State, MAX_HARTS};
+use crate::{calls, Answer, Board, Event, Refusal, RefusedAt, Replayed, State, MAX_HARTS};
 
 /// The longest memory that a machine can have, in bytes.
 pub const MAX_MEMORY: usize = 1_048_576;
@@ -16,8 +16,8 @@ pub struct Machine {
 
 impl Machine {
     /// `harts` harts with their pc at `base`, registers 0 and no reservations; `len` bytes of memory, all 0; the set size
-    /// [`SET_SIZE`](crate::SET_SIZE), the version [`A_2_1`](crate::A_2_1) and the kind [`KIND_64`](crate::KIND_64). Refusals
-    /// 1 and 2.
+    /// [`SET_SIZE`](crate::SET_SIZE), the version [`A_2_1`](crate::A_2_1), the kind [`KIND_64`](crate::KIND_64) and the causes of
+    /// [`MISALIGNED_4_AND_6`](crate::MISALIGNED_4_AND_6). Refusals 1 and 2.
     ///
     /// ```
     /// use floecavern::{Machine, Refusal};
@@ -86,6 +86,44 @@ impl Machine {
     /// ```
     pub fn with_kind(mut self, kind: u64) -> Result<Machine, Refusal> {
         self.state.kind = kind;
+        Machine::from_parts(self.state, self.base, self.mem)
+    }
+
+    /// The machine with other causes for a misaligned LR, SC, AMO or AMOCAS: those of
+    /// [`MISALIGNED_4_AND_6`](crate::MISALIGNED_4_AND_6) or [`MISALIGNED_5_AND_7`](crate::MISALIGNED_5_AND_7). Refusals 1 and 2:
+    /// 2 if the number is neither of the two.
+    ///
+    /// ```
+    /// use floecavern::{Cause, Machine, Outcome, Refusal, Trap, MISALIGNED_5_AND_7};
+    /// // lr.w x6,(x5) at an address that isn't a multiple of 4.
+    /// let mut machine = Machine::new(1, 0, 64)?;
+    /// machine.put_words(0, &[0x1002_a32f])?;
+    /// machine.state.x[0][5] = 34;
+    /// let trap = |cause| Outcome::Trap(Trap { cause, value: 34 });
+    /// assert_eq!(machine.step(0)?.outcome, trap(Cause::LoadAddressMisaligned));
+    /// let mut machine = machine.with_misaligned(MISALIGNED_5_AND_7)?;
+    /// assert_eq!(machine.step(0)?.outcome, trap(Cause::LoadAccessFault));
+    /// assert_eq!(machine.with_misaligned(2), Err(Refusal::State));
+    /// # Ok::<(), Refusal>(())
+    /// ```
+    pub fn with_misaligned(mut self, misaligned: u64) -> Result<Machine, Refusal> {
+        self.state.misaligned = misaligned;
+        Machine::from_parts(self.state, self.base, self.mem)
+    }
+
+    /// The machine set to what a board is set to: its set size, its version and its causes. The kind stays. Refusals 1 and 2.
+    ///
+    /// ```
+    /// use floecavern::{Board, Machine, Refusal, A_2_0, MISALIGNED_5_AND_7};
+    /// let board = Board { set_size: 128, version: A_2_0, misaligned: MISALIGNED_5_AND_7 };
+    /// assert_eq!(Machine::new(1, 0, 128)?.with_board(board)?.state.version, 20);
+    /// assert_eq!(Machine::new(1, 0, 64)?.with_board(board), Err(Refusal::Memory));
+    /// # Ok::<(), Refusal>(())
+    /// ```
+    pub fn with_board(mut self, board: Board) -> Result<Machine, Refusal> {
+        self.state.set_size = board.set_size;
+        self.state.version = board.version;
+        self.state.misaligned = board.misaligned;
         Machine::from_parts(self.state, self.base, self.mem)
     }
 

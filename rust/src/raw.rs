@@ -60,4 +60,20 @@ extern "C" {
         told: *mut u8,
         told_len: usize,
     ) -> u64;
+    pub fn floecavern_read_settings(
+        file: *const u8,
+        file_len: usize,
+        boards: *mut u8,
+        boards_len: usize,
+        told: *mut u8,
+        told_len: usize,
+    ) -> u64;
+    pub fn floecavern_write_settings(
+        boards: *const u8,
+        boards_len: usize,
+        out: *mut u8,
+        out_len: usize,
+        told: *mut u8,
+        told_len: usize,
+    ) -> u64;
 }

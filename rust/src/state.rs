@@ -6,7 +6,7 @@ use std::array::from_fn;
 pub const MAX_HARTS: usize = 8;
 
 /// The bytes of a state.
-pub const STATE_SIZE: usize = 2336;
+pub const STATE_SIZE: usize = 2344;
 
 /// The set size that a state has by default, and that the machine of a case file always has.
 pub const SET_SIZE: u64 = 64;
@@ -23,6 +23,13 @@ pub const KIND_64: u64 = 0;
 /// The kind of the 32-bit core: RV32I, LR.W, SC.W, the W AMOs, AMOCAS.W, and AMOCAS.D on pairs of registers. [`State`] says
 /// what it asks of a state.
 pub const KIND_32: u64 = 1;
+
+/// A misaligned LR gives cause 4, a misaligned SC, AMO or AMOCAS cause 6: what a state has by default.
+pub const MISALIGNED_4_AND_6: u64 = 0;
+
+/// A misaligned LR gives cause 5, a misaligned SC, AMO or AMOCAS cause 7, as the text of A 2.1 permits. A misaligned load is 4 and
+/// a misaligned store 6 in either case.
+pub const MISALIGNED_5_AND_7: u64 = 1;
 
 /// What an LR made: the `width` bytes, 4 or 8, at `addr`; of the 32-bit kind 4.
 #[derive(Clone, Copy, Debug, PartialEq, Eq)]
@@ -42,8 +49,9 @@ struct Slot {
 
 /// The state: of harts 0 to `count - 1`, 1 to 8 of them, the registers `x[hart][register]`, the pc and the reservation; and
 /// for all of them `set_size`, how many bytes the set of a reservation has, a power of two from 8 to 4,096, `version`, that of
-/// A which the machine follows, [`A_2_0`] or [`A_2_1`], and `kind`, that of the core, [`KIND_64`] or [`KIND_32`]. A set lies
-/// at a multiple of its size, around the LR's address. No call changes the size, the version or the kind.
+/// A which the machine follows, [`A_2_0`] or [`A_2_1`], `kind`, that of the core, [`KIND_64`] or [`KIND_32`], and `misaligned`,
+/// what a misaligned LR, SC, AMO or AMOCAS gives, [`MISALIGNED_4_AND_6`] or [`MISALIGNED_5_AND_7`]. A set lies at a multiple of
+/// its size, around the LR's address. No call changes these four.
 ///
 /// The registers and pcs of a 32-bit core have 32 bits, and an upper half that is zero: in a used hart any other is refused by
 /// 2, and so is a reservation 8 wide. Every event keeps the upper halves zero.
@@ -125,6 +133,7 @@ pub struct State {
     pub set_size: u64,
     pub version: u64,
     pub kind: u64,
+    pub misaligned: u64,
 }
 
 const _: () = assert!(std::mem::size_of::<State>() == STATE_SIZE);
@@ -134,10 +143,11 @@ const _: () = assert!(std::mem::offset_of!(State, slots) == 2120);
 const _: () = assert!(std::mem::offset_of!(State, set_size) == 2312);
 const _: () = assert!(std::mem::offset_of!(State, version) == 2320);
 const _: () = assert!(std::mem::offset_of!(State, kind) == 2328);
+const _: () = assert!(std::mem::offset_of!(State, misaligned) == 2336);
 const _: () = assert!(cfg!(all(target_arch = "x86_64", target_os = "linux")), "libcapi.a is for x86-64 Linux");
 
-/// No harts, all registers and pcs 0, no reservations, the set size [`SET_SIZE`], the version [`A_2_1`], the kind [`KIND_64`].
-/// A state of zeros is another one: its set size is 0, which is refused by 1.
+/// No harts, all registers and pcs 0, no reservations, the set size [`SET_SIZE`], the version [`A_2_1`], the kind [`KIND_64`],
+/// misaligned [`MISALIGNED_4_AND_6`]. A state of zeros is another one: its set size is 0, which is refused by 1.
 impl Default for State {
     fn default() -> State {
         State {
@@ -148,13 +158,13 @@ impl Default for State {
             set_size: SET_SIZE,
             version: A_2_1,
             kind: KIND_64,
+            misaligned: MISALIGNED_4_AND_6,
         }
     }
 }
 
 impl State {
-    /// `count` harts, all registers and pcs 0, no reservations, the set size [`SET_SIZE`], the version [`A_2_1`], the kind
-    /// [`KIND_64`]. A count that isn't 1 to 8 is refused by 2 when it is used.
+    /// `count` harts, all registers and pcs 0, no reservations, the settings of [`State::default`]. A count that isn't 1 to 8 is refused by 2 when it is used.
     pub fn new(count: u64) -> State {
         State { count, ..State::default() }
     }
@@ -182,7 +192,8 @@ impl State {
     pub fn to_bytes(&self) -> [u8; STATE_SIZE] {
         let slots = self.slots.iter().flat_map(|s| [s.held, s.addr, s.width]);
         let harts = self.x.into_iter().flatten().chain(self.pc).chain(slots);
-        let numbers = [self.count].into_iter().chain(harts).chain([self.set_size, self.version, self.kind]);
+        let numbers =
+            [self.count].into_iter().chain(harts).chain([self.set_size, self.version, self.kind, self.misaligned]);
         let mut bytes = [0; STATE_SIZE];
         for (place, number) in bytes.chunks_exact_mut(8).zip(numbers) {
             place.copy_from_slice(&number.to_le_bytes());
@@ -202,6 +213,7 @@ impl State {
             set_size: number(2312),
             version: number(2320),
             kind: number(2328),
+            misaligned: number(2336),
         }
     }
 
@@ -221,6 +233,7 @@ impl PartialEq for State {
             && self.set_size == other.set_size
             && self.version == other.version
             && self.kind == other.kind
+            && self.misaligned == other.misaligned
     }
 }
 

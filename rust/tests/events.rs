@@ -139,7 +139,8 @@ fn state_bytes() {
     let number = |at: usize| u64::from_le_bytes(bytes[at..at + 8].try_into().unwrap());
     assert_eq!((state.count, state.x[7][31], state.pc[7]), (number(0), number(2048), number(2112)));
     assert_eq!(state.reservation(7), Some(Reservation { addr: number(2296), width: number(2304) }));
-    assert_eq!((state.set_size, state.version, state.kind), (number(2312), number(2320), number(2328)));
+    assert_eq!((state.set_size, state.version), (number(2312), number(2320)));
+    assert_eq!((state.kind, state.misaligned), (number(2328), number(2336)));
     bytes[2288] ^= 1;
     assert_eq!(State::from_bytes(&bytes), state);
     bytes[2296] ^= 1;

@@ -63,7 +63,7 @@ fn other_versions() {
         state.set_size = 24;
         assert_eq!(Machine::from_parts(state, 0, vec![0; 64]), Err(Refusal::Memory));
     }
-    assert_eq!(Refusal::State.to_string(), "refusal 2: the version of A, the kind of core or the state is wrong");
+    assert_eq!(Refusal::State.to_string(), "refusal 2: a setting other than the set size, or the state, is wrong");
 }
 
 /// A state that is wrong in another way is refused all the same, and one setting doesn't stand in for the other.

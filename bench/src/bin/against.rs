@@ -4,7 +4,8 @@
 //!
 //! A version of the library from before request 5 takes states without the set size: it is given the bytes before that, and sets of 64 bytes
 //! alone. One from before request 7 takes states without the version of the A extension: it is given the bytes before that, and 2.1 alone. One from
-//! before request 10 takes states without the kind of core: it is given the bytes before that, and the 64-bit kind alone.
+//! before request 10 takes states without the kind of core: it is given the bytes before that, and the 64-bit kind alone. One from before request 11
+//! takes states without what a misaligned atomic raises: it is given the bytes before that; all work has the default of it.
 
 use bench::calls::BAD_SIZE;
 use bench::case::EVENT;
@@ -23,7 +24,7 @@ type OfHart = unsafe extern "C" fn(*mut u8, usize, u64, *mut u8, usize, usize, *
 type Device = unsafe extern "C" fn(*mut u8, usize, u64, *mut u8, usize, u64, usize, u64, *mut u8, usize) -> u64;
 
 /// The lengths of a state: without the settings, and with one more of them each time.
-const STATE_LENGTHS: [usize; 4] = [layout::SET_SIZE, layout::VERSION, layout::KIND, layout::SIZE];
+const STATE_LENGTHS: [usize; 5] = [layout::SET_SIZE, layout::VERSION, layout::KIND, layout::MISALIGNED, layout::SIZE];
 
 /// The functions of one version.
 #[derive(Clone, Copy)]

@@ -12,6 +12,7 @@ use bench::generate::{case, log, loop_block, no_kind, no_version, refused_call, 
 use bench::kinds::{Files, Kinds};
 use bench::log::ROW;
 use bench::machine::{xlen, State, A_2_0, A_2_1, KIND_32, KIND_64, MAX_HARTS};
+use bench::misaligned::Misaligned;
 use bench::reached::Reached;
 use bench::sizes::Sizes;
 use bench::versions::{Blocks, Versions};
@@ -36,6 +37,7 @@ struct Tally {
     sizes: Sizes,
     versions: Versions,
     kinds: Kinds,
+    misaligned: Misaligned,
     replays: Reached,
     /// Logs cut in two parts, both replayed as the whole.
     cut: u64,
@@ -77,6 +79,7 @@ impl<'a> Pair<'a> {
         tally.sizes.count_call(&self.ours, ours);
         tally.versions.count_call(&self.ours, &call, ours);
         tally.kinds.count_call(&self.ours, &call, ours);
+        tally.misaligned.count_call(&self.ours, &call, ours);
         self.calls.push(call);
         self.told = a;
         Ok(ours)
@@ -109,7 +112,10 @@ impl<'a> Pair<'a> {
 
 /// The settings, if it is a state.
 fn shown_settings(state: &[u8]) -> String {
-    let shown = |state: State| format!("sets of {} bytes, version {}, kind {}, ", state.set_size, state.version, state.kind);
+    let shown = |state: State| {
+        let State { set_size, version, kind, misaligned, .. } = state;
+        format!("sets of {set_size} bytes, version {version}, kind {kind}, misaligned {misaligned}, ")
+    };
     layout::read(state).map_or(String::new(), shown)
 }
 
@@ -133,6 +139,7 @@ impl Tally {
             sizes: Sizes::default(),
             versions: Versions::default(),
             kinds: Kinds::default(),
+            misaligned: Misaligned::default(),
             replays: Reached::new(&[1, 2, 12, 13]),
             cut: 0,
         }
@@ -162,6 +169,7 @@ impl Tally {
             self.sizes.count_events(&state, machine.base, &machine.memory, &given.events);
             self.versions.count_events(&state, machine.base, &machine.memory, &given.events);
             self.kinds.count_events(&state, machine.base, &machine.memory, &given.events);
+            self.misaligned.count_events(&state, machine.base, &machine.memory, &given.events);
         }
     }
 
@@ -174,6 +182,7 @@ impl Tally {
         self.sizes.print();
         self.versions.print();
         self.kinds.print();
+        self.misaligned.print();
         println!("  answers:");
         for ((call, answer), number) in &self.answers {
             // Those of replays come below.

@@ -8,7 +8,8 @@ use super::words::{
 use super::Rng;
 use crate::case::{EVENT, MAX_FILE, TABLE};
 use crate::machine::{
-    low, memory_unit, Memory, Outcome, Reservation, State, ADDRESSES_32, A_2_0, A_2_1, DEFAULT_SET, KIND_32, KIND_64, SMALLEST_SET,
+    low, memory_unit, Memory, Outcome, Reservation, State, ACCESS_FAULT, ADDRESSES_32, ADDRESS_MISALIGNED, A_2_0, A_2_1, DEFAULT_SET,
+    KIND_32, KIND_64, SMALLEST_SET,
 };
 use crate::word::RV32;
 
@@ -43,7 +44,8 @@ pub struct Builder {
     /// State and memory after the events so far.
     pub state: State,
     bytes: Vec<u8>,
-    /// Whether it is for a case file: then it fits in one, sets have 64 bytes, the version is 2.1, and nobody holds a reservation at the start.
+    /// Whether it is for a case file: then it fits in one, sets have 64 bytes, the version is 2.1, a misaligned atomic gives 4 or 6, and nobody holds
+    /// a reservation at the start.
     case_file: bool,
 }
 
@@ -76,12 +78,14 @@ impl Builder {
         }
     }
 
-    /// For calls on a state: sets of any allowed size, either version, a memory up to the largest, reservations at the start.
+    /// For calls on a state: sets of any allowed size, either version, either exception of misaligned atomics, a memory up to the largest,
+    /// reservations at the start.
     pub fn for_state(rng: &mut Rng) -> Self {
         let mut b = Builder::for_case(rng);
         b.case_file = false;
         b.state.set_size = if rng.percent(5) { DEFAULT_SET } else { SMALLEST_SET << rng.below(10) };
         b.state.version = rng.pick(&[A_2_0, A_2_1]);
+        b.state.misaligned = rng.pick(&[ADDRESS_MISALIGNED, ACCESS_FAULT]);
         let unit = memory_unit(b.state.set_size);
         b.base &= !(unit - 1);
         if unit > 64 {
@@ -360,6 +364,34 @@ impl Builder {
             }
         };
         self.perform(hart, w);
+    }
+
+    /// An atomic at an address that isn't aligned to its width, in memory or not wholly so: of a register that holds one, or that is given one just
+    /// before.
+    pub fn misaligned_atomic(&mut self, rng: &mut Rng, hart: usize) {
+        let xlen = self.xlen();
+        let amo = rng.pick(&AMOS);
+        let funct5 = rng.pick(&[LR, LR, SC, SC, CAS, CAS, amo, amo]);
+        let funct3 = if funct5 == CAS { cas_width(rng, xlen) } else { some_width(rng, xlen) };
+        let (even, width) = (register_mask(funct3, xlen), 1 << funct3);
+        let (rd, rs2) = (rng.reg() & even, if funct5 == LR { 0 } else { rng.reg() & even });
+        let (first, inside) = (rng.reg(), rng.percent(70));
+        let x = &self.state.harts[hart].x;
+        let wanted = |r: &u32| !x[*r as usize].is_multiple_of(width) && self.inside(x[*r as usize], width) == inside;
+        let found = (0..32).map(|r| (first + r) % 32).find(wanted);
+        let rs1 = found.filter(|_| rng.percent(60)).unwrap_or_else(|| self.point_beside(rng, hart, width));
+        self.perform(hart, atomic(funct5, funct3, rng.reg() & 3, rd, rs1, rs2));
+    }
+
+    /// A register that has just been given an address some bytes beside an aligned one: in memory, at its end or outside.
+    fn point_beside(&mut self, rng: &mut Rng, hart: usize, width: u64) -> u32 {
+        let (near, register) = (self.pointer(rng, hart, width), 1 + rng.below(31) as u32);
+        let beside = 1 + rng.below(width - 1) as i64;
+        // To the last bytes of memory, if the immediate reaches them.
+        let end = self.base.wrapping_add(self.memory.len() as u64 - width).wrapping_sub(self.state.harts[hart].x[near as usize]);
+        let imm = if end < 2032 && rng.percent(30) { end as i64 + beside } else { beside };
+        self.perform(hart, i_type(0x13, 0, register, near, imm));
+        register
     }
 
     /// Ends a case with events whose lines show reservations, then registers, then some of the memory. A trap carries the value of a

@@ -180,8 +180,8 @@ fn compare_and_swap(rng: &mut Rng, xlen: u32, hart: &Hart, memory: &Memory, addr
 /// A word that mostly traps.
 fn trapping_word(rng: &mut Rng, state: &State, hart: &Hart, memory: &Memory) -> u32 {
     let xlen = state.xlen();
-    let misaligned = rng.percent(50);
-    let bad = register(rng, hart, |x| if misaligned { !x.is_multiple_of(4) } else { x.is_multiple_of(16) && !memory.contains(x, 16) });
+    let (misaligned, unit) = (rng.percent(50), rng.pick(&[4, 4, 8, 16]));
+    let bad = register(rng, hart, |x| if misaligned { !x.is_multiple_of(unit) } else { x.is_multiple_of(16) && !memory.contains(x, 16) });
     let (rd, rs2) = (if rng.percent(20) { 0 } else { rng.reg() }, rng.reg());
     let width = some_width(rng, xlen);
     match rng.below(16) {

@@ -3,10 +3,12 @@
 use super::builder::Builder;
 use super::damage::damaged_body;
 use super::makers::{contention, crowded, edges, gathered, guided, program};
-use super::{no_kind, no_version, Rng};
+use super::{no_kind, no_misaligned, no_version, Rng};
 use crate::calls::{Call, Machine};
 use crate::layout;
-use crate::machine::{memory_unit, ADDRESSES_32, A_2_0, A_2_1, DEFAULT_SET, KIND_32, KIND_64, MAX_HARTS, SMALLEST_SET};
+use crate::machine::{
+    memory_unit, ACCESS_FAULT, ADDRESSES_32, ADDRESS_MISALIGNED, A_2_0, A_2_1, DEFAULT_SET, KIND_32, KIND_64, MAX_HARTS, SMALLEST_SET,
+};
 
 /// A machine with an events body. The body isn't refused unless the machine is.
 pub struct Scenario {
@@ -34,6 +36,7 @@ pub fn scenario(rng: &mut Rng) -> Scenario {
         28..=33 => damage_version(rng, &mut machine),
         34..=37 => damage_kind(rng, &mut machine),
         38..=45 if b.state.kind == KIND_32 => damage_32(rng, &mut machine, b.state.count),
+        46..=50 => damage_misaligned(rng, &mut machine),
         _ => return Scenario { machine, events },
     }
     if rng.percent(40) {
@@ -83,6 +86,18 @@ fn damage_kind(rng: &mut Rng, m: &mut Machine) {
         0 => damage_set_size(rng, m),
         1 => damage_memory(rng, m),
         2 => m.base = (1 << 40) - (1 << 20),
+        _ => {}
+    }
+}
+
+/// A number that says of no misaligned atomic what it raises, now and then beside something that 1 refuses or another setting that 2 does.
+fn damage_misaligned(rng: &mut Rng, m: &mut Machine) {
+    layout::put(&mut m.state, layout::MISALIGNED, no_misaligned(rng));
+    match rng.below(10) {
+        0 => damage_set_size(rng, m),
+        1 => damage_memory(rng, m),
+        2 => damage_version(rng, m),
+        3 => damage_kind(rng, m),
         _ => {}
     }
 }
@@ -200,8 +215,24 @@ fn put_reservation(bytes: &mut [u8], hart: usize, addr: u64, width: u64) {
 }
 
 /// Lengths that a state doesn't have: those of earlier versions of the library, and others about them.
-const STATE_LENGTHS: [usize; 13] =
-    [0, 8, layout::SET_SIZE, 2319, layout::VERSION, 2321, 2327, layout::KIND, 2329, 2335, 2337, 2344, 2 * layout::SIZE];
+const STATE_LENGTHS: [usize; 16] = [
+    0,
+    8,
+    layout::SET_SIZE,
+    2319,
+    layout::VERSION,
+    2321,
+    2327,
+    layout::KIND,
+    2329,
+    2335,
+    layout::MISALIGNED,
+    2337,
+    2343,
+    2345,
+    2352,
+    2 * layout::SIZE,
+];
 
 /// Makes something wrong that refusals 1 and 2 or the sizes are about, or right by luck.
 fn damage(rng: &mut Rng, m: &mut Machine) {
@@ -234,7 +265,7 @@ fn damage_state(rng: &mut Rng, m: &mut Machine) {
     // Seldom an unused hart: then nothing is wrong.
     let hart = if rng.percent(80) { rng.below(count.clamp(1, 8)) } else { rng.below(8) } as usize;
     let state = &mut m.state;
-    match rng.below(11) {
+    match rng.below(12) {
         0 => layout::put(state, layout::COUNT, rng.pick(&[0, 0, 9, 10, 256, (1 << 32) + 1, 1 << 32, 1 << 63, u64::MAX])),
         1 => layout::put(state, layout::COUNT, 1 + rng.below(8)),
         2 => layout::put(state, layout::x(hart, 0), 1 << rng.below(64)),
@@ -246,6 +277,8 @@ fn damage_state(rng: &mut Rng, m: &mut Machine) {
         8 => layout::put(state, layout::VERSION, rng.pick(&[A_2_0, A_2_1])),
         // Right, if all fits.
         9 => layout::put(state, layout::KIND, rng.pick(&[KIND_64, KIND_32])),
+        // Right.
+        10 => layout::put(state, layout::MISALIGNED, rng.pick(&[ADDRESS_MISALIGNED, ACCESS_FAULT])),
         _ => {
             let place = rng.below(layout::SIZE as u64) as usize;
             state[place] ^= 1 << rng.below(8);

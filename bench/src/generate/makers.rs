@@ -22,9 +22,10 @@ pub fn guided(rng: &mut Rng, mut b: Builder) -> Builder {
         if stuck(rng, &b, hart) {
             continue;
         }
-        match rng.below(30) {
+        match rng.below(32) {
             0 | 1 => b.random_device(rng),
             2 if rng.percent(50) => b.yield_hart(hart),
+            30 | 31 => b.misaligned_atomic(rng, hart),
             3..=7 => b.compare_and_swap(rng, hart),
             8..=13 => b.reserve_or_store(rng, hart),
             14 => {

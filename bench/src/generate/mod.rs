@@ -1,6 +1,8 @@
-//! Generated inputs: case files, blocks for the loop checker, machines with calls. The same seed gives the same input.
+//! Generated inputs: case files, blocks for the loop checker, machines with calls, settings files and lists of boards. The same seed gives the same
+//! input.
 
 mod blocks;
+mod boards;
 pub mod builder;
 pub mod classes;
 mod damage;
@@ -17,6 +19,7 @@ use crate::case::read_case;
 use crate::machine::{State, A_2_0, A_2_1};
 
 pub use blocks::loop_block;
+pub use boards::{board_list, settings_file};
 pub use logs::log;
 pub use machines::{refused_call, run_call, scenario, Scenario};
 pub use rng::Rng;
@@ -68,6 +71,21 @@ pub fn no_kind(rng: &mut Rng) -> u64 {
         _ => rng.next(),
     };
     kind.max(2)
+}
+
+/// A number that says of no misaligned atomic what it raises: just above the two, a cause, or one of the two in its lowest bits alone. It doesn't go
+/// by what the machine allows either.
+pub fn no_misaligned(rng: &mut Rng) -> u64 {
+    let misaligned = match rng.below(9) {
+        0 | 1 => rng.pick(&[2, 2, 3]),
+        2 => rng.pick(&[4, 5, 6, 7]),
+        3 => rng.pick(&[127, 128, 254, 255]),
+        4 | 5 => rng.below(2) + (1 << (8 + rng.below(56))),
+        6 => 1 << rng.below(64),
+        7 => rng.value(),
+        _ => rng.next(),
+    };
+    misaligned.max(2)
 }
 
 /// A case file with a log of it. The file is mostly one that isn't refused.

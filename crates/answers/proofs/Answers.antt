@@ -57,7 +57,7 @@ module _ (base : ℕ) (mem : List ℕ) (s : State) where
   row-cause (Step h) k c v r =
       let xlen = xlenOf (s .settings) in
       let pc = getD (s .pc) h 0 in
-      T.cause-most xlen (valueAt base mem pc 4) (regAt (s .x) h) pc base mem (decodeAt xlen (valueAt base mem pc 4)) k c v r
+      T.cause-most xlen (s .settings .misaligned) (valueAt base mem pc 4) (regAt (s .x) h) pc base mem (decodeAt xlen (valueAt base mem pc 4)) k c v r
   row-cause (Device a n v) k c w r = absurd r
   row-cause (Yield h) k c v r = absurd r
 
@@ -70,7 +70,7 @@ module _ (base : ℕ) (mem : List ℕ) (s : State) where
   first-equal (Step h) c v d w f g =
       let xlen = xlenOf (s .settings) in
       let pc = getD (s .pc) h 0 in
-      T.first-equal xlen (valueAt base mem pc 4) (regAt (s .x) h) pc base mem (decodeAt xlen (valueAt base mem pc 4)) c v d w f g
+      T.first-equal xlen (s .settings .misaligned) (valueAt base mem pc 4) (regAt (s .x) h) pc base mem (decodeAt xlen (valueAt base mem pc 4)) c v d w f g
   first-equal (Device a n x) c v d w f g = absurd (f .applies)
   first-equal (Yield h) c v d w f g = absurd (f .applies)
 
@@ -82,7 +82,7 @@ module _ (base : ℕ) (mem : List ℕ) (s : State) where
     retires : IsRetired o → Unrefused base mem s e → Untrapped (EventRow base mem s e) → Decided e o
 
   step-decided : (h : ℕ) → Unrefused base mem s (Step h) → Decided (Step h) (outcomeOf (ofExec h (stepOf base mem s h)))
-  step-decided h free = go (T.decided xlen x pc base mem covered)
+  step-decided h free = go (T.decided xlen (s .settings .misaligned) x pc base mem covered)
     where
       xlen : ℕ
       xlen = xlenOf (s .settings)
@@ -96,7 +96,7 @@ module _ (base : ℕ) (mem : List ℕ) (s : State) where
       covered : ℕ → ℕ → Bool
       covered = coversOf (s .settings) (reservationOf s h)
 
-      go : T.Decided xlen (valueAt base mem pc 4) x pc base mem (decodeAt xlen (valueAt base mem pc 4)) (stepOf base mem s h)
+      go : T.Decided xlen (s .settings .misaligned) (valueAt base mem pc 4) x pc base mem (decodeAt xlen (valueAt base mem pc 4)) (stepOf base mem s h)
           → Decided (Step h) (outcomeOf (ofExec h (stepOf base mem s h)))
       go (T.traps c v q f) = traps c v (ap (λ (e : Exec). outcomeOf (ofExec h e)) q) free f
       go (T.retires ws to t q f) = retires (effect-retired h (stepOf base mem s h) (ap T.isTrap q)) free f

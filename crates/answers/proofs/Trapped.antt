@@ -3,12 +3,15 @@ use Prim.Native.Nat.{ℕ, _%_, _≤_, _<_}
 use mathlib.Core.Path.{_≡_, refl, sym, _∙_, ap, subst}
 use mathlib.Core.Bool.{Bool, true, false, cond}
 use mathlib.Core.List.{List}
+use mathlib.Core.Logic.{⊎-elim}
 use native.Mathlib.Omega.{arith}
 use lib.ListN.{length}
 use lib.Dec.{eqb}
 use borrow.Author.Tests.{eqb-true, eqb-false}
 use Rattle.word.proofs.ChooseLaws.{cond-all}
 use Rattle.word.proofs.TestLaws.{bool-cases, contrary, never}
+use Rattle.settings.specs.Settings.{LrCause, lrCause, AmoCause, amoCause}
+use Rattle.settings.proofs.SettingsLaws.{lr-cause-exact, amo-cause-exact, lr-cause-is, amo-cause-is, lr-cause-some, amo-cause-some}
 use Rattle.reserve.specs.Range.{Inside, insideOf}
 use Rattle.reserve.proofs.RangeLaws.{inside-of, of-inside}
 use Rattle.isa.specs.Width.{bytesOf}
@@ -28,8 +31,9 @@ use Rattle.effect.specs.Execute.{atomicBy, execAtomic, execute, executeWord}
 use Rattle.effect.proofs.TrapLaws.{misaligned-traps, outside-traps, access-retires, jump-traps, jump-retires}
 use Rattle.effect.proofs.TrapLaws.{branch-traps, branch-taken, branch-passed}
 use Rattle.model.specs.Perform.{fetchOf}
-use Rattle.answers.specs.Causes.{Reach, nowhere, jumps, reads, writes, reachOf, TrapRow, FirstTrap, Untrapped}
-use Rattle.answers.specs.Causes.{unfetched, unknown, called, halted, misalignedTarget, misalignedRead, misalignedWrite, outsideRead, outsideWrite}
+use Rattle.answers.specs.Causes.{Manner, plain, atomic, Reach, nowhere, jumps, reads, writes, reachOf, TrapRow, FirstTrap, Untrapped}
+use Rattle.answers.specs.Causes.{unfetched, unknown, called, halted, misalignedTarget, misalignedRead, misalignedWrite, misalignedLr, misalignedAmo}
+use Rattle.answers.specs.Causes.{outsideRead, outsideWrite}
 use Rattle.answers.proofs.Refused.{first-same}
 
 -- ---- traps apart
@@ -70,44 +74,57 @@ code (Amo m) = 0
 placeOf : Reach → ℕ
 placeOf nowhere = 0
 placeOf (jumps t) = t
-placeOf (reads a n) = a
-placeOf (writes a n) = a
+placeOf (reads m a n) = a
+placeOf (writes m a n) = a
 
-misalignedCause : Reach → ℕ
-misalignedCause nowhere = 0
-misalignedCause (jumps t) = 0
-misalignedCause (reads a n) = 4
-misalignedCause (writes a n) = 6
+misalignedCause : ℕ → Reach → ℕ
+misalignedCause misaligned nowhere = 0
+misalignedCause misaligned (jumps t) = 0
+misalignedCause misaligned (reads plain a n) = 4
+misalignedCause misaligned (writes plain a n) = 6
+misalignedCause misaligned (reads atomic a n) = lrCause misaligned
+misalignedCause misaligned (writes atomic a n) = amoCause misaligned
 
 outside : Reach → ℕ
 outside nowhere = 0
 outside (jumps t) = 0
-outside (reads a n) = 5
-outside (writes a n) = 7
+outside (reads m a n) = 5
+outside (writes m a n) = 7
 
 -- what rows 4, 5 and 6 ask not to trap
 Straight : Reach → Type 0
 Straight nowhere = Unit {0}
 Straight (jumps t) = t % 4 ≡ 0
-Straight (reads a n) = Unit {0}
-Straight (writes a n) = Unit {0}
+Straight (reads m a n) = Unit {0}
+Straight (writes m a n) = Unit {0}
 
 Aligned : Reach → Type 0
 Aligned nowhere = Unit {0}
 Aligned (jumps t) = Unit {0}
-Aligned (reads a n) = a % n ≡ 0
-Aligned (writes a n) = a % n ≡ 0
+Aligned (reads m a n) = a % n ≡ 0
+Aligned (writes m a n) = a % n ≡ 0
 
 Within : ℕ → ℕ → Reach → Type 0
 Within base len nowhere = Unit {0}
 Within base len (jumps t) = Unit {0}
-Within base len (reads a n) = Inside base len a n
-Within base len (writes a n) = Inside base len a n
+Within base len (reads m a n) = Inside base len a n
+Within base len (writes m a n) = Inside base len a n
 
-module _ (xlen word : ℕ) (x : ℕ → ℕ) (pc base : ℕ) (mem : List ℕ) where
+-- no cause is above 8
+lr-most : (misaligned c : ℕ) → LrCause misaligned c → c ≤ 8
+lr-most misaligned c r =
+    let e = lr-cause-exact misaligned c .0 r in
+    ⊎-elim (λ (q : lrCause misaligned ≡ 4). omega (arith, e, q)) (λ (q : lrCause misaligned ≡ 5). omega (arith, e, q)) (lr-cause-is misaligned)
+
+amo-most : (misaligned c : ℕ) → AmoCause misaligned c → c ≤ 8
+amo-most misaligned c r =
+    let e = amo-cause-exact misaligned c .0 r in
+    ⊎-elim (λ (q : amoCause misaligned ≡ 6). omega (arith, e, q)) (λ (q : amoCause misaligned ≡ 7). omega (arith, e, q)) (amo-cause-is misaligned)
+
+module _ (xlen misaligned word : ℕ) (x : ℕ → ℕ) (pc base : ℕ) (mem : List ℕ) where
   none-below : (i : Instr) (p : ℕ) → (1 < p → Inside base (length mem) pc 4) → (2 < p → i ≡ Illegal → ⊥)
       → (3 < p → (i ≡ Ecall → ⊥) × (i ≡ Ebreak → ⊥)) → (4 < p → Straight (reachOf xlen i x pc)) → (5 < p → Aligned (reachOf xlen i x pc))
-      → (6 < p → Within base (length mem) (reachOf xlen i x pc)) → (k c v : ℕ) → k < p → TrapRow xlen i word x pc base mem k c v → ⊥
+      → (6 < p → Within base (length mem) (reachOf xlen i x pc)) → (k c v : ℕ) → k < p → TrapRow xlen misaligned i word x pc base mem k c v → ⊥
   unfolding Straight Aligned Within
   none-below i p a b d e f g k c v l (unfetched q r w z) = z (a (omega arith))
   none-below i p a b d e f g k c v l (unknown q r w z) = b (omega arith) z
@@ -116,19 +133,21 @@ module _ (xlen word : ℕ) (x : ℕ → ℕ) (pc base : ℕ) (mem : List ℕ) wh
   none-below i p a b d e f g k c v l (misalignedTarget q r w z) = z (subst Straight w (e (omega arith)))
   none-below i p a b d e f g k c v l (misalignedRead q r n w z) = z (subst Aligned w (f (omega arith)))
   none-below i p a b d e f g k c v l (misalignedWrite q r n w z) = z (subst Aligned w (f (omega arith)))
-  none-below i p a b d e f g k c v l (outsideRead q r n w z) = z (subst (Within base (length mem)) w (g (omega arith)))
-  none-below i p a b d e f g k c v l (outsideWrite q r n w z) = z (subst (Within base (length mem)) w (g (omega arith)))
+  none-below i p a b d e f g k c v l (misalignedLr q r n w z) = z (subst Aligned w (f (omega arith)))
+  none-below i p a b d e f g k c v l (misalignedAmo q r n w z) = z (subst Aligned w (f (omega arith)))
+  none-below i p a b d e f g k c v l (outsideRead q r t n w z) = z (subst (Within base (length mem)) w (g (omega arith)))
+  none-below i p a b d e f g k c v l (outsideWrite q r t n w z) = z (subst (Within base (length mem)) w (g (omega arith)))
 
   -- a row's place decides its cause and value
   causeBy : Instr → ℕ → ℕ
   causeBy i k =
       cond (eqb k 3) (code i)
-      (cond (eqb k 4) 0 (cond (eqb k 5) (misalignedCause (reachOf xlen i x pc)) (cond (eqb k 6) (outside (reachOf xlen i x pc)) k)))
+      (cond (eqb k 4) 0 (cond (eqb k 5) (misalignedCause misaligned (reachOf xlen i x pc)) (cond (eqb k 6) (outside (reachOf xlen i x pc)) k)))
 
   valueBy : Instr → ℕ → ℕ
   valueBy i k = cond (eqb k 1) pc (cond (eqb k 2) word (cond (eqb k 3) 0 (placeOf (reachOf xlen i x pc))))
 
-  placed : (i : Instr) (k c v : ℕ) → TrapRow xlen i word x pc base mem k c v → (1 ≤ k) × (k ≤ 6) × (c ≤ 8) × (c ≡ causeBy i k) × (v ≡ valueBy i k)
+  placed : (i : Instr) (k c v : ℕ) → TrapRow xlen misaligned i word x pc base mem k c v → (1 ≤ k) × (k ≤ 6) × (c ≤ 8) × (c ≡ causeBy i k) × (v ≡ valueBy i k)
   unfolding causeBy valueBy code misalignedCause outside placeOf
   placed i k c v (unfetched q r w z) = (omega arith, omega arith, omega arith, rw q r, rw q w)
   placed i k c v (unknown q r w z) = (omega arith, omega arith, omega arith, rw q r, rw q w)
@@ -137,17 +156,20 @@ module _ (xlen word : ℕ) (x : ℕ → ℕ) (pc base : ℕ) (mem : List ℕ) wh
   placed i k c v (misalignedTarget q r w z) = (omega arith, omega arith, omega arith, rw q r, rw (q, w) refl)
   placed i k c v (misalignedRead q r n w z) = (omega arith, omega arith, omega arith, rw (q, w) r, rw (q, w) refl)
   placed i k c v (misalignedWrite q r n w z) = (omega arith, omega arith, omega arith, rw (q, w) r, rw (q, w) refl)
-  placed i k c v (outsideRead q r n w z) = (omega arith, omega arith, omega arith, rw (q, w) r, rw (q, w) refl)
-  placed i k c v (outsideWrite q r n w z) = (omega arith, omega arith, omega arith, rw (q, w) r, rw (q, w) refl)
+  placed i k c v (misalignedLr q r n w z) = (omega arith, omega arith, lr-most misaligned c r, rw (q, w) (lr-cause-exact misaligned c .0 r), rw (q, w) refl)
+  placed i k c v (misalignedAmo q r n w z) =
+      (omega arith, omega arith, amo-most misaligned c r, rw (q, w) (amo-cause-exact misaligned c .0 r), rw (q, w) refl)
+  placed i k c v (outsideRead q r t n w z) = (omega arith, omega arith, omega arith, rw (q, w) r, rw (q, w) refl)
+  placed i k c v (outsideWrite q r t n w z) = (omega arith, omega arith, omega arith, rw (q, w) r, rw (q, w) refl)
 
-  pub cause-most : (i : Instr) (k c v : ℕ) → TrapRow xlen i word x pc base mem k c v → c ≤ 8
+  pub cause-most : (i : Instr) (k c v : ℕ) → TrapRow xlen misaligned i word x pc base mem k c v → c ≤ 8
   cause-most i k c v r = placed i k c v r .2
 
   -- so there is one first row, with one cause and value
-  pub first-equal : (i : Instr) (c v d w : ℕ) → FirstTrap (TrapRow xlen i word x pc base mem) c v → FirstTrap (TrapRow xlen i word x pc base mem) d w
+  pub first-equal : (i : Instr) (c v d w : ℕ) → FirstTrap (TrapRow xlen misaligned i word x pc base mem) c v → FirstTrap (TrapRow xlen misaligned i word x pc base mem) d w
       → (c ≡ d) × (v ≡ w)
   first-equal i c v d w f g =
-      let R : ℕ → Type 0 = λ k. (c : ℕ) × (v : ℕ) × TrapRow xlen i word x pc base mem k c v in
+      let R : ℕ → Type 0 = λ k. (c : ℕ) × (v : ℕ) × TrapRow xlen misaligned i word x pc base mem k c v in
       let q : f .place ≡ g .place =
       first-same R (f .place) (g .place) (c, v, f .applies) (λ k l r. f .first k (r .0) (r .1) l (r .2)) (d, w, g .applies)
       (λ k l r. g .first k (r .0) (r .1) l (r .2)) in
@@ -157,15 +179,15 @@ module _ (xlen word : ℕ) (x : ℕ → ℕ) (pc base : ℕ) (mem : List ℕ) wh
 
   -- the first row that applies is what it comes to, or no row applies and it comes to an effect
   pub data Decided (i : Instr) (e : Exec) : Type 0 where
-    traps : (c v : ℕ) → e ≡ trap c v → FirstTrap (TrapRow xlen i word x pc base mem) c v → Decided i e
-    retires : (ws : Writes) (to : ℕ) (t : Access) → e ≡ effect ws to t → Untrapped (TrapRow xlen i word x pc base mem) → Decided i e
+    traps : (c v : ℕ) → e ≡ trap c v → FirstTrap (TrapRow xlen misaligned i word x pc base mem) c v → Decided i e
+    retires : (ws : Writes) (to : ℕ) (t : Access) → e ≡ effect ws to t → Untrapped (TrapRow xlen misaligned i word x pc base mem) → Decided i e
 
   -- ---- a word that is in memory
   module _ (inside : Inside base (length mem) pc 4) where
     -- and none of the words of rows 2 and 3
     module _ (i : Instr) (plain : code i ≡ 0) where
       clear : (p : ℕ) → (4 < p → Straight (reachOf xlen i x pc)) → (5 < p → Aligned (reachOf xlen i x pc))
-          → (6 < p → Within base (length mem) (reachOf xlen i x pc)) → (k c v : ℕ) → k < p → TrapRow xlen i word x pc base mem k c v → ⊥
+          → (6 < p → Within base (length mem) (reachOf xlen i x pc)) → (k c v : ℕ) → k < p → TrapRow xlen misaligned i word x pc base mem k c v → ⊥
       unfolding code
       clear p =
           none-below i p (λ l. inside) (λ l z. absurd (omega (arith, plain, ap code z)))
@@ -194,11 +216,11 @@ module _ (xlen word : ℕ) (x : ℕ → ℕ) (pc base : ℕ) (mem : List ℕ) wh
           (record { place = 4; applies = misalignedTarget refl refl q skew; first = clear 4 (never refl) (never refl) (never refl) }))
 
       -- an access by row 5, misaligned, then row 6, outside
-      access-decided : (misaligned outside a n : ℕ) (ws : Writes) (to : ℕ) (t : Access) → 0 < misaligned → 0 < outside → Straight (reachOf xlen i x pc)
+      access-decided : (unaligned outside a n : ℕ) (ws : Writes) (to : ℕ) (t : Access) → 0 < unaligned → 0 < outside → Straight (reachOf xlen i x pc)
           → (a % n ≡ 0 → Aligned (reachOf xlen i x pc)) → (Inside base (length mem) a n → Within base (length mem) (reachOf xlen i x pc))
-          → ((a % n ≡ 0 → ⊥) → TrapRow xlen i word x pc base mem 5 misaligned a)
-          → ((Inside base (length mem) a n → ⊥) → TrapRow xlen i word x pc base mem 6 outside a)
-          → Decided i (checked misaligned outside a n base (length mem) (effect ws to t))
+          → ((a % n ≡ 0 → ⊥) → TrapRow xlen misaligned i word x pc base mem 5 unaligned a)
+          → ((Inside base (length mem) a n → ⊥) → TrapRow xlen misaligned i word x pc base mem 6 outside a)
+          → Decided i (checked unaligned outside a n base (length mem) (effect ws to t))
       access-decided mis out a n ws to t some more straight aligned within row5 row6 =
           let e = effect ws to t in
           bool-cases (eqb (a % n) 0)
@@ -217,29 +239,39 @@ module _ (xlen word : ℕ) (x : ℕ → ℕ) (pc base : ℕ) (mem : List ℕ) wh
           traps mis a (misaligned-traps mis out a n base (length mem) some more e skew)
           (record { place = 5; applies = row5 skew; first = clear 5 (λ l. straight) (never refl) (never refl) }))
 
-      -- a load or LR
-      read-decided : (a n : ℕ) (ws : Writes) (to : ℕ) (t : Access) → reachOf xlen i x pc ≡ reads a n
-          → Decided i (checked 4 5 a n base (length mem) (effect ws to t))
+      -- a load, or an LR with the cause of row 5 by its setting
+      read-decided : (m : Manner) (mis a n : ℕ) (ws : Writes) (to : ℕ) (t : Access) → 0 < mis → reachOf xlen i x pc ≡ reads m a n
+          → ((a % n ≡ 0 → ⊥) → TrapRow xlen misaligned i word x pc base mem 5 mis a) → Decided i (checked mis 5 a n base (length mem) (effect ws to t))
       unfolding Straight Aligned Within
-      read-decided a n ws to t q =
-          access-decided 4 5 a n ws to t (omega arith) (omega arith) (rw q tt) (λ al. rw q al) (λ is. rw q is)
-          (λ z. misalignedRead refl refl n q z) (λ z. outsideRead refl refl n q z)
+      read-decided m mis a n ws to t some q row5 =
+          access-decided mis 5 a n ws to t some (omega arith) (rw q tt) (λ al. rw q al) (λ is. rw q is) row5 (λ z. outsideRead refl refl m n q z)
 
-      -- a store, SC, AMO or AMOCAS
-      write-decided : (a n : ℕ) (ws : Writes) (to : ℕ) (t : Access) → reachOf xlen i x pc ≡ writes a n
-          → Decided i (checked 6 7 a n base (length mem) (effect ws to t))
+      lr-decided : (a n : ℕ) (ws : Writes) (to : ℕ) (t : Access) → reachOf xlen i x pc ≡ reads atomic a n
+          → Decided i (checked (lrCause misaligned) 5 a n base (length mem) (effect ws to t))
+      lr-decided a n ws to t q =
+          read-decided atomic (lrCause misaligned) a n ws to t (lr-cause-some misaligned) q
+          (λ z. misalignedLr refl (lr-cause-exact misaligned _ .1 refl) n q z)
+
+      -- a store, or an SC, AMO or AMOCAS likewise
+      write-decided : (m : Manner) (mis a n : ℕ) (ws : Writes) (to : ℕ) (t : Access) → 0 < mis → reachOf xlen i x pc ≡ writes m a n
+          → ((a % n ≡ 0 → ⊥) → TrapRow xlen misaligned i word x pc base mem 5 mis a) → Decided i (checked mis 7 a n base (length mem) (effect ws to t))
       unfolding Straight Aligned Within
-      write-decided a n ws to t q =
-          access-decided 6 7 a n ws to t (omega arith) (omega arith) (rw q tt) (λ al. rw q al) (λ is. rw q is)
-          (λ z. misalignedWrite refl refl n q z) (λ z. outsideWrite refl refl n q z)
+      write-decided m mis a n ws to t some q row5 =
+          access-decided mis 7 a n ws to t some (omega arith) (rw q tt) (λ al. rw q al) (λ is. rw q is) row5 (λ z. outsideWrite refl refl m n q z)
 
-      -- an SC, as a store, whatever the reservation decides then
-      sc-decided : (w : Width) (rd a v : ℕ) (covered : ℕ → ℕ → Bool) → reachOf xlen i x pc ≡ writes a (bytesOf w)
-          → Decided i (execSc xlen w rd a v pc base mem covered)
+      amo-decided : (a n : ℕ) (ws : Writes) (to : ℕ) (t : Access) → reachOf xlen i x pc ≡ writes atomic a n
+          → Decided i (checked (amoCause misaligned) 7 a n base (length mem) (effect ws to t))
+      amo-decided a n ws to t q =
+          write-decided atomic (amoCause misaligned) a n ws to t (amo-cause-some misaligned) q
+          (λ z. misalignedAmo refl (amo-cause-exact misaligned _ .1 refl) n q z)
+
+      -- an SC, whatever the reservation decides then
+      sc-decided : (w : Width) (rd a v : ℕ) (covered : ℕ → ℕ → Bool) → reachOf xlen i x pc ≡ writes atomic a (bytesOf w)
+          → Decided i (execSc xlen misaligned w rd a v pc base mem covered)
       unfolding execSc
       sc-decided w rd a v covered q =
-          cond-all (λ (e : Exec). Decided i (checked 6 7 a (bytesOf w) base (length mem) e)) (covered a (bytesOf w)) _ _
-          (write-decided a (bytesOf w) _ _ _ q) (write-decided a (bytesOf w) _ _ _ q)
+          cond-all (λ (e : Exec). Decided i (checked (amoCause misaligned) 7 a (bytesOf w) base (length mem) e)) (covered a (bytesOf w)) _ _
+          (amo-decided a (bytesOf w) _ _ _ q) (amo-decided a (bytesOf w) _ _ _ q)
 
     branch-decided : (op : BranchOp) (rs1 rs2 imm : ℕ) (b : Bool) → holdsOf xlen op (x rs1) (x rs2) ≡ b
         → Decided (Branch op rs1 rs2 imm) (execBranch xlen b (offset xlen pc imm) pc)
@@ -252,15 +284,15 @@ module _ (xlen word : ℕ) (x : ℕ → ℕ) (pc base : ℕ) (mem : List ℕ) wh
         subst (Decided (Branch op rs1 rs2 imm)) (sym (branch-passed xlen pc to))
         (goes (Branch op rs1 rs2 imm) refl none (nextPc xlen pc) nothing (rw h))
 
-    atomic-decided : (m : Atomic) (covered : ℕ → ℕ → Bool) (op : AtomicOp) → m .op ≡ op → Decided (Amo m) (atomicBy xlen op m x pc base mem covered)
+    atomic-decided : (m : Atomic) (covered : ℕ → ℕ → Bool) (op : AtomicOp) → m .op ≡ op → Decided (Amo m) (atomicBy xlen misaligned op m x pc base mem covered)
     unfolding code execLr execCas execCasPair execAmo
-    atomic-decided m covered Lr q = read-decided (Amo m) refl _ _ _ _ _ (rw q)
+    atomic-decided m covered Lr q = lr-decided (Amo m) refl _ _ _ _ _ (rw q)
     atomic-decided m covered Sc q = sc-decided (Amo m) refl (m .width) (m .rd) (x (m .rs1)) (x (m .rs2)) covered (rw q)
-    atomic-decided m covered Cas q = write-decided (Amo m) refl _ _ _ _ _ (rw q)
-    atomic-decided m covered CasPair q = write-decided (Amo m) refl _ _ _ _ _ (rw q)
-    atomic-decided m covered (Rmw op) q = write-decided (Amo m) refl _ _ _ _ _ (rw q)
+    atomic-decided m covered Cas q = amo-decided (Amo m) refl _ _ _ _ _ (rw q)
+    atomic-decided m covered CasPair q = amo-decided (Amo m) refl _ _ _ _ _ (rw q)
+    atomic-decided m covered (Rmw op) q = amo-decided (Amo m) refl _ _ _ _ _ (rw q)
 
-    execute-decided : (covered : ℕ → ℕ → Bool) (i : Instr) → Decided i (execute xlen i word x pc base mem covered)
+    execute-decided : (covered : ℕ → ℕ → Bool) (i : Instr) → Decided i (execute xlen misaligned i word x pc base mem covered)
     unfolding execute execAtomic execLoad execStore code Straight Aligned Within
     execute-decided covered Illegal =
         traps 2 word refl
@@ -293,8 +325,10 @@ module _ (xlen word : ℕ) (x : ℕ → ℕ) (pc base : ℕ) (mem : List ℕ) wh
         let to = clearBit0 (offset xlen (x rs1) imm) in
         jump-decided (Jalr rd rs1 imm) refl to (one rd (nextPc xlen pc)) _ refl (jump-traps xlen pc rd to) (jump-retires xlen pc rd to)
     execute-decided covered (Branch op rs1 rs2 imm) = branch-decided op rs1 rs2 imm (holdsOf xlen op (x rs1) (x rs2)) refl
-    execute-decided covered (Load op rd rs1 imm) = read-decided (Load op rd rs1 imm) refl _ _ _ _ _ refl
-    execute-decided covered (Store op rs1 rs2 imm) = write-decided (Store op rs1 rs2 imm) refl _ _ _ _ _ refl
+    execute-decided covered (Load op rd rs1 imm) =
+        read-decided (Load op rd rs1 imm) refl plain 4 _ _ _ _ _ (omega arith) refl (λ z. misalignedRead refl refl _ refl z)
+    execute-decided covered (Store op rs1 rs2 imm) =
+        write-decided (Store op rs1 rs2 imm) refl plain 6 _ _ _ _ _ (omega arith) refl (λ z. misalignedWrite refl refl _ refl z)
     execute-decided covered (OpImm op rd rs1 imm) = goes _ refl _ _ _ refl
     execute-decided covered (OpImm32 op rd rs1 imm) = goes _ refl _ _ _ refl
     execute-decided covered (Op op rd rs1 rs2) = goes _ refl _ _ _ refl
@@ -303,19 +337,19 @@ module _ (xlen word : ℕ) (x : ℕ → ℕ) (pc base : ℕ) (mem : List ℕ) wh
 
 -- ---- the fetch, too
 
-module _ (xlen : ℕ) (x : ℕ → ℕ) (pc base : ℕ) (mem : List ℕ) (covered : ℕ → ℕ → Bool) where
-  pub decided : Decided xlen (valueAt base mem pc 4) x pc base mem (decodeAt xlen (valueAt base mem pc 4)) (fetchOf xlen x pc base mem covered)
+module _ (xlen misaligned : ℕ) (x : ℕ → ℕ) (pc base : ℕ) (mem : List ℕ) (covered : ℕ → ℕ → Bool) where
+  pub decided : Decided xlen misaligned (valueAt base mem pc 4) x pc base mem (decodeAt xlen (valueAt base mem pc 4)) (fetchOf xlen misaligned x pc base mem covered)
   unfolding fetchOf executeWord
   decided =
       let word = valueAt base mem pc 4 in
       let i = decodeAt xlen word in
       bool-cases (insideOf base (length mem) pc 4)
-      (λ t. rw t (execute-decided xlen word x pc base mem (inside-of base (length mem) pc 4 t) covered i))
+      (λ t. rw t (execute-decided xlen misaligned word x pc base mem (inside-of base (length mem) pc 4 t) covered i))
       (λ t.
       let away : Inside base (length mem) pc 4 → ⊥ = λ j. contrary (of-inside base (length mem) pc 4 j) t in
       traps 1 pc (rw t)
       (record {
         place = 1;
         applies = unfetched refl refl refl away;
-        first = none-below xlen word x pc base mem i 1 (never refl) (never refl) (never refl) (never refl) (never refl) (never refl);
+        first = none-below xlen misaligned word x pc base mem i 1 (never refl) (never refl) (never refl) (never refl) (never refl) (never refl);
       }))

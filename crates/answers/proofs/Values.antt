@@ -34,7 +34,8 @@ use Rattle.model.specs.Perform.{answerOf}
 use Rattle.model.specs.declared.Outcome.the-variants as O
 use Rattle.answers.specs.Refusals.{badState, noHart, Unrefused}
 use Rattle.answers.specs.Causes.{Reach, nowhere, jumps, reads, writes, atomicReach, reachOf, TrapRow, EventRow}
-use Rattle.answers.specs.Causes.{unfetched, unknown, called, halted, misalignedTarget, misalignedRead, misalignedWrite, outsideRead, outsideWrite}
+use Rattle.answers.specs.Causes.{unfetched, unknown, called, halted, misalignedTarget, misalignedRead, misalignedWrite, misalignedLr, misalignedAmo}
+use Rattle.answers.specs.Causes.{outsideRead, outsideWrite}
 use Rattle.answers.proofs.Answers.{trap-exact}
 
 -- a number that has 64 bits, and 32 where registers have no more
@@ -45,8 +46,8 @@ xlen-lt xlen is n wide narrow = ⊎-elim (λ (e : xlen ≡ 32). rw e (narrow e))
 abbrev Below : ℕ → Reach → Type 0
 Below n nowhere = Unit {0}
 Below n (jumps t) = t < n
-Below n (reads a w) = a < n
-Below n (writes a w) = a < n
+Below n (reads m a w) = a < n
+Below n (writes m a w) = a < n
 
 atomic-lt : (n : ℕ) (op : AtomicOp) (w : Width) (a : ℕ) → a < n → Below n (atomicReach op w a)
 atomic-lt n Lr w a l = l
@@ -76,16 +77,18 @@ module _ (xlen : ℕ) (x : ℕ → ℕ) (registers : (r : ℕ) → x r < 2 ^ xle
   reach-lt (Op op rd rs1 rs2) = tt
   reach-lt (Op32 op rd rs1 rs2) = tt
 
-  row-lt : (word : ℕ) → word < 2 ^ xlen → (i : Instr) (base : ℕ) (mem : List ℕ) (k c v : ℕ) → TrapRow xlen i word x pc base mem k c v → v < 2 ^ xlen
-  row-lt word l i base mem k c v (unfetched p q r z) = rw r here
-  row-lt word l i base mem k c v (unknown p q r z) = rw r l
-  row-lt word l i base mem k c v (called p q r z) = rw r (pow-pos xlen)
-  row-lt word l i base mem k c v (halted p q r z) = rw r (pow-pos xlen)
-  row-lt word l i base mem k c v (misalignedTarget p q r z) = subst (Below (2 ^ xlen)) r (reach-lt i)
-  row-lt word l i base mem k c v (misalignedRead p q n r z) = subst (Below (2 ^ xlen)) r (reach-lt i)
-  row-lt word l i base mem k c v (misalignedWrite p q n r z) = subst (Below (2 ^ xlen)) r (reach-lt i)
-  row-lt word l i base mem k c v (outsideRead p q n r z) = subst (Below (2 ^ xlen)) r (reach-lt i)
-  row-lt word l i base mem k c v (outsideWrite p q n r z) = subst (Below (2 ^ xlen)) r (reach-lt i)
+  row-lt : (misaligned word : ℕ) → word < 2 ^ xlen → (i : Instr) (base : ℕ) (mem : List ℕ) (k c v : ℕ) → TrapRow xlen misaligned i word x pc base mem k c v → v < 2 ^ xlen
+  row-lt misaligned word l i base mem k c v (unfetched p q r z) = rw r here
+  row-lt misaligned word l i base mem k c v (unknown p q r z) = rw r l
+  row-lt misaligned word l i base mem k c v (called p q r z) = rw r (pow-pos xlen)
+  row-lt misaligned word l i base mem k c v (halted p q r z) = rw r (pow-pos xlen)
+  row-lt misaligned word l i base mem k c v (misalignedTarget p q r z) = subst (Below (2 ^ xlen)) r (reach-lt i)
+  row-lt misaligned word l i base mem k c v (misalignedRead p q n r z) = subst (Below (2 ^ xlen)) r (reach-lt i)
+  row-lt misaligned word l i base mem k c v (misalignedWrite p q n r z) = subst (Below (2 ^ xlen)) r (reach-lt i)
+  row-lt misaligned word l i base mem k c v (misalignedLr p q n r z) = subst (Below (2 ^ xlen)) r (reach-lt i)
+  row-lt misaligned word l i base mem k c v (misalignedAmo p q n r z) = subst (Below (2 ^ xlen)) r (reach-lt i)
+  row-lt misaligned word l i base mem k c v (outsideRead p q t n r z) = subst (Below (2 ^ xlen)) r (reach-lt i)
+  row-lt misaligned word l i base mem k c v (outsideWrite p q t n r z) = subst (Below (2 ^ xlen)) r (reach-lt i)
 
 module _ (base : ℕ) (mem : List ℕ) (s : State) (ranged : Ranged s) (bytes : IsBytes mem) where
   -- by what 2 asks of a hart below the count; the word has 32 bits, and no register has fewer
@@ -97,7 +100,7 @@ module _ (base : ℕ) (mem : List ℕ) (s : State) (ranged : Ranged s) (bytes : 
       let pc = getD (s .pc) h 0 in
       let upper = rules .2 h l .3 in
       row-lt xlen (regAt (s .x) h) (λ r. xlen-lt xlen is _ (ranged .registers _) (λ e. upper e .0 _ (mod-lt r (lit< tt)))) pc
-      (xlen-lt xlen is pc (ranged .pcs h) (λ e. upper e .1)) _
+      (xlen-lt xlen is pc (ranged .pcs h) (λ e. upper e .1)) _ _
       (omega (arith, value-lt base mem bytes pc 4, pow-mono {i = 32} {j = xlen} (xlen-bounds xlen is .0))) _ base mem
 
   -- neither 2 nor 3 refuses an event that traps; that they don't is only known as a denial, so the bound is tried

@@ -31,7 +31,8 @@ Beyond base len (Yield h) = ⊥
 
 -- The row of this number applies.
 -- 1: "memory length or base breaks the rules above"; 02 [5]: "a size not allowed is 1, tried before base and length"; [10]: base plus length above 2^32, last
--- 2: "state malformed"; 02 [7]: "any other version is 2"; [10]: any other kind, an upper half that isn't zero, a reservation 8 wide on the 32-bit core
+-- 2: "state malformed"; 02 [7]: "any other version is 2"; [10]: any other kind, an upper half that isn't zero, a reservation 8 wide on the 32-bit core;
+-- [11]: any other misaligned
 pub data RefusalRow (base : ℕ) (mem : List ℕ) (s : State) (e : Event) (number : ℕ) : Type 0 where
   badMemory : number ≡ 1 → WrongMemory (s .settings) base (length mem) → RefusalRow base mem s e number
   badState : number ≡ 2 → (StateRules base (length mem) s → ⊥) → RefusalRow base mem s e number

@@ -2,3 +2,4 @@
 mod LoopLaws
 mod EventLaws
 pub mod ReplayLaws
+mod BoardLaws

@@ -65,9 +65,9 @@ pub record Told (a : Answer) (m state : List ℕ) (r : ℕ) (state′ mem′ val
   pub bytes : state′ ≡ stateIf (isRetired (a .outcome)) state (a .state)
   pub memory : mem′ ≡ m
 
--- What an event e leaves, and its answer r: state, memory and value before and after. Where the state isn't 2336 bytes or the value isn't 8, nothing
+-- What an event e leaves, and its answer r: state, memory and value before and after. Where the state isn't 2344 bytes or the value isn't 8, nothing
 -- is written. (A memory of a wrong length is 01's refusal 1, and so is a set size that isn't allowed, as that of a state of zeros: 02 [5];
--- a version or a kind that isn't allowed is refusal 2: 02 [7], [10].)
+-- a version, a kind or a misaligned that isn't allowed is refusal 2: 02 [7], [10], [11].)
 pub record PerformedOn (e : Event) (base : ℕ) (state mem value : List ℕ) (r : ℕ) (state′ mem′ value′ : List ℕ) : Type 0 where
   pub wrong : ((length state ≡ stateSize) × (length value ≡ 8) → ⊥) → (r ≡ wrongSize) × (state′ ≡ state) × (mem′ ≡ mem) × (value′ ≡ value)
   pub right : length state ≡ stateSize → length value ≡ 8
@@ -102,7 +102,7 @@ pub record RunTold (a : Result) (state : List ℕ) (r : ℕ) (state′ mem′ to
   pub bytes : state′ ≡ stateIf (isPerformed (a .ran .verdict)) state (a .ran .state)
   pub memory : mem′ ≡ a .mem
 
--- What a run of an events body leaves, and its answer r. Where the state isn't 2336 bytes or the room for two numbers isn't 16, nothing is written. (A
+-- What a run of an events body leaves, and its answer r. Where the state isn't 2344 bytes or the room for two numbers isn't 16, nothing is written. (A
 -- body of a wrong length is 01's refusal 11.)
 pub record RanOn (body : List ℕ) (budget base : ℕ) (state mem told : List ℕ) (r : ℕ) (state′ mem′ told′ : List ℕ) : Type 0 where
   pub wrong : ((length state ≡ stateSize) × (length told ≡ 16) → ⊥) → (r ≡ wrongSize) × (state′ ≡ state) × (mem′ ≡ mem) × (told′ ≡ told)

@@ -2,3 +2,4 @@
 pub mod Answers
 pub mod Events
 pub mod Replay
+pub mod Boards

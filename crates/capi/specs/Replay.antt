@@ -41,7 +41,7 @@ pub record ReplayTold (a : Result) (state : List ℕ) (r : ℕ) (state′ mem′
   pub bytes : state′ ≡ stateIf (isReplayed (a .replayed .stop)) state (a .replayed .state)
   pub memory : mem′ ≡ a .mem
 
--- What a replay of a log leaves, and its answer r. Where the state isn't 2336 bytes or the room for three numbers isn't 24, nothing is written. (A log
+-- What a replay of a log leaves, and its answer r. Where the state isn't 2344 bytes or the room for three numbers isn't 24, nothing is written. (A log
 -- of a wrong length is 02's refusal 12, and one of no rows 13.)
 pub record ReplayedOn (log : List ℕ) (base : ℕ) (state mem told : List ℕ) (r : ℕ) (state′ mem′ told′ : List ℕ) : Type 0 where
   pub wrong : ((length state ≡ stateSize) × (length told ≡ 24) → ⊥) → (r ≡ wrongSize) × (state′ ≡ state) × (mem′ ≡ mem) × (told′ ≡ told)

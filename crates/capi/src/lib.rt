@@ -1,5 +1,6 @@
 // The functions that C and Rust call: include/floecavern.h says how. None has a precondition.
 mod replay;
+mod settings_files;
 mod steps;
 
 use retry::LoopAnswer;
@@ -14,7 +15,8 @@ ghost use Rattle.capi.specs.Answers.{Reported, loopNumber, loopAnswer};
 // The answer to arguments of a wrong size.
 pub const BAD_SIZE: u64 = 18446744073709551615;
 
-// The text of any bytes: the first r bytes of out are all that the program writes for them. 2^64 - 1 if out has fewer than 262,144 bytes.
+// The text of any bytes: the first r bytes of out are all that the program writes for them where no board is given. 2^64 - 1 if out has
+// fewer than 262,144 bytes.
 #[no_mangle]
 pub extern "C" fn floecavern_report(file: &[u8], out: &mut [u8]) -> u64
     ensures { λ r. ⌜ Reported (now (file .entry)) (now (out .entry)) (now (out .exit)) r ⌝ }

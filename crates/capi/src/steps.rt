@@ -173,7 +173,7 @@ fn is_performed(v: Verdict) -> bool
 }
 
 // Writes two numbers.
-fn tell(told: &mut [u8], first: u64, second: u64)
+pub fn tell(told: &mut [u8], first: u64, second: u64)
     requires { ⌜ length (now told) ≡ 16 ⌝ }
     ensures { λ _. ⌜ now (told .exit) ≡ wordBytes (first ∷ second ∷ []) ⌝ }
 {

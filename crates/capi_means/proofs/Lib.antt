@@ -3,3 +3,4 @@ pub mod Means
 pub mod Stops
 pub mod Values
 pub mod ReplayMeans
+pub mod Boards

@@ -5,7 +5,9 @@ use Prim.Native.Nat.{ℕ, _-_}
 use mathlib.Core.List.{List}
 use Rattle.word.specs.Memory.{part, splice}
 use Rattle.machine.specs.declared.State.{State}
-use Rattle.casefile.specs.Case.{caseOf}
+use Rattle.settings.specs.Boards.{defaultBoard}
+use Rattle.settings.specs.declared.Board.{Board}
+use Rattle.casefile.specs.Case.{caseOn}
 use Rattle.casefile.specs.declared.Case.{Case}
 use Rattle.casefile.specs.declared.Found.{Found}
 use Rattle.casefile.specs.declared.Found.the-variants.{Refused, Bodies}
@@ -31,5 +33,10 @@ foundReplay file log base s (Bodies m e) = leftAt file m (replayOf base (part fi
 abbrev pub caseReplay : List ℕ → List ℕ → Case → FileResult
 caseReplay file log c = foundReplay file log (c .base) (c .state) (c .found)
 
-unfoldable pub fileReplay : List ℕ → List ℕ → FileResult
-fileReplay file log = caseReplay file log (caseOf file)
+-- on a board
+unfoldable pub fileReplayOn : Board → List ℕ → List ℕ → FileResult
+fileReplayOn board file log = caseReplay file log (caseOn board file)
+
+-- and where none is given
+abbrev pub fileReplay : List ℕ → List ℕ → FileResult
+fileReplay file log = fileReplayOn defaultBoard file log

@@ -1,4 +1,5 @@
--- A file is refused exactly by the rows of 01, the first that applies, at the lowest place where it does. Assumes nothing.
+-- A file is refused exactly by the rows of 01, the first that applies, at the lowest place where it does: on every board, so on the default one. Assumes
+-- nothing.
 use mathlib.Core.Path.{_≡_, refl, sym, ap, ap₂, _∙_, subst}
 use mathlib.Core.Logic.{_↔_}
 use mathlib.Core.Bool.{true, false}
@@ -9,8 +10,12 @@ use lib.Dec.{ltb, leb, eqb}
 use lib.ListN.{length, drop, length-drop}
 use lib.Seq.{take-all}
 use borrow.Author.Tests.{ltb-true, ltb-false, leb-true, eqb-true, eqb-false, eq-eqb, le-ltb, le-leb}
-use Rattle.word.specs.Memory.{part}
+use Rattle.word.specs.Memory.{part, fieldAt}
 use Rattle.word.proofs.TestLaws.{bool-cases, contrary, never, and-both}
+use Rattle.settings.specs.Settings.{granuleOf}
+use Rattle.settings.specs.Boards.{defaultBoard}
+use Rattle.settings.specs.declared.Board.{Board}
+use Rattle.settings.specs.declared.Settings.{Settings}
 use Rattle.machine.proofs.StateLaws.{top-exact}
 use Rattle.events.specs.Events.{checkedOf}
 use Rattle.events.specs.Rules.{WrongEvents}
@@ -18,12 +23,13 @@ use Rattle.events.specs.declared.Checked.{Checked}
 use Rattle.events.specs.declared.Checked.the-variants.{Good, Bad}
 use Rattle.events.proofs.RuleLaws as E
 use Rattle.events.proofs.RowLaws as R
-use Rattle.casefile.specs.Table.{fieldAt, entryOf, tableOf}
+use Rattle.casefile.specs.Table.{entryOf, tableOf}
 use Rattle.casefile.specs.Harts.{baseOf, countOf, hartsOk, HartsRules, settingsOf}
-use Rattle.casefile.specs.Case.{refusedCase, lengthOk, memoryBodyOk, bodiesOf, partsOf, caseOf}
+use Rattle.casefile.specs.Case.{refusedCase, lengthOk, memoryBodyOk, bodiesOf, partsOf, caseOn, caseOf}
 use Rattle.casefile.specs.Rules.{FileRules, WrongField, entries, kind1, offset1, kind2, offset2, kind3, offset3, end3}
-use Rattle.casefile.specs.Rules.{hartsIn, memoryIn, eventsIn, LengthRules, MemoryBodyRules, FileRow, badLength, badTable, badHarts, badMemoryLength, badEvents}
-use Rattle.casefile.specs.Rules.{RefusedBy, UnrefusedFile, caseIn}
+use Rattle.casefile.specs.Rules.{hartsIn, memoryIn, eventsIn, LengthRules, MemoryBodyRules}
+use Rattle.casefile.specs.Rules.{FileRow, badLength, badTable, badHarts, badMemoryLength, badEvents}
+use Rattle.casefile.specs.Rules.{RefusedOn, UnrefusedOn, RefusedBy, UnrefusedFile, caseIn}
 use Rattle.casefile.specs.declared.Found.{Found}
 use Rattle.casefile.specs.declared.Found.the-variants.{Refused, Bodies}
 use Rattle.casefile.specs.declared.Case.{Case}
@@ -38,23 +44,24 @@ eq-cases a b f g = bool-cases (eqb a b) (λ t. f (eqb-true a b t) t) (λ t. g (e
 from-place : {A : Type 0} (p q k : ℕ) → q ≡ k → (A → ⊥) → (k < p → A) → p ≤ q
 from-place p q k e w a = bool-cases (ltb k p) (λ t. absurd (w (a (ltb-true k p t)))) (λ t. omega (arith, ltb-false k p t))
 
-pub length-exact : (n : ℕ) → (lengthOk n ≡ true) ↔ LengthRules n
-unfolding lengthOk
-length-exact n = (
-  λ e.
-      let a = and-both (leb 64 n) _ e in
-      let b = and-both (leb n 1048576) _ (a .1) in
-      (leb-true _ _ (a .0), leb-true _ _ (b .0), eqb-true _ _ (b .1)),
-  λ r. rw (le-leb 64 n (r .0), le-leb n 1048576 (r .1), eq-eqb (n % 64) 0 (r .2)),
-)
+module _ (settings : Settings) where
+  pub length-exact : (n : ℕ) → (lengthOk settings n ≡ true) ↔ LengthRules settings n
+  unfolding lengthOk
+  length-exact n = (
+    λ e.
+        let a = and-both (leb 64 n) _ e in
+        let b = and-both (leb n 1048576) _ (a .1) in
+        (leb-true _ _ (a .0), leb-true _ _ (b .0), eqb-true _ _ (b .1)),
+    λ r. rw (le-leb 64 n (r .0), le-leb n 1048576 (r .1), eq-eqb (n % granuleOf settings) 0 (r .2)),
+  )
 
-pub memory-body-exact : (harts : List ℕ) (n : ℕ) → (memoryBodyOk harts n ≡ true) ↔ MemoryBodyRules harts n
+pub memory-body-exact : (board : Board) (harts : List ℕ) (n : ℕ) → (memoryBodyOk board harts n ≡ true) ↔ MemoryBodyRules board harts n
 unfolding memoryBodyOk
-memory-body-exact harts n = (
+memory-body-exact board harts n = (
   λ e.
-      let a = and-both (lengthOk n) _ e in
-      (length-exact n .0 (a .0), top-exact (settingsOf harts) (baseOf harts) n .0 (a .1)),
-  λ r. rw (length-exact n .1 (r .0), top-exact (settingsOf harts) (baseOf harts) n .1 (r .1)),
+      let a = and-both (lengthOk (settingsOf board harts) n) _ e in
+      (length-exact (settingsOf board harts) n .0 (a .0), top-exact (settingsOf board harts) (baseOf harts) n .0 (a .1)),
+  λ r. rw (length-exact (settingsOf board harts) n .1 (r .0), top-exact (settingsOf board harts) (baseOf harts) n .1 (r .1)),
 )
 
 -- ---- 7 and 8: the table
@@ -183,18 +190,18 @@ module _ (file : List ℕ) where
 
 -- ---- the rows decide
 
-module _ (file : List ℕ) where
-  none-below : (n : ℕ) → (7 < n → FileRules (length file)) → (8 < n → (q : ℕ) → WrongField file q → ⊥) → (9 < n → HartsRules (hartsIn file))
-      → (10 < n → MemoryBodyRules (hartsIn file) (length (memoryIn file)))
+module _ (board : Board) (file : List ℕ) where
+  none-below : (n : ℕ) → (7 < n → FileRules (length file)) → (8 < n → (q : ℕ) → WrongField file q → ⊥) → (9 < n → HartsRules board (hartsIn file))
+      → (10 < n → MemoryBodyRules board (hartsIn file) (length (memoryIn file)))
       → (11 < n → (q : ℕ) → WrongEvents (countOf (hartsIn file)) (baseOf (hartsIn file)) (length (memoryIn file)) (eventsIn file) q → ⊥)
-      → (k q : ℕ) → k < n → FileRow file k q → ⊥
+      → (k q : ℕ) → k < n → FileRow board file k q → ⊥
   none-below n a b c d e k q l (badLength z w r) = r (a (omega arith))
   none-below n a b c d e k q l (badTable z w) = b (omega arith) q w
   none-below n a b c d e k q l (badHarts z w r) = r (c (omega arith))
   none-below n a b c d e k q l (badMemoryLength z w r) = r (d (omega arith))
   none-below n a b c d e k q l (badEvents z p w r) = e (omega arith) p r
 
-  pub numbered : (k q : ℕ) → FileRow file k q → (7 ≤ k) × (k ≤ 11)
+  pub numbered : (k q : ℕ) → FileRow board file k q → (7 ≤ k) × (k ≤ 11)
   numbered k q (badLength z w r) = (omega arith, omega arith)
   numbered k q (badTable z w) = (omega arith, omega arith)
   numbered k q (badHarts z w r) = (omega arith, omega arith)
@@ -203,7 +210,7 @@ module _ (file : List ℕ) where
 
   -- where a row applies, by its number
   abbrev NotBelow : ℕ → ℕ → Type 0
-  NotBelow n p = (q : ℕ) → FileRow file n q → p ≤ q
+  NotBelow n p = (q : ℕ) → FileRow board file n q → p ≤ q
 
   table-from : (p : ℕ) → ((q : ℕ) → WrongField file q → p ≤ q) → NotBelow 8 p
   table-from p f q (badLength z w r) = absurd (omega arith)
@@ -235,18 +242,18 @@ module _ (file : List ℕ) where
   events-from p f q (badMemoryLength z w r) = absurd (omega arith)
   events-from p f q (badEvents z i w r) = let l : p ≤ i = E.not-lower i p (λ k. f i k r) in omega (arith, l, w)
 
-  not-below : (n p : ℕ) → NotBelow n p → (q : ℕ) → q < p → FileRow file n q → ⊥
+  not-below : (n p : ℕ) → NotBelow n p → (q : ℕ) → q < p → FileRow board file n q → ⊥
   not-below n p f q l r = omega (arith, f q r, l)
 
   -- refused by the first row that applies, at the lowest place, or read
   abbrev Decided : Type 0
-  Decided = R.Decided (FileRow file) (caseOf file) refusedCase (caseIn file)
+  Decided = R.Decided (FileRow board file) (caseOn board file) refusedCase (caseIn board file)
 
   module _ (sized : FileRules (length file)) where
     refused-8 : (p : ℕ) → tableOf file ≡ Refused 8 p → WrongField file p → ((q : ℕ) → WrongField file q → p ≤ q) → Decided
-    unfolding caseOf
+    unfolding caseOn
     refused-8 p t w f =
-        R.refuses 8 p (ap (partsOf file) t)
+        R.refuses 8 p (ap (partsOf board file) t)
         (record {
           applies = badTable refl w;
           first = none-below 8 (λ l. sized) (never refl) (never refl) (never refl) (never refl);
@@ -269,35 +276,42 @@ module _ (file : List ℕ) where
       unfolding part
       events-same = sym (take-all (fieldAt file 36) (drop (fieldAt file 32) file) (rw length-drop (omega (arith, r .last))))
 
-      case-bodies : caseOf file ≡ bodiesOf (fieldAt file 20) (fieldAt file 32) (hartsIn file) (memoryIn file) (eventsIn file)
-      unfolding caseOf
-      case-bodies = ap (partsOf file) t ∙ rw (harts-same, memory-same, events-same)
+      case-bodies : caseOn board file ≡ bodiesOf board (fieldAt file 20) (fieldAt file 32) (hartsIn file) (memoryIn file) (eventsIn file)
+      unfolding caseOn
+      case-bodies = ap (partsOf board file) t ∙ rw (harts-same, memory-same, events-same)
+
+      -- what the tests of both bodies say
+      kept : hartsOk board (hartsIn file) ≡ true → HartsRules board (hartsIn file)
+      kept = harts-exact board (hartsIn file) .0
+
+      lent : memoryBodyOk board (hartsIn file) (length (memoryIn file)) ≡ true → MemoryBodyRules board (hartsIn file) (length (memoryIn file))
+      lent = memory-body-exact board (hartsIn file) (length (memoryIn file)) .0
 
       abbrev checked : Checked
       checked = checkedOf (countOf (hartsIn file)) (baseOf (hartsIn file)) (length (memoryIn file)) (eventsIn file)
 
-      refused-9 : hartsOk (hartsIn file) ≡ false → Decided
+      refused-9 : hartsOk board (hartsIn file) ≡ false → Decided
       unfolding bodiesOf
       refused-9 h =
           let e : refusedCase 9 40 ≡ refusedCase 9 (fieldAt file 8) = ap (refusedCase 9) (sym (r .start)) in
           R.refuses 9 (fieldAt file 8) (case-bodies ∙ rw h e)
           (record {
-            applies = badHarts refl refl (λ ok. contrary (harts-exact (hartsIn file) .1 ok) h);
+            applies = badHarts refl refl (λ ok. contrary (harts-exact board (hartsIn file) .1 ok) h);
             first = none-below 9 (λ l. sized) (λ l. r .none) (never refl) (never refl) (never refl);
             lowest = not-below 9 (fieldAt file 8) harts-from;
           })
 
-      refused-10 : hartsOk (hartsIn file) ≡ true → memoryBodyOk (hartsIn file) (length (memoryIn file)) ≡ false → Decided
+      refused-10 : hartsOk board (hartsIn file) ≡ true → memoryBodyOk board (hartsIn file) (length (memoryIn file)) ≡ false → Decided
       unfolding bodiesOf
       refused-10 h l =
           R.refuses 10 (fieldAt file 20) (case-bodies ∙ rw (h, l))
           (record {
-            applies = badMemoryLength refl refl (λ ok. contrary (memory-body-exact (hartsIn file) (length (memoryIn file)) .1 ok) l);
-            first = none-below 10 (λ l. sized) (λ l. r .none) (λ l. harts-exact (hartsIn file) .0 h) (never refl) (never refl);
+            applies = badMemoryLength refl refl (λ ok. contrary (memory-body-exact board (hartsIn file) (length (memoryIn file)) .1 ok) l);
+            first = none-below 10 (λ l. sized) (λ l. r .none) (λ l. kept h) (never refl) (never refl);
             lowest = not-below 10 (fieldAt file 20) memory-from;
           })
 
-      by-events : hartsOk (hartsIn file) ≡ true → memoryBodyOk (hartsIn file) (length (memoryIn file)) ≡ true
+      by-events : hartsOk board (hartsIn file) ≡ true → memoryBodyOk board (hartsIn file) (length (memoryIn file)) ≡ true
           → (c : Checked) → checked ≡ c → Decided
       unfolding bodiesOf
       by-events h l (Bad p) e =
@@ -305,31 +319,28 @@ module _ (file : List ℕ) where
           R.refuses 11 (fieldAt file 32 + p) (case-bodies ∙ rw (h, l, e) refl)
           (record {
             applies = badEvents refl p refl (w .wrong);
-            first =
-                none-below 11 (λ z. sized) (λ z. r .none) (λ z. harts-exact (hartsIn file) .0 h) (λ z. memory-body-exact (hartsIn file) (length (memoryIn file)) .0 l)
-                (never refl);
+            first = none-below 11 (λ z. sized) (λ z. r .none) (λ z. kept h) (λ z. lent l) (never refl);
             lowest = not-below 11 (fieldAt file 32 + p) (events-from p (w .lowest));
           })
       by-events h l Good e =
           let f = E.good-exact (countOf (hartsIn file)) (baseOf (hartsIn file)) (length (memoryIn file)) (eventsIn file) .0 e in
           R.accepts (case-bodies ∙ rw (h, l, e))
           (λ k q row.
-          none-below 12 (λ z. sized) (λ z. r .none) (λ z. harts-exact (hartsIn file) .0 h) (λ z. memory-body-exact (hartsIn file) (length (memoryIn file)) .0 l) (λ z. f) k q
-          (omega (arith, numbered k q row .1)) row)
+          none-below 12 (λ z. sized) (λ z. r .none) (λ z. kept h) (λ z. lent l) (λ z. f) k q (omega (arith, numbered k q row .1)) row)
 
       by-bodies : Decided
       by-bodies =
-          bool-cases (hartsOk (hartsIn file))
+          bool-cases (hartsOk board (hartsIn file))
           (λ h.
-          bool-cases (memoryBodyOk (hartsIn file) (length (memoryIn file)))
+          bool-cases (memoryBodyOk board (hartsIn file) (length (memoryIn file)))
           (λ l. by-events h l checked refl)
           (λ l. refused-10 h l))
           refused-9
 
   by-table : Listed file → Decided
-  unfolding caseOf
+  unfolding caseOn
   by-table (unsized t w) =
-      R.refuses 7 0 (ap (partsOf file) t)
+      R.refuses 7 0 (ap (partsOf board file) t)
       (record {
         applies = badLength refl refl w;
         first = none-below 7 (never refl) (never refl) (never refl) (never refl) (never refl);
@@ -360,41 +371,62 @@ abbrev lastIn : Found → ℕ
 lastIn (Refused number place) = place
 lastIn (Bodies m e) = e
 
-module _ (file : List ℕ) where
-  pub refused-one : (m p n q : ℕ) → RefusedBy file m p → RefusedBy file n q → (m ≡ n) × (p ≡ q)
-  refused-one = R.one-row (FileRow file)
+module _ (board : Board) (file : List ℕ) where
+  pub refused-one-on : (m p n q : ℕ) → RefusedOn board file m p → RefusedOn board file n q → (m ≡ n) × (p ≡ q)
+  refused-one-on = R.one-row (FileRow board file)
 
   -- base and state are zero of a refused file, and else what the harts body says
-  pub refused-case : (number place : ℕ) → RefusedBy file number place → caseOf file ≡ refusedCase number place
-  refused-case = R.refused-by (FileRow file) (caseOf file) refusedCase (caseIn file) (decided file)
+  pub refused-case-on : (number place : ℕ) → RefusedOn board file number place → caseOn board file ≡ refusedCase number place
+  refused-case-on = R.refused-by (FileRow board file) (caseOn board file) refusedCase (caseIn board file) (decided board file)
 
-  pub accepted-case : UnrefusedFile file → caseOf file ≡ caseIn file
-  accepted-case = R.accepted-by (FileRow file) (caseOf file) refusedCase (caseIn file) (decided file)
+  pub accepted-case-on : UnrefusedOn board file → caseOn board file ≡ caseIn board file
+  accepted-case-on = R.accepted-by (FileRow board file) (caseOn board file) refusedCase (caseIn board file) (decided board file)
 
-  row-of : refusals (caseOf file .found) ≡ 1 → RefusedBy file (numberIn (caseOf file .found)) (firstIn (caseOf file .found))
+  row-of : refusals (caseOn board file .found) ≡ 1 → RefusedOn board file (numberIn (caseOn board file .found)) (firstIn (caseOn board file .found))
   row-of =
-      R.row-of (FileRow file) (caseOf file) refusedCase (caseIn file) (λ (c : Case). refusals (c .found)) (λ (c : Case). numberIn (c .found))
-      (λ (c : Case). firstIn (c .found)) (λ n p. refl) refl (λ n p. refl) (λ n p. refl) (decided file)
+      R.row-of (FileRow board file) (caseOn board file) refusedCase (caseIn board file) (λ (c : Case). refusals (c .found))
+      (λ (c : Case). numberIn (c .found)) (λ (c : Case). firstIn (c .found)) (λ n p. refl) refl (λ n p. refl) (λ n p. refl) (decided board file)
 
-  no-row-of : refusals (caseOf file .found) ≡ 0 → UnrefusedFile file
+  no-row-of : refusals (caseOn board file .found) ≡ 0 → UnrefusedOn board file
   no-row-of =
-      R.no-row-of (FileRow file) (caseOf file) refusedCase (caseIn file) (λ (c : Case). refusals (c .found)) (λ (c : Case). numberIn (c .found))
-      (λ (c : Case). firstIn (c .found)) (λ n p. refl) refl (λ n p. refl) (λ n p. refl) (decided file)
+      R.no-row-of (FileRow board file) (caseOn board file) refusedCase (caseIn board file) (λ (c : Case). refusals (c .found))
+      (λ (c : Case). numberIn (c .found)) (λ (c : Case). firstIn (c .found)) (λ n p. refl) refl (λ n p. refl) (λ n p. refl) (decided board file)
 
   -- 01: a file is refused by this number at this place exactly if its row is the first that applies, and this the lowest place where it does
-  pub refused-exact : (number place : ℕ) → (caseOf file .found ≡ Refused number place) ↔ RefusedBy file number place
-  refused-exact n p = (
-    λ o. subst (RefusedBy file n) (ap firstIn o) (subst (λ (k : ℕ). RefusedBy file k (firstIn (caseOf file .found))) (ap numberIn o) (row-of (ap refusals o))),
-    λ r. ap (λ (c : Case). c .found) (refused-case n p r),
+  pub refused-exact-on : (number place : ℕ) → (caseOn board file .found ≡ Refused number place) ↔ RefusedOn board file number place
+  refused-exact-on n p = (
+    λ o.
+        let row = row-of (ap refusals o) in
+        subst (RefusedOn board file n) (ap firstIn o) (subst (λ (k : ℕ). RefusedOn board file k (firstIn (caseOn board file .found))) (ap numberIn o) row),
+    λ r. ap (λ (c : Case). c .found) (refused-case-on n p r),
   )
 
-  read : (m e : ℕ) → caseOf file .found ≡ Bodies m e → (m ≡ fieldAt file 20) × (e ≡ fieldAt file 32) × UnrefusedFile file
+  read : (m e : ℕ) → caseOn board file .found ≡ Bodies m e → (m ≡ fieldAt file 20) × (e ≡ fieldAt file 32) × UnrefusedOn board file
   read m e o =
       let u = no-row-of (ap refusals o) in
-      let f : Bodies (fieldAt file 20) (fieldAt file 32) ≡ Bodies m e = ap (λ (c : Case). c .found) (sym (accepted-case u)) ∙ o in
+      let f : Bodies (fieldAt file 20) (fieldAt file 32) ≡ Bodies m e = ap (λ (c : Case). c .found) (sym (accepted-case-on u)) ∙ o in
       (sym (ap firstIn f), sym (ap lastIn f), u)
 
   -- and is a case, with its bodies at these places, exactly if no row applies and the table says so
+  pub accepted-exact-on : (memory events : ℕ)
+      → (caseOn board file .found ≡ Bodies memory events) ↔ ((memory ≡ fieldAt file 20) × (events ≡ fieldAt file 32) × UnrefusedOn board file)
+  accepted-exact-on m e = (read m e, λ (a, b, u). ap (λ (c : Case). c .found) (accepted-case-on u) ∙ ap₂ Bodies (sym a) (sym b))
+
+-- ---- and where no board is given
+
+module _ (file : List ℕ) where
+  pub refused-one : (m p n q : ℕ) → RefusedBy file m p → RefusedBy file n q → (m ≡ n) × (p ≡ q)
+  refused-one = refused-one-on defaultBoard file
+
+  pub refused-case : (number place : ℕ) → RefusedBy file number place → caseOf file ≡ refusedCase number place
+  refused-case = refused-case-on defaultBoard file
+
+  pub accepted-case : UnrefusedFile file → caseOf file ≡ caseIn defaultBoard file
+  accepted-case = accepted-case-on defaultBoard file
+
+  pub refused-exact : (number place : ℕ) → (caseOf file .found ≡ Refused number place) ↔ RefusedBy file number place
+  refused-exact = refused-exact-on defaultBoard file
+
   pub accepted-exact : (memory events : ℕ)
       → (caseOf file .found ≡ Bodies memory events) ↔ ((memory ≡ fieldAt file 20) × (events ≡ fieldAt file 32) × UnrefusedFile file)
-  accepted-exact m e = (read m e, λ (a, b, u). ap (λ (c : Case). c .found) (accepted-case u) ∙ ap₂ Bodies (sym a) (sym b))
+  accepted-exact = accepted-exact-on defaultBoard file

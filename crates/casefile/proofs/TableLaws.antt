@@ -6,9 +6,10 @@ use native.Mathlib.Omega.{arith}
 use lib.Dec.{ltb, eqb}
 use borrow.Author.Tests.{ltb-false, eqb-true}
 use lib.ListN.{length}
+use Rattle.word.specs.Memory.{fieldAt}
 use Rattle.word.proofs.TestLaws.{bool-cases}
 use Rattle.word.proofs.ChooseLaws.{cond-all}
-use Rattle.casefile.specs.Table.{fieldAt, entryOf, andThen, tableOf, InsideFile}
+use Rattle.casefile.specs.Table.{entryOf, andThen, tableOf, InsideFile}
 use Rattle.casefile.specs.declared.Entry.{Entry}
 use Rattle.casefile.specs.declared.Entry.the-variants.{Wrong, Ends}
 use Rattle.casefile.specs.declared.Found.{Found}

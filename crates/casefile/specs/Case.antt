@@ -7,6 +7,10 @@ use mathlib.Core.List.{List}
 use lib.Dec.{leb, eqb}
 use lib.ListN.{length, drop}
 use Rattle.word.specs.Memory.{part}
+use Rattle.settings.specs.Settings.{granuleOf}
+use Rattle.settings.specs.Boards.{defaultBoard}
+use Rattle.settings.specs.declared.Board.{Board}
+use Rattle.settings.specs.declared.Settings.{Settings}
 use Rattle.machine.specs.State.{topOk, refusalOf}
 use Rattle.machine.specs.declared.State.{State}
 use Rattle.events.specs.Events.{checkedOf}
@@ -22,36 +26,41 @@ use Rattle.casefile.specs.declared.Case.{Case}
 abbrev pub refusedCase : ℕ → ℕ → Case
 refusedCase number place = record { found = Refused number place; base = 0; state = noState }
 
--- "10: memory body length": "64 to 1,048,576 bytes, a multiple of 64": a read case has the default set size, 64
-unfoldable pub lengthOk : ℕ → Bool
-lengthOk n = leb 64 n && (leb n 1048576 && eqb (n % 64) 0)
+-- "10: memory body length": "64 to 1,048,576 bytes"; 02 [5]: "multiples of the larger of 64 and the size"
+unfoldable pub lengthOk : Settings → ℕ → Bool
+lengthOk settings n = leb 64 n && (leb n 1048576 && eqb (n % granuleOf settings) 0)
 
 -- what the check of the events gives, where the bodies start at 40, m and e. The place of 11 is counted in the file
-abbrev pub checkedCase : ℕ → ℕ → List ℕ → Checked → Case
-checkedCase m e harts (Bad place) = refusedCase 11 (e + place)
-checkedCase m e harts Good = record { found = Bodies m e; base = baseOf harts; state = stateOf (countOf harts) harts }
+abbrev pub checkedCase : Board → ℕ → ℕ → List ℕ → Checked → Case
+checkedCase board m e harts (Bad place) = refusedCase 11 (e + place)
+checkedCase board m e harts Good = record { found = Bodies m e; base = baseOf harts; state = stateOf board (countOf harts) harts }
 
 -- 02 [10]: "Base plus length is at most 2^32 for this kind, .. 10 in a case file", of a harts body that 9 doesn't refuse and n bytes of memory
-unfoldable pub memoryBodyOk : List ℕ → ℕ → Bool
-memoryBodyOk harts n = lengthOk n && topOk (settingsOf harts) (baseOf harts) n
+unfoldable pub memoryBodyOk : Board → List ℕ → ℕ → Bool
+memoryBodyOk board harts n = lengthOk (settingsOf board harts) n && topOk (settingsOf board harts) (baseOf harts) n
 
 -- the three bodies, which start at 40, m and e: "9: harts body, base included (place of its start). 10: memory body length (its start). 11:
 -- events body"
-unfoldable pub bodiesOf : ℕ → ℕ → List ℕ → List ℕ → List ℕ → Case
-bodiesOf m e harts memory events =
-    cond (hartsOk harts)
-    (cond (memoryBodyOk harts (length memory))
-    (checkedCase m e harts (checkedOf (countOf harts) (baseOf harts) (length memory) events))
+unfoldable pub bodiesOf : Board → ℕ → ℕ → List ℕ → List ℕ → List ℕ → Case
+bodiesOf board m e harts memory events =
+    cond (hartsOk board harts)
+    (cond (memoryBodyOk board harts (length memory))
+    (checkedCase board m e harts (checkedOf (countOf harts) (baseOf harts) (length memory) events))
     (refusedCase 10 m))
     (refusedCase 9 40)
 
 -- "Each body is read as a part of the file that starts at its entry's offset."
-abbrev pub partsOf : List ℕ → Found → Case
-partsOf file (Refused number place) = refusedCase number place
-partsOf file (Bodies m e) = bodiesOf m e (part file 40 (m - 40)) (part file m (e - m)) (drop e file)
+abbrev pub partsOf : Board → List ℕ → Found → Case
+partsOf board file (Refused number place) = refusedCase number place
+partsOf board file (Bodies m e) = bodiesOf board m e (part file 40 (m - 40)) (part file m (e - m)) (drop e file)
 
-unfoldable pub caseOf : List ℕ → Case
-caseOf file = partsOf file (tableOf file)
+-- the case that a file is on a board
+unfoldable pub caseOn : Board → List ℕ → Case
+caseOn board file = partsOf board file (tableOf file)
+
+-- and where none is given: it has the default settings but for its kind
+abbrev pub caseOf : List ℕ → Case
+caseOf file = caseOn defaultBoard file
 
 -- what holds of the case read from a file. A refusal is one of 7 to 11, its place at most the file's length. A case has its bodies in the file, one after
 -- another from 40 on; 1, 2 and 11 don't refuse a run of it, and its events are whole

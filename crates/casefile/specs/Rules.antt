@@ -1,13 +1,17 @@
--- Refusals 7 to 11 (01, "The case file"), row by row and without tests: when a file is refused, by which number, and at which place.
+-- Refusals 7 to 11 (01, "The case file"), row by row and without tests: when a file is refused, by which number, and at which place. 9 and 10 ask for
+-- multiples by the set size of the board that the case is to run on.
 -- RULES 7.5.
 use mathlib.Core.Path.{_≡_}
 use Prim.Native.Nat.{ℕ, _+_, _%_, _≤_}
 use mathlib.Core.List.{List}
 use lib.ListN.{length}
-use Rattle.word.specs.Memory.{part}
+use Rattle.word.specs.Memory.{part, fieldAt}
+use Rattle.settings.specs.Settings.{granuleOf}
+use Rattle.settings.specs.Boards.{defaultBoard}
+use Rattle.settings.specs.declared.Board.{Board}
+use Rattle.settings.specs.declared.Settings.{Settings}
 use Rattle.events.specs.Rows.{FirstRow, NoRow}
 use Rattle.events.specs.Rules.{WrongEvents}
-use Rattle.casefile.specs.Table.{fieldAt}
 use Rattle.casefile.specs.Harts.{baseOf, countOf, HartsRules, stateOf, settingsOf}
 use Rattle.machine.specs.Rules.{TopRules}
 use Rattle.casefile.specs.declared.Found.the-variants.{Bodies}
@@ -40,38 +44,46 @@ memoryIn file = part file (fieldAt file 20) (fieldAt file 24)
 abbrev pub eventsIn : List ℕ → List ℕ
 eventsIn file = part file (fieldAt file 32) (fieldAt file 36)
 
--- "10: memory body length": "64 to 1,048,576 bytes, a multiple of 64": a read case has the default set size, 64
-abbrev pub LengthRules : ℕ → Type 0
-LengthRules n = (64 ≤ n) × (n ≤ 1048576) × (n % 64 ≡ 0)
+-- "10: memory body length": "64 to 1,048,576 bytes"; 02 [5]: "multiples of the larger of 64 and the size"
+abbrev pub LengthRules : Settings → ℕ → Type 0
+LengthRules settings n = (64 ≤ n) × (n ≤ 1048576) × (n % granuleOf settings ≡ 0)
 
 -- 02 [10]: "Base plus length is at most 2^32 for this kind, refusal 1 in the library and 10 in a case file". The kind is that of the harts body, one that 9
 -- doesn't refuse: 9 is tried before.
-abbrev pub MemoryBodyRules : List ℕ → ℕ → Type 0
-MemoryBodyRules harts n = LengthRules n × TopRules (settingsOf harts) (baseOf harts) n
+abbrev pub MemoryBodyRules : Board → List ℕ → ℕ → Type 0
+MemoryBodyRules board harts n = LengthRules (settingsOf board harts) n × TopRules (settingsOf board harts) (baseOf harts) n
 
 -- The row of this number applies, at this place. "9: harts body, base included (place of its start). 10: memory body length (its start). 11: events
 -- body not a multiple of 24 (its start), or the first bad event": p is counted from the events body's first byte.
-pub data FileRow (file : List ℕ) (number place : ℕ) : Type 0 where
-  badLength : number ≡ 7 → place ≡ 0 → (FileRules (length file) → ⊥) → FileRow file number place
-  badTable : number ≡ 8 → WrongField file place → FileRow file number place
-  badHarts : number ≡ 9 → place ≡ fieldAt file 8 → (HartsRules (hartsIn file) → ⊥) → FileRow file number place
-  badMemoryLength : number ≡ 10 → place ≡ fieldAt file 20 → (MemoryBodyRules (hartsIn file) (length (memoryIn file)) → ⊥) → FileRow file number place
+pub data FileRow (board : Board) (file : List ℕ) (number place : ℕ) : Type 0 where
+  badLength : number ≡ 7 → place ≡ 0 → (FileRules (length file) → ⊥) → FileRow board file number place
+  badTable : number ≡ 8 → WrongField file place → FileRow board file number place
+  badHarts : number ≡ 9 → place ≡ fieldAt file 8 → (HartsRules board (hartsIn file) → ⊥) → FileRow board file number place
+  badMemoryLength : number ≡ 10 → place ≡ fieldAt file 20 → (MemoryBodyRules board (hartsIn file) (length (memoryIn file)) → ⊥)
+      → FileRow board file number place
   badEvents : number ≡ 11 → (p : ℕ) → place ≡ fieldAt file 32 + p
-      → WrongEvents (countOf (hartsIn file)) (baseOf (hartsIn file)) (length (memoryIn file)) (eventsIn file) p → FileRow file number place
+      → WrongEvents (countOf (hartsIn file)) (baseOf (hartsIn file)) (length (memoryIn file)) (eventsIn file) p → FileRow board file number place
 
 -- "Tried in this order.": the first row that applies, at the lowest place where it does
-abbrev pub RefusedBy : List ℕ → ℕ → ℕ → Type 0
-RefusedBy file = FirstRow (FileRow file)
+abbrev pub RefusedOn : Board → List ℕ → ℕ → ℕ → Type 0
+RefusedOn board file = FirstRow (FileRow board file)
 
 -- no row applies
+abbrev pub UnrefusedOn : Board → List ℕ → Type 0
+UnrefusedOn board file = NoRow (FileRow board file)
+
+-- and where no board is given
+abbrev pub RefusedBy : List ℕ → ℕ → ℕ → Type 0
+RefusedBy file = RefusedOn defaultBoard file
+
 abbrev pub UnrefusedFile : List ℕ → Type 0
-UnrefusedFile file = NoRow (FileRow file)
+UnrefusedFile file = UnrefusedOn defaultBoard file
 
 -- the case that a file is where no row applies
-abbrev pub caseIn : List ℕ → Case
-caseIn file =
+abbrev pub caseIn : Board → List ℕ → Case
+caseIn board file =
     record {
       found = Bodies (fieldAt file 20) (fieldAt file 32);
       base = baseOf (hartsIn file);
-      state = stateOf (countOf (hartsIn file)) (hartsIn file);
+      state = stateOf board (countOf (hartsIn file)) (hartsIn file);
     }

@@ -5,16 +5,11 @@ use mathlib.Core.Bool.{cond, _||_}
 use mathlib.Core.List.{List}
 use lib.Dec.{ltb, eqb}
 use lib.ListN.{length}
-use Rattle.word.specs.Bytes.{le}
-use Rattle.word.specs.Memory.{part}
+use Rattle.word.specs.Memory.{fieldAt}
 use Rattle.casefile.specs.declared.Entry.{Entry}
 use Rattle.casefile.specs.declared.Entry.the-variants.{Wrong, Ends}
 use Rattle.casefile.specs.declared.Found.{Found}
 use Rattle.casefile.specs.declared.Found.the-variants.{Refused, Bodies}
-
--- the 4-byte field at a place
-abbrev pub fieldAt : List ℕ → ℕ → ℕ
-fieldAt file place = le (part file place 4)
 
 -- "entries of kind, offset, length (4 bytes each)": the entry at a place, where this kind and this offset are due. "8: table wrong (place of the
 -- first wrong 4-byte field ..; the first two lengths are never wrong in themselves, the next offset is if it isn't offset plus length)"; offset

@@ -3,7 +3,10 @@ use events::Checked;
 use machine::State;
 use reserve::Reservation;
 use reserve::Slot;
+use settings::Board;
 use settings::Settings;
+use settings::remainder;
+use word::bytes::field;
 use word::bytes::load_at;
 ghost use mathlib.Core.Path.{_≡_};
 ghost use Prim.Native.Nat.{_+_, _*_, _-_, _/_, _%_, _^_, _≤_, _<_};
@@ -12,9 +15,10 @@ ghost use lib.Dec.{eqb, ltb};
 ghost use lib.ListN.{length, drop, replicate};
 ghost use Rattle.word.specs.Each.{each, allBelow};
 ghost use Rattle.word.specs.Memory.{part};
-ghost use Rattle.casefile.specs.Table.{fieldAt, entryOf, tableOf, EndsWithin};
+ghost use Rattle.casefile.specs.Table.{entryOf, tableOf, EndsWithin};
 ghost use Rattle.casefile.specs.Harts.{numberOf, registerOf, pcOf, hartsOk, HartsRules, settingsOf, stateOf, noState};
-ghost use Rattle.casefile.specs.Case.{refusedCase, memoryBodyOk, bodiesOf, caseOf, SoundCase};
+ghost use Rattle.casefile.specs.Case.{refusedCase, memoryBodyOk, bodiesOf, caseOn, caseOf, SoundCase};
+ghost use Rattle.settings.specs.Boards.{BoardRules};
 
 // What a file is found to be: refused, at a place counted from its first byte, or a case, whose memory and events start at these places.
 pub enum Found {
@@ -33,15 +37,6 @@ pub struct Case {
 enum Entry {
     Wrong(usize),
     Ends(usize),
-}
-
-// The 4-byte field at a place.
-fn field(file: &[u8], place: usize) -> usize
-    requires { ⌜ place + 4 ≤ length (now file) ⌝ }
-    ensures { λ r. ⌜ r ≡ fieldAt (now (file .entry)) place ⌝ }
-    ensures { λ r. ⌜ r < 2 ^ 32 ⌝ }
-{
-    load_at(file, place, 4) as usize
 }
 
 // The entry at a place, which is to have this kind and this offset. The bound on the offset keeps the body's end from overflowing.
@@ -132,9 +127,18 @@ fn halves_ok(body: &[u8], count: usize, kind: usize) -> bool
     true
 }
 
+// What the case of a harts body is set to on a board.
+fn read_settings(board: Board, body: &[u8]) -> Settings
+    requires { ⌜ 16 ≤ length (now body) ⌝ }
+    ensures { λ s. ⌜ s ≡ settingsOf board (now (body .entry)) ⌝ }
+{
+    settings::on_board(board, field(body, 12) as u64)
+}
+
 // Whether refusal 9 does not name a harts body.
-fn harts_ok(body: &[u8]) -> bool
-    ensures { λ r. ⌜ r ≡ hartsOk (now (body .entry)) ⌝ }
+fn harts_ok(board: Board, body: &[u8]) -> bool
+    requires { ⌜ BoardRules board ⌝ }
+    ensures { λ r. ⌜ r ≡ hartsOk board (now (body .entry)) ⌝ }
 {
     if body.len() < 16 {
         return false;
@@ -145,10 +149,11 @@ fn harts_ok(body: &[u8]) -> bool
     }
     let base = load_at(body, 0, 8);
     let kind = field(body, 12);
+    let granule = settings::granule(read_settings(board, body));
     (1 <= count)
         & ((count <= 8)
             & (((kind == 0) | (kind == 1))
-                & ((base % 64 == 0)
+                & ((remainder(base, granule) == 0)
                     & ((base <= 1099511627776)
                         & (pcs_ok(body, count) & halves_ok(body, count, kind))))))
 }
@@ -192,18 +197,10 @@ fn pcs(body: &[u8], count: usize) -> [u64; 8]
     pc
 }
 
-// What the case of a harts body is set to.
-fn read_settings(body: &[u8]) -> Settings
-    requires { ⌜ 16 ≤ length (now body) ⌝ }
-    ensures { λ s. ⌜ s ≡ settingsOf (now (body .entry)) ⌝ }
-{
-    settings::of_kind(21, field(body, 12) as u64)
-}
-
-// The state that a harts body is.
-fn read_state(body: &[u8], count: usize) -> State
+// The state that a harts body is on a board.
+fn read_state(board: Board, body: &[u8], count: usize) -> State
     requires { ⌜ (count ≤ 8) × (length (now body) ≡ 16 + 256 * count) ⌝ }
-    ensures { λ s. ⌜ s ≡ stateOf count (now (body .entry)) ⌝ }
+    ensures { λ s. ⌜ s ≡ stateOf board count (now (body .entry)) ⌝ }
 {
     let x = registers(body, count);
     let pc = pcs(body, count);
@@ -212,7 +209,7 @@ fn read_state(body: &[u8], count: usize) -> State
     }; 8];
     State {
         count,
-        settings: read_settings(body),
+        settings: read_settings(board, body),
         x,
         pc,
         res,
@@ -220,13 +217,16 @@ fn read_state(body: &[u8], count: usize) -> State
 }
 
 // Whether refusal 10 does not name a memory body of so many bytes, beside a harts body that 9 does not name.
-fn memory_ok(harts: &[u8], len: usize) -> bool
-    requires { ⌜ HartsRules (now harts) ⌝ }
-    ensures { λ r. ⌜ r ≡ memoryBodyOk (now (harts .entry)) len ⌝ }
+fn memory_ok(board: Board, harts: &[u8], len: usize) -> bool
+    requires { ⌜ BoardRules board ⌝ }
+    requires { ⌜ HartsRules board (now harts) ⌝ }
+    ensures { λ r. ⌜ r ≡ memoryBodyOk board (now (harts .entry)) len ⌝ }
 {
-    if (64 <= len) & ((len <= 1048576) & (len % 64 == 0)) {
+    let settings = read_settings(board, harts);
+    let granule = settings::granule(settings);
+    if (64 <= len) & ((len <= 1048576) & (remainder(len as u64, granule) == 0)) {
         let base = load_at(harts, 0, 8);
-        return machine::top_ok(read_settings(harts), base, len);
+        return machine::top_ok(settings, base, len);
     }
     false
 }
@@ -255,19 +255,20 @@ fn refused(number: usize, place: usize) -> Case
 }
 
 // Refusals 9 to 11 of a file whose bodies start at 40, memory and events.
-fn read_bodies(file: &[u8], memory: usize, events: usize) -> Case
+fn read_bodies(board: Board, file: &[u8], memory: usize, events: usize) -> Case
+    requires { ⌜ BoardRules board ⌝ }
     requires { ⌜ (40 ≤ memory) × (memory ≤ events) ⌝ }
     requires { ⌜ (events ≤ length (now file)) × (length (now file) ≤ 65536) ⌝ }
     ensures { λ r. ⌜
-        r ≡ bodiesOf memory events
+        r ≡ bodiesOf board memory events
         (part (now (file .entry)) 40 (memory - 40)) (part (now (file .entry)) memory (events - memory)) (drop events (now (file .entry)))
         ⌝ }
 {
     let harts = &file[40..memory];
-    if !harts_ok(harts) {
+    if !harts_ok(board, harts) {
         return refused(9, 40);
     }
-    if !memory_ok(harts, events - memory) {
+    if !memory_ok(board, harts, events - memory) {
         return refused(10, memory);
     }
     let base = load_at(harts, 0, 8);
@@ -275,7 +276,7 @@ fn read_bodies(file: &[u8], memory: usize, events: usize) -> Case
     match events::check(&file[events..], count, base, events - memory) {
         Checked::Bad(place) => refused(11, events + place),
         Checked::Good => {
-            let state = read_state(harts, count);
+            let state = read_state(board, harts, count);
             Case {
                 found: Found::Bodies { memory, events },
                 base,
@@ -285,13 +286,22 @@ fn read_bodies(file: &[u8], memory: usize, events: usize) -> Case
     }
 }
 
+// The case that a file is on a board, or why it is none.
+pub fn read_case_on(board: Board, file: &[u8]) -> Case
+    requires { ⌜ BoardRules board ⌝ }
+    ensures { λ r. ⌜ r ≡ caseOn board (now (file .entry)) ⌝ }
+    ensures { λ r. ⌜ SoundCase (now (file .entry)) r ⌝ }
+{
+    match read_table(file) {
+        Found::Refused { number, place } => refused(number, place),
+        Found::Bodies { memory, events } => read_bodies(board, file, memory, events),
+    }
+}
+
 // The case that a file is, or why it is none.
 pub fn read_case(file: &[u8]) -> Case
     ensures { λ r. ⌜ r ≡ caseOf (now (file .entry)) ⌝ }
     ensures { λ r. ⌜ SoundCase (now (file .entry)) r ⌝ }
 {
-    match read_table(file) {
-        Found::Refused { number, place } => refused(number, place),
-        Found::Bodies { memory, events } => read_bodies(file, memory, events),
-    }
+    read_case_on(settings::default_board(), file)
 }

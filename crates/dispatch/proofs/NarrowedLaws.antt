@@ -23,22 +23,22 @@ met-as {h} {base} {e} {f} {mem} {after} {r} q m = subst (λ (x : Exec). Meets h 
 -- of an instruction i that a word decodes to at 64 bits
 module _ (xlen word : ℕ) (i : Instr) (is : i ≡ decodeOf word) where
   -- it is lacked
-  pub lacked-word : (eqb xlen 32 && lacks i) ≡ true → (x : ℕ → ℕ) (pc base : ℕ) (mem : List ℕ) (covered : ℕ → ℕ → Bool)
-      → execute xlen Illegal word x pc base mem covered ≡ executeWord xlen word x pc base mem covered
+  pub lacked-word : (eqb xlen 32 && lacks i) ≡ true → (misaligned : ℕ) (x : ℕ → ℕ) (pc base : ℕ) (mem : List ℕ) (covered : ℕ → ℕ → Bool)
+      → execute xlen misaligned Illegal word x pc base mem covered ≡ executeWord xlen misaligned word x pc base mem covered
   unfolding executeWord decodeAt
-  lacked-word t x pc base mem covered =
-      ap (λ (j : Instr). execute xlen j word x pc base mem covered) (sym (narrowed-by xlen i ∙ rw t) ∙ ap (narrowedAt xlen) is)
+  lacked-word t misaligned x pc base mem covered =
+      ap (λ (j : Instr). execute xlen misaligned j word x pc base mem covered) (sym (narrowed-by xlen i ∙ rw t) ∙ ap (narrowedAt xlen) is)
 
   -- it isn't, and is what it is at that width
   module _ (has : (eqb xlen 32 && lacks i) ≡ false) where
     had : narrowedAt xlen i ≡ pairedAt xlen i
     had = narrowed-by xlen i ∙ rw has
 
-    pub had-word : (x : ℕ → ℕ) (pc base : ℕ) (mem : List ℕ) (covered : ℕ → ℕ → Bool)
-        → execute xlen (pairedAt xlen i) word x pc base mem covered ≡ executeWord xlen word x pc base mem covered
+    pub had-word : (misaligned : ℕ) (x : ℕ → ℕ) (pc base : ℕ) (mem : List ℕ) (covered : ℕ → ℕ → Bool)
+        → execute xlen misaligned (pairedAt xlen i) word x pc base mem covered ≡ executeWord xlen misaligned word x pc base mem covered
     unfolding executeWord decodeAt
-    had-word x pc base mem covered =
-        ap (λ (j : Instr). execute xlen j word x pc base mem covered) (sym had ∙ ap (narrowedAt xlen) is)
+    had-word misaligned x pc base mem covered =
+        ap (λ (j : Instr). execute xlen misaligned j word x pc base mem covered) (sym had ∙ ap (narrowedAt xlen) is)
 
     pub had-fits : Xlen xlen → Fitting xlen (pairedAt xlen i)
     had-fits width = subst (Fitting xlen) had (fitting-at xlen width i)

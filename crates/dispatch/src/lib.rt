@@ -67,6 +67,7 @@ fn reg_pair(w: Width, x: &[u64; 256], h: usize, r: usize) -> Pair
 // An AMOCAS of a pair, each half of width w, by its registers.
 fn cas_pair(
     xlen: u32,
+    misaligned: u64,
     w: Width,
     m: Atomic,
     x: &[u64; 256],
@@ -77,13 +78,25 @@ fn cas_pair(
 ) -> Done
     requires { ⌜ (h < 8) × (xlen ≤ 64) ⌝ }
     ensures { λ r. ⌜
-        Meets h (execCasPair xlen w (m .rd) (regAt (now (x .entry)) h (m .rs1)) (pairAt w (regAt (now (x .entry)) h) (m .rd))
+        Meets h (execCasPair xlen misaligned w (m .rd) (regAt (now (x .entry)) h (m .rs1)) (pairAt w (regAt (now (x .entry)) h) (m .rd))
         (pairAt w (regAt (now (x .entry)) h) (m .rs2)) pc base (now (mem .entry))) base (now (mem .entry)) r (now (mem .exit))
         ⌝ }
 {
     let want = reg_pair(w, x, h, m.rd);
     let new = reg_pair(w, x, h, m.rs2);
-    atomic::cas_pair(xlen, w, m.rd, reg(x, h, m.rs1), want, new, pc, base, h, mem)
+    atomic::cas_pair(
+        xlen,
+        misaligned,
+        w,
+        m.rd,
+        reg(x, h, m.rs1),
+        want,
+        new,
+        pc,
+        base,
+        h,
+        mem,
+    )
 }
 
 // An atomic instruction of hart h, whose reservation is res, with an operation and a width of their own: what RV32 has as a pair of words comes here too,
@@ -103,19 +116,32 @@ fn atomic(
 ) -> Done
     requires { ⌜ (h < 8) × SizeRules settings × (bitsOf w ≤ xlen) × (xlen ≤ 64) ⌝ }
     ensures { λ r. ⌜
-        Meets h (execAtomic xlen (withOp op w m) (regAt (now (x .entry)) h) pc base (now (mem .entry)) (coversOf settings res))
+        Meets h (execAtomic xlen (settings .misaligned) (withOp op w m) (regAt (now (x .entry)) h) pc base (now (mem .entry)) (coversOf settings res))
         base (now (mem .entry)) r (now (mem .exit))
         ⌝ }
 {
     let rd = m.rd;
     let a = reg(x, h, m.rs1);
     let v = reg(x, h, m.rs2);
+    let misaligned = settings.misaligned;
     match op {
-        AtomicOp::Lr => atomic::lr(xlen, w, rd, a, pc, base, h, mem),
+        AtomicOp::Lr => atomic::lr(xlen, misaligned, w, rd, a, pc, base, h, mem),
         AtomicOp::Sc => atomic::sc(xlen, w, rd, a, v, pc, base, h, settings, res, mem),
-        AtomicOp::Cas => atomic::cas(xlen, w, rd, a, reg(x, h, rd), v, pc, base, h, mem),
-        AtomicOp::CasPair => cas_pair(xlen, w, m, x, h, pc, base, mem),
-        AtomicOp::Rmw(o) => atomic::amo(xlen, o, w, rd, a, v, pc, base, h, mem),
+        AtomicOp::Cas => atomic::cas(
+            xlen,
+            misaligned,
+            w,
+            rd,
+            a,
+            reg(x, h, rd),
+            v,
+            pc,
+            base,
+            h,
+            mem,
+        ),
+        AtomicOp::CasPair => cas_pair(xlen, misaligned, w, m, x, h, pc, base, mem),
+        AtomicOp::Rmw(o) => atomic::amo(xlen, misaligned, o, w, rd, a, v, pc, base, h, mem),
     }
 }
 
@@ -143,7 +169,7 @@ fn atomic_at(
 ) -> Done
     requires { ⌜ (h < 8) × SizeRules settings × (bitsOf (cond (eqb xlen 32 && pairs m) Width.Word (m .width)) ≤ xlen) × (xlen ≤ 64) ⌝ }
     ensures { λ r. ⌜
-        Meets h (execAtomic xlen (pairedIf (eqb xlen 32 && pairs m) m) (regAt (now (x .entry)) h) pc base (now (mem .entry)) (coversOf settings res))
+        Meets h (execAtomic xlen (settings .misaligned) (pairedIf (eqb xlen 32 && pairs m) m) (regAt (now (x .entry)) h) pc base (now (mem .entry)) (coversOf settings res))
         base (now (mem .entry)) r (now (mem .exit))
         ⌝ }
 {
@@ -265,7 +291,7 @@ fn execute(
 ) -> Done
     requires { ⌜ (h < 8) × SizeRules settings × Xlen xlen × Fitting xlen (pairedAt xlen i) ⌝ }
     ensures { λ r. ⌜
-        Meets h (execute xlen (pairedAt xlen i) word (regAt (now (x .entry)) h) pc base (now (mem .entry)) (coversOf settings res))
+        Meets h (execute xlen (settings .misaligned) (pairedAt xlen i) word (regAt (now (x .entry)) h) pc base (now (mem .entry)) (coversOf settings res))
         base (now (mem .entry)) r (now (mem .exit))
         ⌝ }
 {
@@ -321,7 +347,7 @@ pub fn execute_word(
 ) -> Done
     requires { ⌜ (h < 8) × SizeRules settings × Xlen xlen ⌝ }
     ensures { λ r. ⌜
-        Meets h (executeWord xlen word (regAt (now (x .entry)) h) pc base (now (mem .entry)) (coversOf settings res))
+        Meets h (executeWord xlen (settings .misaligned) word (regAt (now (x .entry)) h) pc base (now (mem .entry)) (coversOf settings res))
         base (now (mem .entry)) r (now (mem .exit))
         ⌝ }
 {

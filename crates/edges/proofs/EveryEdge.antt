@@ -9,7 +9,7 @@ use Rattle.isa.specs.Decode as D
 use Rattle.isa.specs.Narrow.{decodeAt}
 use Rattle.alu.specs.Alu.{aluOf}
 use Rattle.alu.specs.Amo.{minOf, maxOf, amoOf}
-use Rattle.settings.specs.Settings.{xlenOf, sizeOk, versionOk, kindOk, readingOk}
+use Rattle.settings.specs.Settings.{xlenOf, sizeOk, versionOk, kindOk, readingOk, misalignedOk, lrCause, amoCause}
 use Rattle.reserve.specs.Range.{touches, insideOf}
 use Rattle.reserve.specs.Reserve.{coversOf, breaksOf, ownOf, observeOf, brokenOf, observeAllOf}
 use Rattle.machine.specs.State.{lentOk, topOk, memoryOk, reservationOk, hartOk, upperOk, stateOk, refusalOf}
@@ -25,9 +25,9 @@ use Rattle.edges.specs.Edges.{edges}
 pub every-edge : All edges
 unfolding le toLe part splice low toInt ofInt signExtend allBelow
     D.classOf D.storeOf D.branchOf D.atomicOf D.sizedOf D.lrOf D.casOf D.casPairOf D.decodeOf decodeAt xlenOf aluOf minOf maxOf amoOf
-    touches insideOf coversOf breaksOf ownOf observeOf brokenOf observeAllOf sizeOk versionOk kindOk readingOk lentOk topOk memoryOk reservationOk
-    hartOk upperOk stateOk refusalOf
-    faultOf checked valueAt execStore execLr execSc execAmo execCas execCasPair regAt pairAt execAtomic execute executeWord
+    touches insideOf coversOf breaksOf ownOf observeOf brokenOf observeAllOf sizeOk versionOk kindOk readingOk misalignedOk lentOk topOk memoryOk
+    reservationOk hartOk upperOk stateOk refusalOf
+    lrCause amoCause faultOf checked valueAt execStore execLr execSc execAmo execCas execCasPair regAt pairAt execAtomic execute executeWord
     setReg leaves apply fetchOf deviceOf actOn actOf answerOf memoryOf nextOf runOf
     viewOf pastSc wrongOffset clobbers lowestOf scanOf startOf checkOf
 every-edge =

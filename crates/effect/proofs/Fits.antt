@@ -14,6 +14,7 @@ use Rattle.word.proofs.BytesLaws.{bytes-toLe}
 use Rattle.word.proofs.WordLaws.{low-lt, low-fits, signExtend-lt, xlen-bounds}
 use Rattle.word.proofs.MemoryLaws.{part-lt, length-splice}
 use Rattle.word.proofs.ChooseLaws.{cond-all}
+use Rattle.settings.specs.Settings.{lrCause, amoCause}
 use Rattle.isa.specs.Width.{bitsOf, bytesOf, pairBytes}
 use Rattle.isa.specs.Narrow.{decodeAt}
 use Rattle.isa.specs.declared.Width.{Width}
@@ -83,10 +84,10 @@ module _ (xlen : ℕ) (is : Xlen xlen) where
   flag-lt : (v : ℕ) → v < 2 → v < 2 ^ xlen
   flag-lt v h = omega (arith, pow-mono {i = 1} {j = xlen} (omega (arith, xlen-bounds xlen is .0)))
 
-  fits-checked : (misaligned outside a n base len : ℕ) (e : Exec) → Fits xlen e → Fits xlen (checked misaligned outside a n base len e)
+  fits-checked : (unaligned outside a n base len : ℕ) (e : Exec) → Fits xlen e → Fits xlen (checked unaligned outside a n base len e)
   unfolding checked
-  fits-checked misaligned outside a n base len e h =
-      let cause = faultOf misaligned outside a n base len in
+  fits-checked unaligned outside a n base len e h =
+      let cause = faultOf unaligned outside a n base len in
       cond-all (Fits xlen) (eqb cause 0) e (trap cause a) h tt
 
   module _ (pc : ℕ) where
@@ -102,37 +103,37 @@ module _ (xlen : ℕ) (is : Xlen xlen) where
     fits-branch true to h = cond-all (Fits xlen) (eqb (to % 4) 0) _ _ (tt, (h, tt)) tt
     fits-branch false to h = (tt, (next-lt, tt))
 
-    module _ (base : ℕ) (mem : List ℕ) where
+    module _ (misaligned base : ℕ) (mem : List ℕ) where
       fits-load : (op : LoadOp) (rd a : ℕ) → 8 * loadBytes op ≤ xlen → Fits xlen (execLoad xlen op rd a pc base mem)
       unfolding execLoad
       fits-load op rd a h =
           fits-checked 4 5 a (loadBytes op) base (length mem) _ (extended-lt op (valueAt base mem a (loadBytes op)) h, (next-lt, tt))
 
       fits-atomic : (covered : ℕ → ℕ → Bool) (op : AtomicOp) (m : Atomic) → bitsOf (m .width) ≤ xlen → (x : ℕ → ℕ)
-          → Fits xlen (atomicBy xlen op m x pc base mem covered)
+          → Fits xlen (atomicBy xlen misaligned op m x pc base mem covered)
       unfolding execLr execSc execAmo execCas execCasPair
       fits-atomic covered Lr m h x =
-          fits-checked 4 5 _ _ base (length mem) _ (extends (m .width) _ h, (next-lt, omega (arith, h, bits-bytes (m .width))))
+          fits-checked (lrCause misaligned) 5 _ _ base (length mem) _ (extends (m .width) _ h, (next-lt, omega (arith, h, bits-bytes (m .width))))
       fits-atomic covered Sc m h x =
-          fits-checked 6 7 _ _ base (length mem) _
+          fits-checked (amoCause misaligned) 7 _ _ base (length mem) _
           (cond-all (Fits xlen) (covered (x (m .rs1)) (bytesOf (m .width))) _ _
           (flag-lt 0 (lit< tt), (next-lt, bytes-toLe (bytesOf (m .width)) (x (m .rs2)))) (flag-lt 1 (lit< tt), (next-lt, tt)))
       fits-atomic covered Cas m h x =
           let a = x (m .rs1) in
           let n = bytesOf (m .width) in
-          fits-checked 6 7 _ _ base (length mem) _
+          fits-checked (amoCause misaligned) 7 _ _ base (length mem) _
           (extends (m .width) _ h, (next-lt, swap-bytes xlen a n (valueAt base mem a n) (low (bitsOf (m .width)) (x (m .rd))) (x (m .rs2))))
       fits-atomic covered CasPair m h x =
           let a = x (m .rs1) in
           let w = m .width in
           let old = valueAt base mem a (pairBytes w) in
-          fits-checked 6 7 _ (pairBytes w) base (length mem) _
+          fits-checked (amoCause misaligned) 7 _ (pairBytes w) base (length mem) _
           (pair-lt w (m .rd) old h, (next-lt, swap-bytes xlen a (pairBytes w) old (pairAt w x (m .rd)) (pairAt w x (m .rs2))))
       fits-atomic covered (Rmw op) m h x =
-          fits-checked 6 7 _ _ base (length mem) _ (extends (m .width) _ h, (next-lt, bytes-toLe (bytesOf (m .width)) _))
+          fits-checked (amoCause misaligned) 7 _ _ base (length mem) _ (extends (m .width) _ h, (next-lt, bytes-toLe (bytesOf (m .width)) _))
 
       pub fits-execute : (covered : ℕ → ℕ → Bool) (i : Instr) → Fitting xlen i → (word : ℕ) (x : ℕ → ℕ)
-          → Fits xlen (execute xlen i word x pc base mem covered)
+          → Fits xlen (execute xlen misaligned i word x pc base mem covered)
       unfolding execute execAtomic execStore
       fits-execute covered Illegal h word x = tt
       fits-execute covered Ecall h word x = tt
@@ -157,10 +158,10 @@ module _ (xlen : ℕ) (is : Xlen xlen) where
 
 -- At either width, whatever the word, the registers, the pc and the memory: the values written and the next pc are numbers of xlen bits, what is stored is
 -- bytes, and a reservation is no wider than a register.
-pub fits : (xlen : ℕ) → Xlen xlen → (word : ℕ) (x : ℕ → ℕ) (pc base : ℕ) (mem : List ℕ) (covered : ℕ → ℕ → Bool)
-    → Fits xlen (executeWord xlen word x pc base mem covered)
+pub fits : (xlen misaligned : ℕ) → Xlen xlen → (word : ℕ) (x : ℕ → ℕ) (pc base : ℕ) (mem : List ℕ) (covered : ℕ → ℕ → Bool)
+    → Fits xlen (executeWord xlen misaligned word x pc base mem covered)
 unfolding executeWord
-fits xlen is word x pc base mem covered = fits-execute xlen is pc base mem covered (decodeAt xlen word) (fitting xlen word is) word x
+fits xlen misaligned is word x pc base mem covered = fits-execute xlen is pc misaligned base mem covered (decodeAt xlen word) (fitting xlen word is) word x
 
 -- ---- memory
 

@@ -13,6 +13,8 @@ use Rattle.word.specs.Bytes.{toLe}
 use Rattle.word.proofs.BytesLaws.{length-toLe}
 use Rattle.word.proofs.WordLaws.{low-low}
 use Rattle.word.proofs.ChooseLaws.{cond-all, cond-cases}
+use Rattle.settings.specs.Settings.{lrCause, amoCause}
+use Rattle.settings.proofs.SettingsLaws.{lr-cause-some, amo-cause-some}
 use Rattle.reserve.specs.Range.{Inside, insideOf}
 use Rattle.reserve.proofs.RangeLaws.{inside-of}
 use Rattle.isa.specs.Width.{bitsOf, bytesOf, pairBytes}
@@ -35,13 +37,13 @@ use Rattle.effect.specs.Execute.{pairAt, atomicBy, execAtomic, execute, 
 use Rattle.effect.specs.Sound.{AccessOk, Sound}
 
 -- an access without a fault is aligned and inside memory
-pub fault-fine : (misaligned outside a n base len : ℕ) → 0 < misaligned → 0 < outside → faultOf misaligned outside a n base len ≡ 0
+pub fault-fine : (unaligned outside a n base len : ℕ) → 0 < unaligned → 0 < outside → faultOf unaligned outside a n base len ≡ 0
     → (a % n ≡ 0) × Inside base len a n
 unfolding faultOf
-fault-fine misaligned outside a n base len some more e = go (eqb (a % n) 0) refl (insideOf base len a n) refl e
+fault-fine unaligned outside a n base len some more e = go (eqb (a % n) 0) refl (insideOf base len a n) refl e
   where
     go : (p : Bool) → eqb (a % n) 0 ≡ p → (q : Bool) → insideOf base len a n ≡ q
-        → _≡_ {A = ℕ} (cond p (cond q 0 outside) misaligned) 0 → (a % n ≡ 0) × Inside base len a n
+        → _≡_ {A = ℕ} (cond p (cond q 0 outside) unaligned) 0 → (a % n ≡ 0) × Inside base len a n
     go true ep true eq e = (eqb-true (a % n) 0 ep, inside-of base len a n eq)
     go true ep false eq e = absurd (omega arith)
     go false ep q eq e = absurd (omega arith)
@@ -51,13 +53,13 @@ width-is Word = inl refl
 width-is Double = inr refl
 
 module _ (base len : ℕ) where
-  sound-checked : (misaligned outside a n : ℕ) (e : Exec) → 0 < misaligned → 0 < outside
-      → ((a % n ≡ 0) × Inside base len a n → Sound base len e) → Sound base len (checked misaligned outside a n base len e)
+  sound-checked : (unaligned outside a n : ℕ) (e : Exec) → 0 < unaligned → 0 < outside
+      → ((a % n ≡ 0) × Inside base len a n → Sound base len e) → Sound base len (checked unaligned outside a n base len e)
   unfolding checked
-  sound-checked misaligned outside a n e some more h =
-      let cause = faultOf misaligned outside a n base len in
+  sound-checked unaligned outside a n e some more h =
+      let cause = faultOf unaligned outside a n base len in
       cond-cases (Sound base len) (eqb cause 0) e (trap cause a)
-      (λ t. h (fault-fine misaligned outside a n base len some more (eqb-true cause 0 t))) (λ f. tt)
+      (λ t. h (fault-fine unaligned outside a n base len some more (eqb-true cause 0 t))) (λ f. tt)
 
   bytes-inside : (a n v : ℕ) → Inside base len a n → Inside base len a (length (toLe n v))
   bytes-inside a n v i = subst (λ (k : ℕ). Inside base len a k) (sym (length-toLe n v)) i
@@ -70,8 +72,8 @@ module _ (base len : ℕ) where
       go true = bytes-inside a n new i
       go false = tt
 
--- at a register width of xlen bits, with the pc and memory before the step
-module _ (xlen : ℕ) (enough : 2 ≤ xlen) (pc : ℕ) (aligned : pc % 4 ≡ 0) (base : ℕ) (mem : List ℕ) where
+-- at a register width of xlen bits and with the setting misaligned, with the pc and memory before the step
+module _ (xlen misaligned : ℕ) (enough : 2 ≤ xlen) (pc : ℕ) (aligned : pc % 4 ≡ 0) (base : ℕ) (mem : List ℕ) where
   next-aligned : nextPc xlen pc % 4 ≡ 0
   unfolding low
   next-aligned = low-low xlen 2 enough (pc + 4) ∙ omega arith
@@ -96,45 +98,45 @@ module _ (xlen : ℕ) (enough : 2 ≤ xlen) (pc : ℕ) (aligned : pc % 4 ≡ 0) 
       sound-checked base (length mem) 6 7 a (storeBytes op) _ (omega arith) (omega arith)
       (λ i. (next-aligned, bytes-inside base (length mem) a (storeBytes op) v (i .1)))
 
-  sound-lr : (w : Width) (rd a : ℕ) → Sound base (length mem) (execLr xlen w rd a pc base mem)
+  sound-lr : (w : Width) (rd a : ℕ) → Sound base (length mem) (execLr xlen misaligned w rd a pc base mem)
   unfolding execLr
   sound-lr w rd a =
-      sound-checked base (length mem) 4 5 a (bytesOf w) _ (omega arith) (omega arith) (λ i. (next-aligned, (width-is w, i)))
+      sound-checked base (length mem) (lrCause misaligned) 5 a (bytesOf w) _ (lr-cause-some misaligned) (omega arith) (λ i. (next-aligned, (width-is w, i)))
 
-  sound-amo : (op : AmoOp) (w : Width) (rd a v : ℕ) → Sound base (length mem) (execAmo xlen op w rd a v pc base mem)
+  sound-amo : (op : AmoOp) (w : Width) (rd a v : ℕ) → Sound base (length mem) (execAmo xlen misaligned op w rd a v pc base mem)
   unfolding execAmo
   sound-amo op w rd a v =
-      sound-checked base (length mem) 6 7 a (bytesOf w) _ (omega arith) (omega arith)
+      sound-checked base (length mem) (amoCause misaligned) 7 a (bytesOf w) _ (amo-cause-some misaligned) (omega arith)
       (λ i. (next-aligned, bytes-inside base (length mem) a (bytesOf w) _ (i .1)))
 
-  sound-cas : (w : Width) (rd a want new : ℕ) → Sound base (length mem) (execCas xlen w rd a want new pc base mem)
+  sound-cas : (w : Width) (rd a want new : ℕ) → Sound base (length mem) (execCas xlen misaligned w rd a want new pc base mem)
   unfolding execCas
   sound-cas w rd a want new =
-      sound-checked base (length mem) 6 7 a (bytesOf w) _ (omega arith) (omega arith)
+      sound-checked base (length mem) (amoCause misaligned) 7 a (bytesOf w) _ (amo-cause-some misaligned) (omega arith)
       (λ i. (next-aligned, sound-swap base (length mem) a (bytesOf w) (valueAt base mem a (bytesOf w)) (low (bitsOf w) want) new (i .1)))
 
-  sound-cas-pair : (w : Width) (rd a want new : ℕ) → Sound base (length mem) (execCasPair xlen w rd a want new pc base mem)
+  sound-cas-pair : (w : Width) (rd a want new : ℕ) → Sound base (length mem) (execCasPair xlen misaligned w rd a want new pc base mem)
   unfolding execCasPair
   sound-cas-pair w rd a want new =
-      sound-checked base (length mem) 6 7 a (pairBytes w) _ (omega arith) (omega arith)
+      sound-checked base (length mem) (amoCause misaligned) 7 a (pairBytes w) _ (amo-cause-some misaligned) (omega arith)
       (λ i. (next-aligned, sound-swap base (length mem) a (pairBytes w) (valueAt base mem a (pairBytes w)) want new (i .1)))
 
   module _ (covered : ℕ → ℕ → Bool) where
-    sound-sc : (w : Width) (rd a v : ℕ) → Sound base (length mem) (execSc xlen w rd a v pc base mem covered)
+    sound-sc : (w : Width) (rd a v : ℕ) → Sound base (length mem) (execSc xlen misaligned w rd a v pc base mem covered)
     unfolding execSc
     sound-sc w rd a v =
-        sound-checked base (length mem) 6 7 a (bytesOf w) _ (omega arith) (omega arith)
+        sound-checked base (length mem) (amoCause misaligned) 7 a (bytesOf w) _ (amo-cause-some misaligned) (omega arith)
         (λ i. cond-all (Sound base (length mem)) (covered a (bytesOf w)) _ _
         (next-aligned, bytes-inside base (length mem) a (bytesOf w) v (i .1)) (next-aligned, tt))
 
-    sound-atomic : (op : AtomicOp) (m : Atomic) (x : ℕ → ℕ) → Sound base (length mem) (atomicBy xlen op m x pc base mem covered)
+    sound-atomic : (op : AtomicOp) (m : Atomic) (x : ℕ → ℕ) → Sound base (length mem) (atomicBy xlen misaligned op m x pc base mem covered)
     sound-atomic Lr m x = sound-lr (m .width) (m .rd) (x (m .rs1))
     sound-atomic Sc m x = sound-sc (m .width) (m .rd) (x (m .rs1)) (x (m .rs2))
     sound-atomic Cas m x = sound-cas (m .width) (m .rd) (x (m .rs1)) (x (m .rd)) (x (m .rs2))
     sound-atomic CasPair m x = sound-cas-pair (m .width) (m .rd) (x (m .rs1)) (pairAt (m .width) x (m .rd)) (pairAt (m .width) x (m .rs2))
     sound-atomic (Rmw op) m x = sound-amo op (m .width) (m .rd) (x (m .rs1)) _
 
-    pub sound-execute : (i : Instr) (word : ℕ) (x : ℕ → ℕ) → Sound base (length mem) (execute xlen i word x pc base mem covered)
+    pub sound-execute : (i : Instr) (word : ℕ) (x : ℕ → ℕ) → Sound base (length mem) (execute xlen misaligned i word x pc base mem covered)
     unfolding execute execAtomic
     sound-execute Illegal word x = tt
     sound-execute Ecall word x = tt
@@ -153,8 +155,8 @@ module _ (xlen : ℕ) (enough : 2 ≤ xlen) (pc : ℕ) (aligned : pc % 4 ≡ 0) 
     sound-execute (Op32 op rd rs1 rs2) word x = (next-aligned, tt)
     sound-execute (Amo m) word x = sound-atomic (m .op) m x
 
--- Whatever the word, the registers and the reservation, a step from an aligned pc goes to an aligned pc, and reserves and stores inside memory only.
-pub sound : (xlen word : ℕ) (x : ℕ → ℕ) (pc base : ℕ) (mem : List ℕ) (covered : ℕ → ℕ → Bool) → 2 ≤ xlen → pc % 4 ≡ 0
-    → Sound base (length mem) (executeWord xlen word x pc base mem covered)
+-- Whatever the word, the registers, the reservation and the setting, a step from an aligned pc goes to an aligned pc, and reserves and stores inside memory only.
+pub sound : (xlen misaligned word : ℕ) (x : ℕ → ℕ) (pc base : ℕ) (mem : List ℕ) (covered : ℕ → ℕ → Bool) → 2 ≤ xlen → pc % 4 ≡ 0
+    → Sound base (length mem) (executeWord xlen misaligned word x pc base mem covered)
 unfolding executeWord
-sound xlen word x pc base mem covered enough aligned = sound-execute xlen enough pc aligned base mem covered (decodeAt xlen word) word x
+sound xlen misaligned word x pc base mem covered enough aligned = sound-execute xlen misaligned enough pc aligned base mem covered (decodeAt xlen word) word x

@@ -7,6 +7,8 @@ use native.Mathlib.Omega.{arith}
 use lib.ListN.{length}
 use borrow.Author.Tests.{eq-eqb, ne-eqb}
 use Rattle.word.proofs.TestLaws.{bool-cases}
+use Rattle.settings.specs.Settings.{amoCause}
+use Rattle.settings.proofs.SettingsLaws.{amo-cause-some}
 use Rattle.reserve.specs.Range.{Inside, insideOf}
 use Rattle.reserve.proofs.RangeLaws.{inside-of, of-inside}
 use Rattle.isa.specs.Width.{bytesOf}
@@ -17,25 +19,26 @@ use Rattle.effect.specs.Memory.{faultOf, checked}
 use Rattle.effect.specs.Atomic.{execSc}
 use Rattle.word.specs.Bytes.{toLe}
 
--- causes 4 to 7: an access of n bytes at a, in a memory of len bytes at base. A load or LR has causes 4 and 5, a store, SC or AMO 6 and 7
-module _ (misaligned outside a n base len : ℕ) (some : 0 < misaligned) (more : 0 < outside) (e : Exec) where
-  caused : (cause : ℕ) → faultOf misaligned outside a n base len ≡ cause → 0 < cause
-      → checked misaligned outside a n base len e ≡ trap cause a
+-- causes 4 to 7: an access of n bytes at a, in a memory of len bytes at base. A load has causes 4 and 5, a store 6 and 7; LR, SC and AMO have the first by
+-- their setting
+module _ (unaligned outside a n base len : ℕ) (some : 0 < unaligned) (more : 0 < outside) (e : Exec) where
+  caused : (cause : ℕ) → faultOf unaligned outside a n base len ≡ cause → 0 < cause
+      → checked unaligned outside a n base len e ≡ trap cause a
   unfolding checked
   caused cause f pos = rw (f, ne-eqb cause 0 (λ z. omega arith))
 
-  pub misaligned-traps : (a % n ≡ 0 → ⊥) → checked misaligned outside a n base len e ≡ trap misaligned a
+  pub misaligned-traps : (a % n ≡ 0 → ⊥) → checked unaligned outside a n base len e ≡ trap unaligned a
   unfolding faultOf
-  misaligned-traps d = caused misaligned (rw (ne-eqb (a % n) 0 d)) some
+  misaligned-traps d = caused unaligned (rw (ne-eqb (a % n) 0 d)) some
 
   not-inside : (Inside base len a n → ⊥) → insideOf base len a n ≡ false
   not-inside d = bool-cases (insideOf base len a n) (λ t. absurd (d (inside-of base len a n t))) (λ f. f)
 
-  pub outside-traps : a % n ≡ 0 → (Inside base len a n → ⊥) → checked misaligned outside a n base len e ≡ trap outside a
+  pub outside-traps : a % n ≡ 0 → (Inside base len a n → ⊥) → checked unaligned outside a n base len e ≡ trap outside a
   unfolding faultOf
   outside-traps al d = caused outside (rw (eq-eqb (a % n) 0 al, not-inside d)) more
 
-  pub access-retires : a % n ≡ 0 → Inside base len a n → checked misaligned outside a n base len e ≡ e
+  pub access-retires : a % n ≡ 0 → Inside base len a n → checked unaligned outside a n base len e ≡ e
   unfolding checked faultOf
   access-retires al i = rw (eq-eqb (a % n) 0 al, of-inside base len a n i)
 
@@ -61,23 +64,23 @@ module _ (xlen pc : ℕ) where
   unfolding execBranch
   branch-passed to = refl
 
-  -- an SC: causes 6 and 7 whatever the reservation, which decides where neither is given
-  module _ (w : Width) (rd a v base : ℕ) (mem : List ℕ) (covered : ℕ → ℕ → Bool) where
-    pub exec-sc-misaligned : (a % bytesOf w ≡ 0 → ⊥) → execSc xlen w rd a v pc base mem covered ≡ trap 6 a
+  -- an SC: its causes whatever the reservation, which decides where neither is given
+  module _ (misaligned : ℕ) (w : Width) (rd a v base : ℕ) (mem : List ℕ) (covered : ℕ → ℕ → Bool) where
+    pub exec-sc-misaligned : (a % bytesOf w ≡ 0 → ⊥) → execSc xlen misaligned w rd a v pc base mem covered ≡ trap (amoCause misaligned) a
     unfolding execSc
-    exec-sc-misaligned d = misaligned-traps 6 7 a (bytesOf w) base (length mem) (omega arith) (omega arith) _ d
+    exec-sc-misaligned d = misaligned-traps (amoCause misaligned) 7 a (bytesOf w) base (length mem) (amo-cause-some misaligned) (omega arith) _ d
 
-    pub exec-sc-outside : a % bytesOf w ≡ 0 → (Inside base (length mem) a (bytesOf w) → ⊥) → execSc xlen w rd a v pc base mem covered ≡ trap 7 a
+    pub exec-sc-outside : a % bytesOf w ≡ 0 → (Inside base (length mem) a (bytesOf w) → ⊥) → execSc xlen misaligned w rd a v pc base mem covered ≡ trap 7 a
     unfolding execSc
-    exec-sc-outside al d = outside-traps 6 7 a (bytesOf w) base (length mem) (omega arith) (omega arith) _ al d
+    exec-sc-outside al d = outside-traps (amoCause misaligned) 7 a (bytesOf w) base (length mem) (amo-cause-some misaligned) (omega arith) _ al d
 
     module _ (al : a % bytesOf w ≡ 0) (i : Inside base (length mem) a (bytesOf w)) where
       pub exec-sc-stored : covered a (bytesOf w) ≡ true
-          → execSc xlen w rd a v pc base mem covered ≡ effect (one rd 0) (nextPc xlen pc) (scStored a (toLe (bytesOf w) v))
+          → execSc xlen misaligned w rd a v pc base mem covered ≡ effect (one rd 0) (nextPc xlen pc) (scStored a (toLe (bytesOf w) v))
       unfolding execSc
-      exec-sc-stored c = access-retires 6 7 a (bytesOf w) base (length mem) (omega arith) (omega arith) _ al i ∙ rw c
+      exec-sc-stored c = access-retires (amoCause misaligned) 7 a (bytesOf w) base (length mem) (amo-cause-some misaligned) (omega arith) _ al i ∙ rw c
 
       pub exec-sc-failed : covered a (bytesOf w) ≡ false
-          → execSc xlen w rd a v pc base mem covered ≡ effect (one rd 1) (nextPc xlen pc) scFailed
+          → execSc xlen misaligned w rd a v pc base mem covered ≡ effect (one rd 1) (nextPc xlen pc) scFailed
       unfolding execSc
-      exec-sc-failed c = access-retires 6 7 a (bytesOf w) base (length mem) (omega arith) (omega arith) _ al i ∙ rw c
+      exec-sc-failed c = access-retires (amoCause misaligned) 7 a (bytesOf w) base (length mem) (amo-cause-some misaligned) (omega arith) _ al i ∙ rw c

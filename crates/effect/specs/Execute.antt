@@ -1,4 +1,5 @@
--- What each instruction does, at a register width of xlen bits. x gives the value of a register; all are read here, before any is written.
+-- What each instruction does, at a register width of xlen bits; misaligned is given to LR, SC, AMO and AMOCAS alone. x gives the value of a register;
+-- all are read here, before any is written.
 -- RULES 4; `pairAt` 4.8; sources before destinations 4.9.
 use Prim.Native.Nat.{ℕ, _+_, _*_, _%_, _^_}
 use mathlib.Core.Bool.{Bool, cond}
@@ -27,14 +28,14 @@ regAt x h r = getD x (h * 32 + r % 32) 0
 unfoldable pub pairAt : Width → (ℕ → ℕ) → ℕ → ℕ
 pairAt w x r = cond (eqb (r % 32) 0) 0 (low (bitsOf w) (x r) + 2 ^ bitsOf w * low (bitsOf w) (x (r % 32 + 1)))
 
-module _ (xlen : ℕ) where
+module _ (xlen misaligned : ℕ) where
   abbrev pub atomicBy : AtomicOp → Atomic → (ℕ → ℕ) → ℕ → ℕ → List ℕ → (ℕ → ℕ → Bool) → Exec
-  atomicBy Lr m x pc base mem covered = execLr xlen (m .width) (m .rd) (x (m .rs1)) pc base mem
-  atomicBy Sc m x pc base mem covered = execSc xlen (m .width) (m .rd) (x (m .rs1)) (x (m .rs2)) pc base mem covered
-  atomicBy Cas m x pc base mem covered = execCas xlen (m .width) (m .rd) (x (m .rs1)) (x (m .rd)) (x (m .rs2)) pc base mem
+  atomicBy Lr m x pc base mem covered = execLr xlen misaligned (m .width) (m .rd) (x (m .rs1)) pc base mem
+  atomicBy Sc m x pc base mem covered = execSc xlen misaligned (m .width) (m .rd) (x (m .rs1)) (x (m .rs2)) pc base mem covered
+  atomicBy Cas m x pc base mem covered = execCas xlen misaligned (m .width) (m .rd) (x (m .rs1)) (x (m .rd)) (x (m .rs2)) pc base mem
   atomicBy CasPair m x pc base mem covered =
-      execCasPair xlen (m .width) (m .rd) (x (m .rs1)) (pairAt (m .width) x (m .rd)) (pairAt (m .width) x (m .rs2)) pc base mem
-  atomicBy (Rmw op) m x pc base mem covered = execAmo xlen op (m .width) (m .rd) (x (m .rs1)) (x (m .rs2)) pc base mem
+      execCasPair xlen misaligned (m .width) (m .rd) (x (m .rs1)) (pairAt (m .width) x (m .rd)) (pairAt (m .width) x (m .rs2)) pc base mem
+  atomicBy (Rmw op) m x pc base mem covered = execAmo xlen misaligned op (m .width) (m .rd) (x (m .rs1)) (x (m .rs2)) pc base mem
 
   unfoldable pub execAtomic : Atomic → (ℕ → ℕ) → ℕ → ℕ → List ℕ → (ℕ → ℕ → Bool) → Exec
   execAtomic m x pc base mem covered = atomicBy (m .op) m x pc base mem covered

@@ -16,14 +16,14 @@ use Rattle.isa.specs.declared.StoreOp.the-variants.{Sb, Sh, Sw, Sd}
 use Rattle.effect.specs.Effect.{Exec, trap, effect, none, store, nextPc, sets}
 
 -- 01: causes 4 and 6, "address not aligned to its width", then 5 and 7, "bytes not wholly in memory": the cause of an access of n bytes at a,
--- or 0. misaligned is 4 or 6, outside is 5 or 7
+-- or 0. unaligned is 4 or 6 (of an atomic access, by the setting of 02 [11], also 5 or 7), outside is 5 or 7
 unfoldable pub faultOf : ℕ → ℕ → ℕ → ℕ → ℕ → ℕ → ℕ
-faultOf misaligned outside a n base len = cond (eqb (a % n) 0) (cond (insideOf base len a n) 0 outside) misaligned
+faultOf unaligned outside a n base len = cond (eqb (a % n) 0) (cond (insideOf base len a n) 0 outside) unaligned
 
 -- what e is, unless the access traps; the value is the address
 unfoldable pub checked : ℕ → ℕ → ℕ → ℕ → ℕ → ℕ → Exec → Exec
-checked misaligned outside a n base len e =
-    cond (eqb (faultOf misaligned outside a n base len) 0) e (trap (faultOf misaligned outside a n base len) a)
+checked unaligned outside a n base len e =
+    cond (eqb (faultOf unaligned outside a n base len) 0) e (trap (faultOf unaligned outside a n base len) a)
 
 -- the n bytes at address a, as a number
 unfoldable pub valueAt : ℕ → List ℕ → ℕ → ℕ → ℕ

@@ -92,13 +92,16 @@ itemB item = le (part item 16 8)
 abbrev pub withSettings : State → Settings → State
 withSettings s settings = record { count = s .count; settings = settings; x = s .x; pc = s .pc; res = s .res }
 
--- a state with another setting: number 0 is the size of a reservation's set, 1 the version of A, 2 the kind of core, and other numbers change nothing
+-- a state with another setting: number 0 is the size of a reservation's set, 1 the version of A, 2 the kind of core, 3 what a
+-- misaligned atomic access gives, and other numbers change nothing
 abbrev pub withSetting : State → ℕ → ℕ → State
 withSetting s n v =
-    cond (eqb n 0) (withSettings s (record { size = v; version = s .settings .version; kind = s .settings .kind }))
-    (cond (eqb n 1) (withSettings s (record { size = s .settings .size; version = v; kind = s .settings .kind }))
-    (cond (eqb n 2) (withSettings s (record { size = s .settings .size; version = s .settings .version; kind = v }))
-    s))
+    let t = s .settings in
+    cond (eqb n 0) (withSettings s (record { size = v; version = t .version; kind = t .kind; misaligned = t .misaligned }))
+    (cond (eqb n 1) (withSettings s (record { size = t .size; version = v; kind = t .kind; misaligned = t .misaligned }))
+    (cond (eqb n 2) (withSettings s (record { size = t .size; version = t .version; kind = v; misaligned = t .misaligned }))
+    (cond (eqb n 3) (withSettings s (record { size = t .size; version = t .version; kind = t .kind; misaligned = v }))
+    s)))
 
 -- a state with another register, pc or reservation
 abbrev pub withRegister : State → ℕ → ℕ → State

@@ -211,7 +211,7 @@ pub fn first(number: u64) -> Case
     }
 }
 
-// Setting 0 is the size of a reservation's set, 1 the version of A, and 2 the kind of core.
+// Setting 0 is the size of a reservation's set, 1 the version of A, 2 the kind of core, and 3 what a misaligned atomic access gives.
 fn set_setting(s: State, n: u64, v: u64) -> State
     ensures { λ r. ⌜ r ≡ withSetting s n v ⌝ }
 {
@@ -220,6 +220,7 @@ fn set_setting(s: State, n: u64, v: u64) -> State
         0 => settings.size = v,
         1 => settings.version = v,
         2 => settings.kind = v,
+        3 => settings.misaligned = v,
         _ => {}
     }
     let mut t = s;

@@ -56,6 +56,7 @@ fn settings(before: Settings, after: Settings) {
     number_line(b"size ", before.size, after.size);
     number_line(b"version ", before.version, after.version);
     number_line(b"kind ", before.kind, after.kind);
+    number_line(b"misaligned ", before.misaligned, after.misaligned);
 }
 
 fn register(i: usize, before: u64, after: u64) {

@@ -17,26 +17,26 @@ use Rattle.effect.specs.Memory.{faultOf, checked}
 use Rattle.effect.specs.Atomic.{swapped}
 use Rattle.effect.proofs.Sound.{fault-fine}
 
-module _ (misaligned outside a n base len : ℕ) where
+module _ (unaligned outside a n base len : ℕ) where
   -- cause is what the code found
-  module _ (cause : ℕ) (f : cause ≡ faultOf misaligned outside a n base len) where
-    pub room : 0 < misaligned → 0 < outside → cause ≡ 0 → Inside base len a n
-    room some more h = fault-fine misaligned outside a n base len some more (sym f ∙ h) .1
+  module _ (cause : ℕ) (f : cause ≡ faultOf unaligned outside a n base len) where
+    pub room : 0 < unaligned → 0 < outside → cause ≡ 0 → Inside base len a n
+    room some more h = fault-fine unaligned outside a n base len some more (sym f ∙ h) .1
 
     module _ (e : Exec) where
-      pub trapped : (cause ≡ 0 → ⊥) → trap cause a ≡ checked misaligned outside a n base len e
+      pub trapped : (cause ≡ 0 → ⊥) → trap cause a ≡ checked unaligned outside a n base len e
       unfolding checked
       trapped h = rw (← f, ne-eqb _ _ h) refl
 
-      pub passed : cause ≡ 0 → e ≡ checked misaligned outside a n base len e
+      pub passed : cause ≡ 0 → e ≡ checked unaligned outside a n base len e
       unfolding checked
       passed h = rw (← f, eq-eqb _ _ h) refl
 
-      pub met-trap : {h : ℕ} {mem : List ℕ} → (cause ≡ 0 → ⊥) → Meets h (checked misaligned outside a n base len e) base mem (Trap cause a) mem
+      pub met-trap : {h : ℕ} {mem : List ℕ} → (cause ≡ 0 → ⊥) → Meets h (checked unaligned outside a n base len e) base mem (Trap cause a) mem
       met-trap {h} {mem} is = subst (λ (x : Exec). Meets h x base mem (Trap cause a) mem) (trapped is) (record { answer = refl; memory = refl })
 
       pub met-done : {h : ℕ} {mem after : List ℕ} {r : Done} → cause ≡ 0 → Meets h e base mem r after
-          → Meets h (checked misaligned outside a n base len e) base mem r after
+          → Meets h (checked unaligned outside a n base len e) base mem r after
       met-done {h} {mem} {after} {r} is m = subst (λ (x : Exec). Meets h x base mem r after) (passed is) m
 
 -- the effect of a compare-and-swap of hart h, from what the code says of its answer and of memory

@@ -12,6 +12,7 @@ use Rattle.isa.specs.declared.Width.{Width}
 use Rattle.effect.specs.Effect.{Exec, trap, memoryBy}
 use Rattle.effect.specs.Integer.{execJump, execBranch}
 use Rattle.effect.specs.Memory.{faultOf, checked, loadBytes, execLoad}
+use Rattle.settings.specs.Settings.{lrCause}
 use Rattle.effect.specs.Atomic.{execLr}
 
 module _ (base : ℕ) (mem : List ℕ) where
@@ -19,11 +20,11 @@ module _ (base : ℕ) (mem : List ℕ) where
   Leaves : Exec → Type 0
   Leaves e = memoryBy base mem e ≡ mem
 
-  pub memoryBy-checked : (misaligned outside a n len : ℕ) (e : Exec) → memoryBy base mem e ≡ mem
-      → memoryBy base mem (checked misaligned outside a n base len e) ≡ mem
+  pub memoryBy-checked : (unaligned outside a n len : ℕ) (e : Exec) → memoryBy base mem e ≡ mem
+      → memoryBy base mem (checked unaligned outside a n base len e) ≡ mem
   unfolding checked Leaves
-  memoryBy-checked misaligned outside a n len e l =
-      cond-all Leaves (eqb (faultOf misaligned outside a n base len) 0) e (trap (faultOf misaligned outside a n base len) a) l refl
+  memoryBy-checked unaligned outside a n len e l =
+      cond-all Leaves (eqb (faultOf unaligned outside a n base len) 0) e (trap (faultOf unaligned outside a n base len) a) l refl
 
   module _ (xlen : ℕ) where
     pub memoryBy-jump : (rd to pc : ℕ) → memoryBy base mem (execJump xlen rd to pc) ≡ mem
@@ -39,6 +40,6 @@ module _ (base : ℕ) (mem : List ℕ) where
     unfolding execLoad
     memoryBy-load op rd a pc = memoryBy-checked 4 5 a (loadBytes op) (length mem) _ refl
 
-    pub memoryBy-lr : (w : Width) (rd a pc : ℕ) → memoryBy base mem (execLr xlen w rd a pc base mem) ≡ mem
+    pub memoryBy-lr : (misaligned : ℕ) (w : Width) (rd a pc : ℕ) → memoryBy base mem (execLr xlen misaligned w rd a pc base mem) ≡ mem
     unfolding execLr
-    memoryBy-lr w rd a pc = memoryBy-checked 4 5 a (bytesOf w) (length mem) _ refl
+    memoryBy-lr misaligned w rd a pc = memoryBy-checked (lrCause misaligned) 5 a (bytesOf w) (length mem) _ refl

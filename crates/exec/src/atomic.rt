@@ -1,4 +1,4 @@
-// LR, SC, AMO and AMOCAS of hart h. Those that write lend on only the bytes that they name.
+// LR, SC, AMO and AMOCAS of hart h. Those that write lend on only the bytes that they name. The setting misaligned gives the cause of a misaligned one.
 use crate::memory::fault;
 use crate::retire;
 use alu::integer::add;
@@ -13,6 +13,8 @@ use isa::pair_bytes_of;
 use reserve::Notice;
 use reserve::Reservation;
 use settings::Settings;
+use settings::amo_cause;
+use settings::lr_cause;
 use word::bytes::load_at;
 use word::bytes::store_at;
 use word::num::sign_extend;
@@ -27,12 +29,22 @@ ghost use Rattle.alu.specs.Pair.{joined};
 ghost use Rattle.effect.specs.Effect.{retired, doneOf, Meets, nextPc};
 ghost use Rattle.effect.specs.Atomic.{pairWrites, execLr, execSc, execAmo, execCas, execCasPair};
 
-pub fn lr(xlen: u32, w: Width, rd: usize, a: u64, pc: u64, base: u64, h: usize, mem: &[u8]) -> Done
+pub fn lr(
+    xlen: u32,
+    misaligned: u64,
+    w: Width,
+    rd: usize,
+    a: u64,
+    pc: u64,
+    base: u64,
+    h: usize,
+    mem: &[u8],
+) -> Done
     requires { ⌜ (bitsOf w ≤ xlen) × (xlen ≤ 64) ⌝ }
-    ensures { λ r. ⌜ r ≡ doneOf h (execLr xlen w rd a pc base (now (mem .entry))) ⌝ }
+    ensures { λ r. ⌜ r ≡ doneOf h (execLr xlen misaligned w rd a pc base (now (mem .entry))) ⌝ }
 {
     let n = bytes_of(w);
-    let cause = fault(4, 5, a, n, base, mem.len());
+    let cause = fault(lr_cause(misaligned), 5, a, n, base, mem.len());
     if cause != 0 {
         return Done::Trap { cause, value: a };
     }
@@ -66,10 +78,10 @@ pub fn sc(
     mem: &mut [u8],
 ) -> Done
     requires { ⌜ (xlen ≤ 64) × SizeRules settings ⌝ }
-    ensures { λ r. ⌜ Meets h (execSc xlen w rd a v pc base (now (mem .entry)) (coversOf settings res)) base (now (mem .entry)) r (now (mem .exit)) ⌝ }
+    ensures { λ r. ⌜ Meets h (execSc xlen (settings .misaligned) w rd a v pc base (now (mem .entry)) (coversOf settings res)) base (now (mem .entry)) r (now (mem .exit)) ⌝ }
 {
     let n = bytes_of(w);
-    let cause = fault(6, 7, a, n, base, mem.len());
+    let cause = fault(amo_cause(settings.misaligned), 7, a, n, base, mem.len());
     if cause != 0 {
         return Done::Trap { cause, value: a };
     }
@@ -92,6 +104,7 @@ pub fn sc(
 
 pub fn amo(
     xlen: u32,
+    misaligned: u64,
     op: AmoOp,
     w: Width,
     rd: usize,
@@ -103,11 +116,11 @@ pub fn amo(
     mem: &mut [u8],
 ) -> Done
     requires { ⌜ (bitsOf w ≤ xlen) × (xlen ≤ 64) ⌝ }
-    ensures { λ r. ⌜ Meets h (execAmo xlen op w rd a v pc base (now (mem .entry))) base (now (mem .entry)) r (now (mem .exit)) ⌝ }
+    ensures { λ r. ⌜ Meets h (execAmo xlen misaligned op w rd a v pc base (now (mem .entry))) base (now (mem .entry)) r (now (mem .exit)) ⌝ }
 {
     let n = bytes_of(w);
     let bits = bits_of(w);
-    let cause = fault(6, 7, a, n, base, mem.len());
+    let cause = fault(amo_cause(misaligned), 7, a, n, base, mem.len());
     if cause != 0 {
         return Done::Trap { cause, value: a };
     }
@@ -143,6 +156,7 @@ fn swap_notice(equal: bool, h: usize, a: u64, n: usize) -> Notice
 // AMOCAS.W, and AMOCAS.D where registers have 64 bits. W compares with the low half of want.
 pub fn cas(
     xlen: u32,
+    misaligned: u64,
     w: Width,
     rd: usize,
     a: u64,
@@ -154,11 +168,11 @@ pub fn cas(
     mem: &mut [u8],
 ) -> Done
     requires { ⌜ (bitsOf w ≤ xlen) × (xlen ≤ 64) ⌝ }
-    ensures { λ r. ⌜ Meets h (execCas xlen w rd a want new pc base (now (mem .entry))) base (now (mem .entry)) r (now (mem .exit)) ⌝ }
+    ensures { λ r. ⌜ Meets h (execCas xlen misaligned w rd a want new pc base (now (mem .entry))) base (now (mem .entry)) r (now (mem .exit)) ⌝ }
 {
     let n = bytes_of(w);
     let bits = bits_of(w);
-    let cause = fault(6, 7, a, n, base, mem.len());
+    let cause = fault(amo_cause(misaligned), 7, a, n, base, mem.len());
     if cause != 0 {
         return Done::Trap { cause, value: a };
     }
@@ -190,6 +204,7 @@ fn retire_pair(xlen: u32, w: Width, rd: usize, old: Pair, pc: u64, notice: Notic
 // AMOCAS.Q, and AMOCAS.D where registers have 32 bits.
 pub fn cas_pair(
     xlen: u32,
+    misaligned: u64,
     w: Width,
     rd: usize,
     a: u64,
@@ -201,10 +216,10 @@ pub fn cas_pair(
     mem: &mut [u8],
 ) -> Done
     requires { ⌜ (xlen ≤ 64) × (want .low < 2 ^ bitsOf w) × (new .low < 2 ^ bitsOf w) ⌝ }
-    ensures { λ r. ⌜ Meets h (execCasPair xlen w rd a (joined w want) (joined w new) pc base (now (mem .entry))) base (now (mem .entry)) r (now (mem .exit)) ⌝ }
+    ensures { λ r. ⌜ Meets h (execCasPair xlen misaligned w rd a (joined w want) (joined w new) pc base (now (mem .entry))) base (now (mem .entry)) r (now (mem .exit)) ⌝ }
 {
     let n = pair_bytes_of(w);
-    let cause = fault(6, 7, a, n, base, mem.len());
+    let cause = fault(amo_cause(misaligned), 7, a, n, base, mem.len());
     if cause != 0 {
         return Done::Trap { cause, value: a };
     }

@@ -12,13 +12,14 @@ ghost use Prim.Native.Nat.{ℕ, _*_, _≤_, _<_, _^_};
 ghost use Rattle.effect.specs.Effect.{doneOf, Meets};
 ghost use Rattle.effect.specs.Memory.{faultOf, loadBytes, extended, execLoad, storeBytes, execStore};
 
-// The cause of an access of n bytes at a that traps, or 0. The caller gives both causes: 4 and 5 for what loads, 6 and 7 for what stores.
-pub fn fault(misaligned: u64, outside: u64, a: u64, n: usize, base: u64, len: usize) -> u64
+// The cause of an access of n bytes at a that traps, or 0. The caller gives both causes: 4 and 5 for what loads, 6 and 7 for what stores; an atomic access
+// has the first by its setting.
+pub fn fault(unaligned: u64, outside: u64, a: u64, n: usize, base: u64, len: usize) -> u64
     requires { ⌜ 0 < n ⌝ }
-    ensures { λ r. ⌜ r ≡ faultOf misaligned outside a n base len ⌝ }
+    ensures { λ r. ⌜ r ≡ faultOf unaligned outside a n base len ⌝ }
 {
     if a % (n as u64) != 0 {
-        return misaligned;
+        return unaligned;
     }
     if reserve::inside(base, len as u64, a, n as u64) {
         return 0;

@@ -38,7 +38,7 @@ part-in mem place new k n fit h =
     ∙ ap (take n) (drop-append-add (take place mem) (new ++ rest) k ∙ drop-append-le k new rest (omega arith))
     ∙ take-append-le n (drop k new) rest more
 
-part-word : (vs : List ℕ) (i : ℕ) → i < length vs → part (wordBytes vs) (8 * i) 8 ≡ toLe 8 (getD vs i 0)
+pub part-word : (vs : List ℕ) (i : ℕ) → i < length vs → part (wordBytes vs) (8 * i) 8 ≡ toLe 8 (getD vs i 0)
 unfolding part wordBytes
 part-word [] i h = absurd (omega arith)
 part-word (v ∷ vs) zero h = take-at (toLe 8 v) (wordBytes vs) 8 (length-toLe 8 v)
@@ -250,7 +250,13 @@ module _ (bytes : List ℕ) (whole : length bytes ≡ stateSize) (s : State) (sh
 
   -- so they are the same settings
   settings-same : settingsIn (stateOver bytes s) ≡ settingsIn bytes
-  settings-same = rw (settings-kept 2312 8 (omega arith), settings-kept 2320 8 (omega arith), settings-kept 2328 8 (omega arith))
+  settings-same =
+      rw (
+        settings-kept 2312 8 (omega arith),
+        settings-kept 2320 8 (omega arith),
+        settings-kept 2328 8 (omega arith),
+        settings-kept 2336 8 (omega arith),
+      )
 
   -- a register or a pc that has the value its bytes had keeps its bytes
   module _ (isBytes : IsBytes bytes) where

@@ -11,7 +11,7 @@ use Rattle.word.specs.Bytes.{toLe}
 use Rattle.word.specs.Memory.{splice}
 use Rattle.word.specs.Each.{each}
 use Rattle.word.proofs.BytesLaws.{length-toLe}
-use Rattle.word.proofs.MemoryLaws.{drop-splice}
+use Rattle.word.proofs.MemoryLaws.{splice-none, splice-append}
 use Rattle.word.proofs.WordLaws.{split-lt}
 use Rattle.settings.specs.declared.Settings.{Settings}
 use Rattle.reserve.specs.declared.Reservation.{Reservation}
@@ -45,35 +45,6 @@ module _ {A : Type 0} where
   unfolding table
   each-table f [] = refl
   each-table f (a ∷ l) = ap (λ (t : List A). f 0 ∷ t) (each-table (λ k. f (suc k)) l)
-
--- ---- writes one behind the other
-
-pub splice-none : (mem : List ℕ) (place : ℕ) → splice mem place [] ≡ mem
-unfolding splice
-splice-none mem place = rw add-zero (take-append-drop place mem)
-
--- one that takes the place of all
-pub splice-whole : (mem new : List ℕ) → length new ≡ length mem → splice mem 0 new ≡ new
-unfolding splice
-splice-whole mem new e =
-    let none : drop (0 + length new) mem ≡ [] = drop-of-length-le mem {i = 0 + length new} (omega arith) in
-    rw none (append-nil new)
-
--- two of them are one
-pub splice-append : (mem : List ℕ) (place : ℕ) (xs ys : List ℕ) → place + length xs + length ys ≤ length mem
-    → splice (splice mem place xs) (place + length xs) ys ≡ splice mem place (xs ++ ys)
-unfolding splice
-splice-append mem place xs ys fit =
-    let rest = drop (place + length xs) mem in
-    let front : length (take place mem) ≡ place = length-take-le place mem (omega arith) in
-    let end : place + length xs + length ys ≡ place + length (xs ++ ys) = omega (arith, length-append xs ys) in
-    ap₂ (λ (l r : List ℕ). l ++ (ys ++ r))
-    (ap (λ (n : ℕ). take (n + length xs) (take place mem ++ (xs ++ rest))) (sym front)
-    ∙ take-append-add (take place mem) (xs ++ rest) (length xs)
-    ∙ ap (λ (l : List ℕ). take place mem ++ l) (take-append-seam xs rest))
-    (drop-splice mem place xs (omega arith) (length ys) ∙ ap (λ (n : ℕ). drop n mem) end)
-    ∙ append-assoc (take place mem) xs (ys ++ drop (place + length (xs ++ ys)) mem)
-    ∙ ap (λ (l : List ℕ). take place mem ++ l) (sym (append-assoc xs ys (drop (place + length (xs ++ ys)) mem)))
 
 -- ---- numbers as bytes
 

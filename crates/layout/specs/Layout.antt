@@ -1,4 +1,4 @@
--- A state as 2336 bytes. Every number has 8 bytes, the lowest first:
+-- A state as 2344 bytes. Every number has 8 bytes, the lowest first:
 --
 --      0   the count of harts
 --      8   x: register r of hart h at 8 + 8 * (32 * h + r)
@@ -7,6 +7,7 @@
 --   2312   the size of a reservation's set
 --   2320   the version of A
 --   2328   the kind of the core
+--   2336   misaligned: 0 where a misaligned LR, SC, AMO or AMOCAS gives cause 4 or 6, 1 where it gives 5 or 7
 use Prim.Native.Nat.{ℕ, zero, suc, _+_, _*_}
 use mathlib.Core.List.{List, [], _∷_, _++_}
 use lib.ListN.{take}
@@ -21,7 +22,7 @@ use Rattle.reserve.specs.declared.Slot.{Slot}
 use Rattle.machine.specs.declared.State.{State}
 
 abbrev pub stateSize : ℕ
-stateSize = 2336
+stateSize = 2344
 
 -- ---- what the bytes mean
 
@@ -40,6 +41,7 @@ settingsIn bytes =
       size = wordAt bytes 2312;
       version = wordAt bytes 2320;
       kind = wordAt bytes 2328;
+      misaligned = wordAt bytes 2336;
     }
 
 -- f 0, f 1 and so on: n elements

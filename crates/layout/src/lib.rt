@@ -1,4 +1,4 @@
-// A state kept as 2336 bytes at fixed offsets, as C and Rust keep it: specs/Layout.antt has the offsets.
+// A state kept as 2344 bytes at fixed offsets, as C and Rust keep it: specs/Layout.antt has the offsets.
 use machine::State;
 use reserve::Reservation;
 use reserve::Slot;
@@ -13,7 +13,7 @@ ghost use Rattle.reserve.specs.Reserve.{slot};
 ghost use Rattle.layout.specs.Layout.{stateSize, wordAt, reservationAt, settingsIn, table, stateIn, wordBytes, reservationWords, slotWords, stateOver};
 
 // How many bytes a state has.
-pub const STATE_SIZE: usize = 2336;
+pub const STATE_SIZE: usize = 2344;
 
 // Sets out to the numbers from a place on.
 pub fn load_words(bytes: &[u8], place: usize, out: &mut [u64])
@@ -69,6 +69,7 @@ fn load_settings(bytes: &[u8]) -> Settings
         size: load_at(bytes, 2312, 8),
         version: load_at(bytes, 2320, 8),
         kind: load_at(bytes, 2328, 8),
+        misaligned: load_at(bytes, 2336, 8),
     }
 }
 

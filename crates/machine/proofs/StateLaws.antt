@@ -1,4 +1,4 @@
--- The tests of refusals 1 and 2 say what the rules of 01, with 02 [5], [7] and [10], say. Assumes nothing.
+-- The tests of refusals 1 and 2 say what the rules of 01, with 02 [5], [7], [10] and [11], say. Assumes nothing.
 use mathlib.Core.Path.{_≡_, refl, sym, subst, fun-ext}
 use mathlib.Core.Logic.{_↔_, _⊎_, inl, inr, ⊎-elim}
 use mathlib.Core.Bool.{Bool, true, false, cond, _&&_, _||_}
@@ -11,9 +11,9 @@ use borrow.Author.Tests.{eqb-true, ltb-true, leb-true, eq-eqb, lt-ltb, le-leb}
 use Rattle.word.specs.Each.{allBelow}
 use Rattle.word.proofs.TestLaws.{bool-cases, contrary, and-both, or-either}
 use Rattle.word.proofs.EachLaws.{all-at, all-intro}
-use Rattle.settings.specs.Settings.{xlenOf, sizeOk, granuleOf, readingOk}
+use Rattle.settings.specs.Settings.{xlenOf, sizeOk, granuleOf, readingOk, misalignedOk}
 use Rattle.settings.specs.declared.Settings.{Settings}
-use Rattle.settings.proofs.SettingsLaws.{size-exact, reading-exact, granule-whole}
+use Rattle.settings.proofs.SettingsLaws.{size-exact, reading-exact, misaligned-exact, granule-whole}
 use Rattle.reserve.specs.Range.{Inside, setOf}
 use Rattle.reserve.specs.Reserve.{slot, coversOf}
 use Rattle.reserve.specs.declared.Reservation.{Reservation}
@@ -167,18 +167,21 @@ module _ (base len : ℕ) (s : State) where
     λ e.
         let p = and-both (leb 1 (s .count) && leb (s .count) 8) _ e in
         let q = and-both (leb 1 (s .count)) (leb (s .count) 8) (p .0) in
-        let v = and-both (readingOk (s .settings)) _ (p .1) in (
+        let v = and-both (readingOk (s .settings) && misalignedOk (s .settings)) _ (p .1) in
+        let w = and-both (readingOk (s .settings)) (misalignedOk (s .settings)) (v .0) in (
           leb-true 1 (s .count) (q .0),
           leb-true (s .count) 8 (q .1),
           λ k h.
               hart-exact k .0 (all-at (hartAt (s .settings) base len (s .x) (s .pc) (s .res)) k (s .count) (v .1) h),
-          reading-exact (s .settings) .0 (v .0),
+          reading-exact (s .settings) .0 (w .0),
+          misaligned-exact (s .settings) .0 (w .1),
         ),
     λ r.
         rw (
           le-leb 1 (s .count) (r .0),
           le-leb (s .count) 8 (r .1),
           reading-exact (s .settings) .1 (r .3),
+          misaligned-exact (s .settings) .1 (r .4),
           all-intro (hartAt (s .settings) base len (s .x) (s .pc) (s .res)) (s .count)
               (λ k h. hart-exact k .1 (r .2 k h)),
         ),

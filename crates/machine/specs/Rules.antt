@@ -1,10 +1,10 @@
--- The rules of 01, "The machine", with 02 [5], [7] and [10], without tests: what refusals 1 and 2 ask of a memory and a state, its settings among them.
+-- The rules of 01, "The machine", with 02 [5], [7], [10] and [11], without tests: what refusals 1 and 2 ask of a memory and a state, its settings among them.
 -- RULES 1.1, 1.2, 1.3, 1.6, 2.1.
 use mathlib.Core.Path.{_≡_}
 use mathlib.Core.Logic.{_⊎_}
 use Prim.Native.Nat.{ℕ, _+_, _*_, _%_, _^_, _≤_, _<_}
 use lib.ListN.{getD, length}
-use Rattle.settings.specs.Settings.{xlenOf, SizeRules, ReadingRules, granuleOf}
+use Rattle.settings.specs.Settings.{xlenOf, SizeRules, ReadingRules, MisalignedRules, granuleOf}
 use Rattle.settings.specs.declared.Settings.{Settings}
 use Rattle.reserve.specs.Range.{Inside}
 use Rattle.reserve.specs.Reserve.{slot}
@@ -52,11 +52,15 @@ HartRules base len s k =
     × ReservationRules (s .settings) base len (getD (s .res) k (slot None) .reservation)
     × (xlenOf (s .settings) ≡ 32 → UpperZero s k)
 
--- "1 to 8 harts"; only those below the count are looked at; 02 [7]: "any other version is 2", and so is a kind
--- that is neither of [10]'s
+-- "1 to 8 harts"; only those below the count are looked at; 02 [7]: "any other version is 2", and so is a kind that is neither of [10]'s; [11]: "any other
+-- value refusal 2"
 abbrev pub StateRules : ℕ → ℕ → State → Type 0
 StateRules base len s =
-    (1 ≤ s .count) × (s .count ≤ 8) × ((k : ℕ) → k < s .count → HartRules base len s k) × ReadingRules (s .settings)
+    (1 ≤ s .count)
+    × (s .count ≤ 8)
+    × ((k : ℕ) → k < s .count → HartRules base len s k)
+    × ReadingRules (s .settings)
+    × MisalignedRules (s .settings)
 
 -- the lengths of a state's arrays, which its type fixes
 pub record Shaped (s : State) : Type 0 where

@@ -1,4 +1,4 @@
--- Which memories and states are refused (refusals 1 and 2 of 01, with 02 [5], [7] and [10]).
+-- Which memories and states are refused (refusals 1 and 2 of 01, with 02 [5], [7], [10] and [11]).
 -- RULES 1.1, 1.2, 1.3, 1.6, 2.1.
 use Prim.Native.Nat.{ℕ, _+_, _*_, _%_, _^_}
 use mathlib.Core.Bool.{Bool, true, cond, _&&_, _||_}
@@ -6,7 +6,7 @@ use mathlib.Core.List.{List}
 use lib.Dec.{eqb, ltb, leb}
 use lib.ListN.{getD}
 use Rattle.word.specs.Each.{allBelow}
-use Rattle.settings.specs.Settings.{xlenOf, sizeOk, granuleOf, readingOk}
+use Rattle.settings.specs.Settings.{xlenOf, sizeOk, granuleOf, readingOk, misalignedOk}
 use Rattle.settings.specs.declared.Settings.{Settings}
 use Rattle.reserve.specs.Range.{insideOf}
 use Rattle.reserve.specs.Reserve.{slot}
@@ -55,10 +55,11 @@ hartAt settings base len x pc res k =
     hartOk settings base len (getD x (k * 32) 0) (getD pc k 0) (getD res k (slot None) .reservation) && upperOk settings x pc k
 
 -- 01: "1 to 8 harts"; "unused harts' fields aren't looked at"; 02 [7]: "any other version is 2", and so is a kind that is neither of
--- [10]'s
+-- [10]'s; [11]: "any other value refusal 2"
 unfoldable pub stateOk : ℕ → ℕ → State → Bool
 stateOk base len s =
-    (leb 1 (s .count) && leb (s .count) 8) && (readingOk (s .settings) && allBelow (hartAt (s .settings) base len (s .x) (s .pc) (s .res)) (s .count))
+    (leb 1 (s .count) && leb (s .count) 8)
+    && ((readingOk (s .settings) && misalignedOk (s .settings)) && allBelow (hartAt (s .settings) base len (s .x) (s .pc) (s .res)) (s .count))
 
 -- the first of refusals 1 and 2 that applies, or 0
 unfoldable pub refusalOf : ℕ → ℕ → State → ℕ

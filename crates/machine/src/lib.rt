@@ -140,7 +140,7 @@ pub fn refusal<'a>(
     if 8 < count {
         return 2;
     }
-    if !settings::reading_ok(settings) {
+    if !(settings::reading_ok(settings) & settings::misaligned_ok(settings)) {
         return 2;
     }
     if harts_ok(settings, base, len, count, x, pc, res) {

@@ -10,7 +10,7 @@ use lib.ListN.{length, getD, set, take}
 use borrow.Author.Tests.{ltb-true}
 use Rattle.word.specs.Each.{each}
 use Rattle.word.proofs.TestLaws.{bool-cases, contrary}
-use Rattle.settings.specs.Settings.{ReadingRules, xlenOf}
+use Rattle.settings.specs.Settings.{ReadingRules, MisalignedRules, xlenOf}
 use Rattle.settings.specs.declared.Settings.{Settings}
 use Rattle.reserve.specs.Reserve.{slot, observeSlot, brokenOf, observeAllOf}
 use Rattle.reserve.specs.declared.Reservation.the-variants.{None}
@@ -159,6 +159,7 @@ module _ (base len : ℕ) where
           λ e. upper-agree s t a k l (h .3 (ap xlenOf (a .settings) ∙ e)),
         ),
     subst ReadingRules (a .settings) (r .3),
+    subst MisalignedRules (a .settings) (r .4),
   )
 
   pub refusal-agree : (s t : State) → Agree s t → refusalOf base len s ≡ refusalOf base len t

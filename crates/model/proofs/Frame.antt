@@ -38,7 +38,7 @@ use Rattle.effect.specs.Sound.{AccessOk}
 use Rattle.events.specs.declared.Event.{Event}
 use Rattle.events.specs.declared.Event.the-variants.{Step, Device, Yield as YieldOf}
 use Rattle.model.specs.Act.{Act, refuse, fault, change, put, release, actNotice, setReg, written, registersAfter, pcsAfter, apply, leaves}
-use Rattle.model.specs.Perform.{Machine, reservationOf, fetchOf, stepOf, ofExec, deviceOf, actOn, actOf, answerOf, memoryOf, nextOf, runOf, xlen}
+use Rattle.model.specs.Perform.{Machine, reservationOf, fetchOf, stepOf, ofExec, deviceOf, actOn, actOf, answerOf, memoryOf, nextOf, runOf, xlen, misaligned}
 use Rattle.model.specs.Valid.{Valid, ActOk}
 use Rattle.model.specs.Trace.{noticeAt, WritesInto, NotBy}
 use Rattle.model.specs.Fetch.{Fetches}
@@ -306,7 +306,7 @@ module _ (base : ℕ) (m : Machine) (v : Valid base m) (h : ℕ) (u : h < m .sta
   pub step-act : (i : Instr) → (f : Fetches base m h i)
       → actOf base (m .mem) (m .state) (Step h)
       ≡ ofExec h
-      (execute (xlen m) i (valueAt base (m .mem) (getD (m .state .pc) h 0) 4) (regAt (m .state .x) h) (getD (m .state .pc) h 0) base (m .mem)
+      (execute (xlen m) (misaligned m) i (valueAt base (m .mem) (getD (m .state .pc) h 0) 4) (regAt (m .state .x) h) (getD (m .state .pc) h 0) base (m .mem)
       (coversOf (m .state .settings) (reservationOf (m .state) h)))
   unfolding actOn fetchOf executeWord
   step-act i f =

@@ -145,15 +145,17 @@ module _ (base len : ℕ) where
       upper-kept s h ws to k (f .0) (f .1 .0) (r .2 k l .3),
     ),
     r .3,
+    r .4,
   )
   apply-rules s (put a bs) o f r = (
     r .0,
     r .1,
     λ k l. (r .2 k l .0, r .2 k l .1, noticed-ok (s .settings) base len s (DeviceWrite a (length bs)) k tt l (r .2 k l .2), r .2 k l .3),
     r .3,
+    r .4,
   )
   apply-rules s (release h) o f r =
-      (r .0, r .1, λ k l. (r .2 k l .0, r .2 k l .1, noticed-ok (s .settings) base len s (Yield h) k tt l (r .2 k l .2), r .2 k l .3), r .3)
+      (r .0, r .1, λ k l. (r .2 k l .0, r .2 k l .1, noticed-ok (s .settings) base len s (Yield h) k tt l (r .2 k l .2), r .2 k l .3), r .3, r .4)
 
 -- and the memory's length
 pub length-leaves : (base : ℕ) (mem : List ℕ) (act : Act) → ActOk base (length mem) act → length (leaves base mem act) ≡ length mem
@@ -173,7 +175,8 @@ module _ (base : ℕ) (mem : List ℕ) (s : State) (sr : StateRules base (length
   unfolding fetchOf
   fetch-sound h l =
       cond-all (Sound base (length mem)) (insideOf base (length mem) (getD (s .pc) h 0) 4) _ (trap 1 (getD (s .pc) h 0))
-      (sound (xlenOf (s .settings)) (valueAt base mem (getD (s .pc) h 0) 4) (regAt (s .x) h) (getD (s .pc) h 0) base mem (coversOf (s .settings) (reservationOf s h))
+      (sound (xlenOf (s .settings)) (s .settings .misaligned) (valueAt base mem (getD (s .pc) h 0) 4) (regAt (s .x) h) (getD (s .pc) h 0) base mem
+      (coversOf (s .settings) (reservationOf s h))
       (omega (arith, xlen-bounds _ (xlen-is (s .settings)) .0)) (sr .2 h l .1)) tt
 
   pub act-ok : (e : Event) → ActOk base (length mem) (actOn base mem s e)
@@ -198,7 +201,7 @@ module _ (base : ℕ) (mem : List ℕ) (s : State) where
   step-fits h =
       let pc = getD (s .pc) h 0 in
       cond-all (Fits (xlenOf (s .settings))) (insideOf base (length mem) pc 4) _ (trap 1 pc)
-      (fits (xlenOf (s .settings)) (xlen-is (s .settings)) (valueAt base mem pc 4) (regAt (s .x) h) pc base mem
+      (fits (xlenOf (s .settings)) (s .settings .misaligned) (xlen-is (s .settings)) (valueAt base mem pc 4) (regAt (s .x) h) pc base mem
       (coversOf (s .settings) (reservationOf s h))) tt
 
   pub act-fits : (e : Event) → ActFits (xlenOf (s .settings)) (actOn base mem s e)

@@ -27,16 +27,16 @@ use Rattle.model.specs.declared.Answer.{Answer}
 abbrev pub reservationOf : State → ℕ → Reservation
 reservationOf s h = getD (s .res) h (slot None) .reservation
 
--- 01: cause 1, "the word at pc isn't wholly in memory", value "pc"; then what the word there does at a register width of xlen bits. x gives the hart's
--- registers
-unfoldable pub fetchOf : ℕ → (ℕ → ℕ) → ℕ → ℕ → List ℕ → (ℕ → ℕ → Bool) → Exec
-fetchOf xlen x pc base mem covered =
-    cond (insideOf base (length mem) pc 4) (executeWord xlen (valueAt base mem pc 4) x pc base mem covered) (trap 1 pc)
+-- 01: cause 1, "the word at pc isn't wholly in memory", value "pc"; then what the word there does at a register width of xlen bits and with the setting
+-- misaligned. x gives the hart's registers
+unfoldable pub fetchOf : ℕ → ℕ → (ℕ → ℕ) → ℕ → ℕ → List ℕ → (ℕ → ℕ → Bool) → Exec
+fetchOf xlen misaligned x pc base mem covered =
+    cond (insideOf base (length mem) pc 4) (executeWord xlen misaligned (valueAt base mem pc 4) x pc base mem covered) (trap 1 pc)
 
 -- hart h's step
 abbrev pub stepOf : ℕ → List ℕ → State → ℕ → Exec
 stepOf base mem s h =
-    fetchOf (xlenOf (s .settings)) (regAt (s .x) h) (getD (s .pc) h 0) base mem (coversOf (s .settings) (reservationOf s h))
+    fetchOf (xlenOf (s .settings)) (s .settings .misaligned) (regAt (s .x) h) (getD (s .pc) h 0) base mem (coversOf (s .settings) (reservationOf s h))
 
 abbrev pub ofExec : ℕ → Exec → Act
 ofExec h (trap cause value) = fault cause value
@@ -74,6 +74,10 @@ version m = m .state .settings .version
 -- the bits of registers, the pc and addresses
 abbrev pub xlen : Machine → ℕ
 xlen m = xlenOf (m .state .settings)
+
+-- what a misaligned LR, SC, AMO or AMOCAS gives: 0 for causes 4 and 6, 1 for 5 and 7
+abbrev pub misaligned : Machine → ℕ
+misaligned m = m .state .settings .misaligned
 
 -- the answer to an event, with the harts whose reservation it broke and the state, and the memory afterwards
 unfoldable pub answerOf : ℕ → List ℕ → State → Event → Answer

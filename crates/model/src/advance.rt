@@ -32,7 +32,8 @@ fn fetch(
 ) -> Done
     requires { ⌜ (h < 8) × SizeRules settings ⌝ }
     ensures { λ r. ⌜
-        Meets h (fetchOf (xlenOf settings) (regAt (now (x .entry)) h) pc base (now (mem .entry)) (coversOf settings res)) base (now (mem .entry)) r (now (mem .exit))
+        Meets h (fetchOf (xlenOf settings) (settings .misaligned) (regAt (now (x .entry)) h) pc base (now (mem .entry)) (coversOf settings res))
+        base (now (mem .entry)) r (now (mem .exit))
         ⌝ }
 {
     if !reserve::inside(base, mem.len() as u64, pc, 4) {

@@ -29,7 +29,8 @@ use Rattle.effect.specs.Execute.{regAt, pairAt, atomicBy, execAtomic, execute, 
 use Rattle.events.specs.declared.Event.{Event}
 use Rattle.events.specs.declared.Event.the-variants.{Step, Yield}
 use Rattle.model.specs.Act.{Act, refuse, release, actNotice, outcomeOf}
-use Rattle.model.specs.Perform.{Machine, xlen, reservationOf, fetchOf, ofExec, actOn, actOf, answerOf, outcomeAt}
+use Rattle.settings.specs.Settings.{amoCause}
+use Rattle.model.specs.Perform.{Machine, xlen, misaligned, reservationOf, fetchOf, ofExec, actOn, actOf, answerOf, outcomeAt}
 use Rattle.model.specs.Valid.{Valid}
 use Rattle.model.specs.Trace.{noticeAt, WritesInto}
 use Rattle.model.specs.Retired.{IsRetired, Traps, Refuses}
@@ -61,11 +62,11 @@ NotPlain (O.Refused number) = Unit {0}
 Ends : ℕ → Exec → Type 0
 Ends h e = NotPlain (outcomeOf (ofExec h e))
 
-sc-ends : (xlen h : ℕ) (i : Atomic) (a v pc base : ℕ) (mem : List ℕ) (covered : ℕ → ℕ → Bool)
-    → Ends h (execSc xlen (i .width) (i .rd) a v pc base mem covered)
+sc-ends : (xlen misaligned h : ℕ) (i : Atomic) (a v pc base : ℕ) (mem : List ℕ) (covered : ℕ → ℕ → Bool)
+    → Ends h (execSc xlen misaligned (i .width) (i .rd) a v pc base mem covered)
 unfolding execSc checked Ends NotPlain
-sc-ends xlen h i a v pc base mem covered =
-    cond-all (Ends h) (eqb (faultOf 6 7 a (bytesOf (i .width)) base (length mem)) 0) _ _ (cond-all (Ends h) (covered a (bytesOf (i .width))) _ _ tt tt) tt
+sc-ends xlen misaligned h i a v pc base mem covered =
+    cond-all (Ends h) (eqb (faultOf (amoCause misaligned) 7 a (bytesOf (i .width)) base (length mem)) 0) _ _ (cond-all (Ends h) (covered a (bytesOf (i .width))) _ _ tt tt) tt
 
 -- an instruction that neither reserves nor writes tells nothing
 module _ (base : ℕ) (m : Machine) (h : ℕ) (x : ℕ → ℕ) (o : Outcome) where
@@ -95,7 +96,7 @@ module _ (base : ℕ) (m : Machine) (v : Valid base m) where
   fetched h l =
       let q : IsRetired (outcomeOf (actOn base (m .mem) (m .state) (Step h))) = rw (act-valid base m v (Step h)) at l in
       go (ltb h (m .state .count)) refl (insideOf base (length (m .mem)) (getD (m .state .pc) h 0) 4) refl
-      (executeWord (xlen m) (valueAt base (m .mem) (getD (m .state .pc) h 0) 4) (regAt (m .state .x) h) (getD (m .state .pc) h 0) base (m .mem)
+      (executeWord (xlen m) (misaligned m) (valueAt base (m .mem) (getD (m .state .pc) h 0) 4) (regAt (m .state .x) h) (getD (m .state .pc) h 0) base (m .mem)
       (coversOf (m .state .settings) (reservationOf (m .state) h))) q
     where
       go : (s : Bool) → ltb h (m .state .count) ≡ s → (t : Bool) → insideOf base (length (m .mem)) (getD (m .state .pc) h 0) 4 ≡ t
@@ -123,7 +124,7 @@ module _ (base : ℕ) (m : Machine) (v : Valid base m) where
 
       performs : actOf base (m .mem) (m .state) e
           ≡ ofExec h
-          (execute (xlen m) i (valueAt base (m .mem) (getD (m .state .pc) h 0) 4) (regAt (m .state .x) h) (getD (m .state .pc) h 0) base (m .mem)
+          (execute (xlen m) (misaligned m) i (valueAt base (m .mem) (getD (m .state .pc) h 0) 4) (regAt (m .state .x) h) (getD (m .state .pc) h 0) base (m .mem)
           (coversOf (m .state .settings) (reservationOf (m .state) h)))
       performs = ap (actOf base (m .mem) (m .state)) (r .theStep) ∙ step-act base m v h (fetched h answers .0) i (r .fetches)
 
@@ -181,7 +182,7 @@ module _ (base : ℕ) (m : Machine) (v : Valid base m) where
 
     module _ (h : ℕ) where
       performs-sc : (i : Atomic) → Retires base m e h (Amo i) → i .op ≡ Sc → Ends h
-          (execSc (xlen m) (i .width) (i .rd) (atomicAddress m h i) (regAt (m .state .x) h (i .rs2)) (getD (m .state .pc) h 0) base (m .mem)
+          (execSc (xlen m) (misaligned m) (i .width) (i .rd) (atomicAddress m h i) (regAt (m .state .x) h (i .rs2)) (getD (m .state .pc) h 0) base (m .mem)
           (coversOf (m .state .settings) (reservationOf (m .state) h)))
           → NotPlain (outcomeAt base m e)
       unfolding answerOf execute execAtomic Ends
@@ -191,13 +192,13 @@ module _ (base : ℕ) (m : Machine) (v : Valid base m) where
           (performs h (Amo i) r
           ∙ ap
           (λ (op : AtomicOp).
-          ofExec h (atomicBy (xlen m) op i (regAt (m .state .x) h) (getD (m .state .pc) h 0) base (m .mem)
+          ofExec h (atomicBy (xlen m) (misaligned m) op i (regAt (m .state .x) h) (getD (m .state .pc) h 0) base (m .mem)
           (coversOf (m .state .settings) (reservationOf (m .state) h)))) q)))
           n
 
       plain-sc : (i : Atomic) → Retires base m e h (Amo i) → i .op ≡ Sc → outcomeAt base m e ≡ O.Retired → ⊥
       unfolding NotPlain
-      plain-sc i r q p = subst NotPlain p (performs-sc i r q (sc-ends (xlen m) h i _ _ _ _ _ _))
+      plain-sc i r q p = subst NotPlain p (performs-sc i r q (sc-ends (xlen m) (misaligned m) h i _ _ _ _ _ _))
 
       from-sc : (i : Atomic) → Retires base m e h (Amo i) → i .op ≡ Sc → (o : Outcome) → outcomeAt base m e ≡ o
           → ComesFrom base m e (scNotice h (regAt (m .state .x) h) base (m .mem) (atomicAddress m h i) (atomicSize i) o)

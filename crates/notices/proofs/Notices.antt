@@ -29,7 +29,8 @@ use Rattle.effect.specs.Execute.{regAt, pairAt, atomicBy, execAtomic, execute}
 use Rattle.events.specs.declared.Event.{Event}
 use Rattle.events.specs.declared.Event.the-variants.{Step, Device, Yield as YieldOf}
 use Rattle.model.specs.Act.{Act, refuse, fault, change, put, release, actNotice, outcomeOf}
-use Rattle.model.specs.Perform.{Machine, xlen, reservationOf, ofExec, deviceOf, actOn, actOf, answerOf, outcomeAt}
+use Rattle.settings.specs.Settings.{lrCause, amoCause}
+use Rattle.model.specs.Perform.{Machine, xlen, misaligned, reservationOf, ofExec, deviceOf, actOn, actOf, answerOf, outcomeAt}
 use Rattle.model.specs.Valid.{Valid}
 use Rattle.model.specs.Retired.{IsRetired, Traps, Refuses}
 use Rattle.model.specs.Trace.{noticeAt}
@@ -50,10 +51,10 @@ module _ (h : ℕ) where
   unfolding Tells
   trapped n cause value d = absurd (d (cause, value, refl))
 
-  access : (n : Outcome → Notice) (misaligned outside a k base len : ℕ) (e : Exec) → Tells n e → Tells n (checked misaligned outside a k base len e)
+  access : (n : Outcome → Notice) (unaligned outside a k base len : ℕ) (e : Exec) → Tells n e → Tells n (checked unaligned outside a k base len e)
   unfolding checked
-  access n misaligned outside a k base len e p =
-      cond-cases (Tells n) (eqb (faultOf misaligned outside a k base len) 0) e _ (λ t. p) (λ f. trapped n (faultOf misaligned outside a k base len) a)
+  access n unaligned outside a k base len e p =
+      cond-cases (Tells n) (eqb (faultOf unaligned outside a k base len) 0) e _ (λ t. p) (λ f. trapped n (faultOf unaligned outside a k base len) a)
 
   silent : (ws : Writes) (to : ℕ) → Tells (λ (o : Outcome). Quiet) (effect ws to nothing)
   unfolding Tells
@@ -74,29 +75,29 @@ module _ (h : ℕ) where
       go true = stores ws to a k new
       go false = silent ws to
 
-  module _ (xlen : ℕ) (x : ℕ → ℕ) (pc base : ℕ) (mem : List ℕ) (covered : ℕ → ℕ → Bool) where
-    tells-sc : (i : Atomic) → Tells (atomicNotice h x base mem Sc i) (atomicBy xlen Sc i x pc base mem covered)
+  module _ (xlen misaligned : ℕ) (x : ℕ → ℕ) (pc base : ℕ) (mem : List ℕ) (covered : ℕ → ℕ → Bool) where
+    tells-sc : (i : Atomic) → Tells (atomicNotice h x base mem Sc i) (atomicBy xlen misaligned Sc i x pc base mem covered)
     unfolding execSc Tells
     tells-sc i =
-        access (atomicNotice h x base mem Sc i) 6 7 (x (i .rs1)) (bytesOf (i .width)) base (length mem) _
+        access (atomicNotice h x base mem Sc i) (amoCause misaligned) 7 (x (i .rs1)) (bytesOf (i .width)) base (length mem) _
         (cond-cases (Tells (atomicNotice h x base mem Sc i)) (covered (x (i .rs1)) (bytesOf (i .width))) _ _
         (λ c d. ap (λ (j : ℕ). ScStored h (x (i .rs1)) j) (length-toLe (bytesOf (i .width)) (x (i .rs2)))) (λ c d. refl))
 
-    tells-atomic : (op : AtomicOp) (i : Atomic) → Tells (atomicNotice h x base mem op i) (atomicBy xlen op i x pc base mem covered)
+    tells-atomic : (op : AtomicOp) (i : Atomic) → Tells (atomicNotice h x base mem op i) (atomicBy xlen misaligned op i x pc base mem covered)
     unfolding execLr execAmo execCas execCasPair
     tells-atomic Lr i =
-        access (atomicNotice h x base mem Lr i) 4 5 (x (i .rs1)) (bytesOf (i .width)) base (length mem) _
+        access (atomicNotice h x base mem Lr i) (lrCause misaligned) 5 (x (i .rs1)) (bytesOf (i .width)) base (length mem) _
         (reserves _ _ (x (i .rs1)) (bytesOf (i .width)))
     tells-atomic Sc i = tells-sc i
     tells-atomic Cas i =
-        access (atomicNotice h x base mem Cas i) 6 7 (x (i .rs1)) (bytesOf (i .width)) base (length mem) _
+        access (atomicNotice h x base mem Cas i) (amoCause misaligned) 7 (x (i .rs1)) (bytesOf (i .width)) base (length mem) _
         (swaps _ _ (x (i .rs1)) (bytesOf (i .width)) (valueAt base mem (x (i .rs1)) (bytesOf (i .width))) (low (bitsOf (i .width)) (x (i .rd))) (x (i .rs2)))
     tells-atomic CasPair i =
         let n = pairBytes (i .width) in
-        access (atomicNotice h x base mem CasPair i) 6 7 (x (i .rs1)) n base (length mem) _
+        access (atomicNotice h x base mem CasPair i) (amoCause misaligned) 7 (x (i .rs1)) n base (length mem) _
         (swaps _ _ (x (i .rs1)) n (valueAt base mem (x (i .rs1)) n) (pairAt (i .width) x (i .rd)) (pairAt (i .width) x (i .rs2)))
     tells-atomic (Rmw op) i =
-        access (atomicNotice h x base mem (Rmw op) i) 6 7 (x (i .rs1)) (bytesOf (i .width)) base (length mem) _ (stores _ _ (x (i .rs1)) (bytesOf (i .width)) _)
+        access (atomicNotice h x base mem (Rmw op) i) (amoCause misaligned) 7 (x (i .rs1)) (bytesOf (i .width)) base (length mem) _ (stores _ _ (x (i .rs1)) (bytesOf (i .width)) _)
 
     tells-jump : (rd to : ℕ) → Tells (λ (o : Outcome). Quiet) (execJump xlen rd to pc)
     unfolding execJump
@@ -107,7 +108,7 @@ module _ (h : ℕ) where
     tells-branch true to = cond-cases (Tells (λ (o : Outcome). Quiet)) (eqb (to % 4) 0) _ _ (λ t. silent _ _) (λ f. trapped (λ (o : Outcome). Quiet) 0 to)
     tells-branch false to = silent _ _
 
-    tells : (i : Instr) (word : ℕ) → Tells (noticeBy xlen h x base mem i) (execute xlen i word x pc base mem covered)
+    tells : (i : Instr) (word : ℕ) → Tells (noticeBy xlen h x base mem i) (execute xlen misaligned i word x pc base mem covered)
     unfolding execute execAtomic execLoad execStore
     tells Illegal word = trapped (noticeBy xlen h x base mem Illegal) 2 word
     tells Ecall word = trapped (noticeBy xlen h x base mem Ecall) 8 0
@@ -161,7 +162,7 @@ module _ (base : ℕ) (m : Machine) (v : Valid base m) where
       subst
       (λ (act : Act). (Traps (outcomeOf act) → ⊥) → actNotice act ≡ noticeBy (xlen m) h (regAt (m .state .x) h) base (m .mem) i (outcomeOf act))
       (sym (step-act base m v h u i f))
-      (tells h (xlen m) (regAt (m .state .x) h) (getD (m .state .pc) h 0) base (m .mem) (coversOf (m .state .settings) (reservationOf (m .state) h)) i
+      (tells h (xlen m) (misaligned m) (regAt (m .state .x) h) (getD (m .state .pc) h 0) base (m .mem) (coversOf (m .state .settings) (reservationOf (m .state) h)) i
       (valueAt base (m .mem) (getD (m .state .pc) h 0) 4))
 
   -- a device write that isn't refused, its address and number of bytes

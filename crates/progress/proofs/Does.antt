@@ -13,7 +13,8 @@ use Rattle.word.specs.Word.{low, signExtend}
 use Rattle.word.proofs.WordLaws.{low-low}
 use Rattle.word.specs.Bytes.{toLe}
 use Rattle.word.proofs.TestLaws.{bool-cases}
-use Rattle.settings.specs.Settings.{atVersion}
+use Rattle.settings.specs.Settings.{atVersion, lrCause}
+use Rattle.settings.proofs.SettingsLaws.{lr-cause-some}
 use Rattle.settings.specs.declared.Settings.{Settings}
 use Rattle.reserve.specs.Range.{Inside}
 use Rattle.isa.specs.Width.{bitsOf, bytesOf}
@@ -82,7 +83,7 @@ module _ (xlen : ℕ) (enough : 2 ≤ xlen) (pc : ℕ) (aligned : pc % 4 ≡ 0) 
   branches true off o = inr (by-none _ (offset xlen pc off) nothing (branch-taken xlen pc (offset xlen pc off) (lands off o)))
   branches false off o = inl (by-none _ (offset xlen pc 4) nothing (branch-passed xlen pc (offset xlen pc off)))
 
-  module _ (word : ℕ) (x : ℕ → ℕ) (base : ℕ) (mem : List ℕ) (covered : ℕ → ℕ → Bool) where
+  module _ (misaligned word : ℕ) (x : ℕ → ℕ) (base : ℕ) (mem : List ℕ) (covered : ℕ → ℕ → Bool) where
     does-atomic : (op : AtomicOp) (a : Atomic) (e : Exec) → Does xlen (atomicView op a) pc e
     does-atomic A.Lr a e = tt
     does-atomic A.Sc a e = tt
@@ -90,7 +91,7 @@ module _ (xlen : ℕ) (enough : 2 ≤ xlen) (pc : ℕ) (aligned : pc % 4 ≡ 0) 
     does-atomic A.CasPair a e = tt
     does-atomic (A.Rmw op) a e = tt
 
-    pub does : (settings : Settings) (i : Instr) → Regs i → Does xlen (viewOf (atVersion 21 settings) i) pc (execute xlen i word x pc base mem covered)
+    pub does : (settings : Settings) (i : Instr) → Regs i → Does xlen (viewOf (atVersion 21 settings) i) pc (execute xlen misaligned i word x pc base mem covered)
     unfolding viewOf execute
     does settings I.Illegal r = tt
     does settings (I.Lui rd imm) r = computes rd _ r
@@ -112,18 +113,18 @@ module _ (xlen : ℕ) (enough : 2 ≤ xlen) (pc : ℕ) (aligned : pc % 4 ≡ 0) 
     -- an LR whose bytes are aligned and in memory
     pub does-lr : (a : Atomic) → a .op ≡ A.Lr → Regs (I.Amo a) → x (a .rs1) % bytesOf (a .width) ≡ 0
         → Inside base (length mem) (x (a .rs1)) (bytesOf (a .width))
-        → Moves (execute xlen (I.Amo a) word x pc base mem covered) (a .rd) (offset xlen pc 4) (reserve (x (a .rs1)) (bytesOf (a .width)))
+        → Moves (execute xlen misaligned (I.Amo a) word x pc base mem covered) (a .rd) (offset xlen pc 4) (reserve (x (a .rs1)) (bytesOf (a .width)))
     unfolding execute execAtomic execLr
     does-lr a q r al i =
         let v = signExtend xlen (bitsOf (a .width)) (valueAt base mem (x (a .rs1)) (bytesOf (a .width))) in
         by-one _ (a .rd) v (offset xlen pc 4) _ (r .0)
-        (rw q (access-retires 4 5 (x (a .rs1)) (bytesOf (a .width)) base (length mem) (omega arith) (omega arith) _ al i))
+        (rw q (access-retires (lrCause misaligned) 5 (x (a .rs1)) (bytesOf (a .width)) base (length mem) (lr-cause-some misaligned) (omega arith) _ al i))
 
     -- an SC of n bytes at addr, aligned, in memory and covered
     pub does-sc : (a : Atomic) → a .op ≡ A.Sc → (addr n : ℕ) → x (a .rs1) ≡ addr → bytesOf (a .width) ≡ n → addr % n ≡ 0
         → Inside base (length mem) addr n → covered addr n ≡ true
-        → execute xlen (I.Amo a) word x pc base mem covered ≡ effect (one (a .rd) 0) (nextPc xlen pc) (scStored addr (toLe n (x (a .rs2))))
+        → execute xlen misaligned (I.Amo a) word x pc base mem covered ≡ effect (one (a .rd) 0) (nextPc xlen pc) (scStored addr (toLe n (x (a .rs2))))
     unfolding execute execAtomic
     does-sc a q addr n s l al i c =
-        rw q (exec-sc-stored xlen pc (a .width) (a .rd) (x (a .rs1)) (x (a .rs2)) base mem covered (rw (s, l) al) (rw (s, l) i) (rw (s, l) c)
+        rw q (exec-sc-stored xlen pc misaligned (a .width) (a .rd) (x (a .rs1)) (x (a .rs2)) base mem covered (rw (s, l) al) (rw (s, l) i) (rw (s, l) c)
         ∙ ap₂ (λ (b k : ℕ). effect (one (a .rd) 0) (nextPc xlen pc) (scStored b (toLe k (x (a .rs2))))) s l)

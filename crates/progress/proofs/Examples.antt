@@ -14,7 +14,7 @@ use Rattle.word.specs.Bytes.{le, toLe}
 use Rattle.word.specs.Memory.{part, splice}
 use Rattle.word.specs.Each.{allBelow}
 use Rattle.word.proofs.TestLaws.{contrary}
-use Rattle.settings.specs.Settings.{defaults, ofVersion, ofKind, atVersion, xlenOf, sizeOk, versionOk, kindOk, readingOk}
+use Rattle.settings.specs.Settings.{defaults, ofVersion, ofKind, atVersion, xlenOf, sizeOk, versionOk, kindOk, readingOk, misalignedOk, lrCause, amoCause}
 use Rattle.settings.proofs.SettingsLaws.{xlen-64, defaults-64}
 use Rattle.settings.specs.declared.Settings.{Settings}
 use Rattle.reserve.specs.Range.{Touch, touches, insideOf, setOf}
@@ -107,7 +107,7 @@ reading = tt
 
 -- refusing a state,
 refusing : Unit {0}
-unfolding insideOf allBelow xlenOf sizeOk versionOk kindOk readingOk lentOk topOk memoryOk reservationOk hartOk upperOk stateOk refusalOf
+unfolding insideOf allBelow xlenOf sizeOk versionOk kindOk readingOk misalignedOk lentOk topOk memoryOk reservationOk hartOk upperOk stateOk refusalOf
 refusing = tt
 
 -- checking a loop,
@@ -118,7 +118,7 @@ checking = tt
 -- and running events
 running : Unit {0}
 unfolding reading refusing splice regAt setReg touches coversOf breaksOf ownOf observeOf observeAllOf
-    holdsOf execBranch faultOf checked execLr execSc execAtomic execute executeWord apply leaves fetchOf deviceOf actOn actOf answerOf memoryOf nextOf runOf
+    holdsOf execBranch lrCause amoCause faultOf checked execLr execSc execAtomic execute executeWord apply leaves fetchOf deviceOf actOn actOf answerOf memoryOf nextOf runOf
 running = tt
 
 -- They meet the start, whatever the word at 1096.
@@ -345,7 +345,7 @@ starts-with settings is none =
 
 -- another set size
 abbrev of-size : ℕ → Settings
-of-size size = record { size = size; version = 21; kind = 0 }
+of-size size = record { size = size; version = 21; kind = 0; misaligned = 0 }
 
 -- after the LR, with sets of 16 bytes
 abbrev reserved-16 : Machine

@@ -226,7 +226,7 @@ module _ (settings : Settings) (base h p addr : ℕ) (words : List ℕ) (lr : At
     -- what an instruction does here, and the word at the place
     abbrev by : Instr → Exec
     by n =
-        execute bits n (valueAt base (m .mem) (hartPc m h) 4) (regAt (m .state .x) h) (hartPc m h) base (m .mem)
+        execute bits (settings .misaligned) n (valueAt base (m .mem) (hartPc m h) 4) (regAt (m .state .x) h) (hartPc m h) base (m .mem)
         (coversOf (m .state .settings) (reservationOf (m .state) h))
 
     abbrev exec : Exec
@@ -245,9 +245,9 @@ module _ (settings : Settings) (base h p addr : ℕ) (words : List ℕ) (lr : At
     act-is : actOf base (m .mem) (m .state) (Step h) ≡ ofExec h exec
     act-is =
         step-act base m (a .ground .valid) h (a .ground .used) (instrAt settings words i) fetches
-        ∙ ap (λ (k : ℕ). ofExec h
-        (execute k (instrAt settings words i) (valueAt base (m .mem) (hartPc m h) 4) (regAt (m .state .x) h) (hartPc m h) base (m .mem)
-        (coversOf (m .state .settings) (reservationOf (m .state) h)))) width-so
+        ∙ ap (λ (s : Settings). ofExec h
+        (execute (xlenOf s) (s .misaligned) (instrAt settings words i) (valueAt base (m .mem) (hartPc m h) 4) (regAt (m .state .x) h) (hartPc m h) base (m .mem)
+        (coversOf (m .state .settings) (reservationOf (m .state) h)))) (a .ground .set-so)
 
     hart-8 : h < 8
     hart-8 = omega (arith, a .ground .used, a .ground .valid .1 .1)
@@ -395,7 +395,7 @@ module _ (settings : Settings) (base h p addr : ℕ) (words : List ℕ) (lr : At
 
         at-lr : Moves (by (I.Amo lr)) (lr .rd) (offset bits (hartPc m h) 4) (reserve (regAt (m .state .x) h (lr .rs1)) (bytesOf (lr .width)))
         at-lr =
-            does-lr bits enough (hartPc m h) pc-aligned (valueAt base (m .mem) (hartPc m h) 4) (regAt (m .state .x) h) base (m .mem)
+            does-lr bits enough (hartPc m h) pc-aligned (settings .misaligned) (valueAt base (m .mem) (hartPc m h) 4) (regAt (m .state .x) h) base (m .mem)
             (coversOf (m .state .settings) (reservationOf (m .state) h)) lr isLr lr-regs (ap (λ (x : ℕ). x % bytesOf (lr .width)) src ∙ aligned)
             (subst (λ (x : ℕ). Inside base (length (m .mem)) x (bytesOf (lr .width))) (sym src) (a .ground .reachable))
 
@@ -437,7 +437,7 @@ module _ (settings : Settings) (base h p addr : ℕ) (words : List ℕ) (lr : At
             act-is
             ∙ ap (λ (n : Instr). ofExec h (by n)) (s .is)
             ∙ ap (ofExec h)
-            (does-sc bits enough (hartPc m h) pc-aligned (valueAt base (m .mem) (hartPc m h) 4) (regAt (m .state .x) h) base (m .mem)
+            (does-sc bits enough (hartPc m h) pc-aligned (settings .misaligned) (valueAt base (m .mem) (hartPc m h) 4) (regAt (m .state .x) h) base (m .mem)
             (coversOf (m .state .settings) (reservationOf (m .state) h)) (s .of) (s .kind) addr (bytesOf (lr .width)) src (s .width-is) aligned
             (a .ground .reachable) covered)
 
@@ -490,7 +490,7 @@ module _ (settings : Settings) (base h p addr : ℕ) (words : List ℕ) (lr : At
       where
         d : Does bits (seenAt settings words i) (hartPc m h) exec
         d =
-            does bits enough (hartPc m h) pc-aligned (valueAt base (m .mem) (hartPc m h) 4) (regAt (m .state .x) h) base (m .mem)
+            does bits enough (hartPc m h) pc-aligned (settings .misaligned) (valueAt base (m .mem) (hartPc m h) 4) (regAt (m .state .x) h) base (m .mem)
             (coversOf (m .state .settings) (reservationOf (m .state) h)) settings (instrAt settings words i) (regs-at bits (getD words i 0))
 
         go : Place → Good m i

@@ -12,6 +12,7 @@ use Rattle.word.specs.Word.{low}
 use Rattle.word.specs.Bytes.{toLe}
 use Rattle.word.proofs.BytesLaws.{length-toLe}
 use Rattle.word.proofs.ChooseLaws.{cond-all, cond-cases}
+use Rattle.settings.specs.Settings.{lrCause, amoCause}
 use Rattle.isa.specs.Wf.{Regs}
 use Rattle.isa.specs.Narrow.{decodeAt}
 use Rattle.isa.proofs.NarrowLaws.{regs-at}
@@ -77,10 +78,10 @@ pair-sets w d v l =
     (λ t. omega (arith, eqb-true (d % 32) 0 t)) (λ f. (omega arith, omega arith, refl))
 
 module _ (d a : ℕ) where
-  reach-checked : (misaligned outside b n base len : ℕ) (e : Exec) → Reaches d a e → Reaches d a (checked misaligned outside b n base len e)
+  reach-checked : (unaligned outside b n base len : ℕ) (e : Exec) → Reaches d a e → Reaches d a (checked unaligned outside b n base len e)
   unfolding checked
-  reach-checked misaligned outside b n base len e h =
-      let cause = faultOf misaligned outside b n base len in
+  reach-checked unaligned outside b n base len e h =
+      let cause = faultOf unaligned outside b n base len in
       cond-all (Reaches d a) (eqb cause 0) e (trap cause b) h tt
 
   reach-jump : (xlen to pc : ℕ) → Reaches d a (execJump xlen d to pc)
@@ -94,36 +95,36 @@ reach-branch xlen a false to pc = (refl, tt)
 
 -- ---- by instruction
 
-module _ (xlen pc base : ℕ) (mem : List ℕ) (covered : ℕ → ℕ → Bool) where
-  reach-sc : (w : Width) (rd a v : ℕ) → Reaches rd a (execSc xlen w rd a v pc base mem covered)
+module _ (xlen misaligned pc base : ℕ) (mem : List ℕ) (covered : ℕ → ℕ → Bool) where
+  reach-sc : (w : Width) (rd a v : ℕ) → Reaches rd a (execSc xlen misaligned w rd a v pc base mem covered)
   unfolding execSc
   reach-sc w rd a v =
-      reach-checked rd a 6 7 _ _ base (length mem) _
+      reach-checked rd a (amoCause misaligned) 7 _ _ base (length mem) _
       (cond-all (Reaches rd a) (covered a (bytesOf w)) _ _ (refl, sized a (bytesOf w) v (width-most w .0) (width-most w .1)) (refl, tt))
 
-  reach-atomic : (op : AtomicOp) (m : Atomic) → m .rd < 32 → (x : ℕ → ℕ) → Reaches (m .rd) (x (m .rs1)) (atomicBy xlen op m x pc base mem covered)
+  reach-atomic : (op : AtomicOp) (m : Atomic) → m .rd < 32 → (x : ℕ → ℕ) → Reaches (m .rd) (x (m .rs1)) (atomicBy xlen misaligned op m x pc base mem covered)
   unfolding execLr execAmo execCas execCasPair
-  reach-atomic Lr m l x = reach-checked (m .rd) (x (m .rs1)) 4 5 _ _ base (length mem) _ (refl, tt)
+  reach-atomic Lr m l x = reach-checked (m .rd) (x (m .rs1)) (lrCause misaligned) 5 _ _ base (length mem) _ (refl, tt)
   reach-atomic Sc m l x = reach-sc (m .width) (m .rd) (x (m .rs1)) (x (m .rs2))
   reach-atomic Cas m l x =
       let a = x (m .rs1) in
       let n = bytesOf (m .width) in
       let want = low (bitsOf (m .width)) (x (m .rd)) in
-      reach-checked (m .rd) a 6 7 _ _ base (length mem) _
+      reach-checked (m .rd) a (amoCause misaligned) 7 _ _ base (length mem) _
       (refl, swap-from a n (valueAt base mem a n) want (x (m .rs2)) (width-most (m .width) .0) (width-most (m .width) .1))
   reach-atomic CasPair m l x =
       let a = x (m .rs1) in
       let w = m .width in
       let n = pairBytes w in
-      reach-checked (m .rd) a 6 7 _ n base (length mem) _ (
+      reach-checked (m .rd) a (amoCause misaligned) 7 _ n base (length mem) _ (
         pair-sets w (m .rd) (valueAt base mem a n) l,
         swap-from a n (valueAt base mem a n) (pairAt w x (m .rd)) (pairAt w x (m .rs2)) (pair-most w .0) (pair-most w .1),
       )
   reach-atomic (Rmw op) m l x =
-      reach-checked (m .rd) (x (m .rs1)) 6 7 _ _ base (length mem) _
+      reach-checked (m .rd) (x (m .rs1)) (amoCause misaligned) 7 _ _ base (length mem) _
       (refl, sized (x (m .rs1)) (bytesOf (m .width)) _ (width-most (m .width) .0) (width-most (m .width) .1))
 
-  pub reaches : (i : Instr) → Regs i → (word : ℕ) (x : ℕ → ℕ) → Reaches (shownRd i) (writesAt xlen i x) (execute xlen i word x pc base mem covered)
+  pub reaches : (i : Instr) → Regs i → (word : ℕ) (x : ℕ → ℕ) → Reaches (shownRd i) (writesAt xlen i x) (execute xlen misaligned i word x pc base mem covered)
   unfolding execute execAtomic execLoad execStore shownRd writesAt
   reaches Illegal l word x = tt
   reaches Ecall l word x = tt
@@ -146,13 +147,13 @@ module _ (xlen pc base : ℕ) (mem : List ℕ) (covered : ℕ → ℕ → Bool) 
 
 -- ---- the same by the word's class
 
-module _ (xlen pc base : ℕ) (mem : List ℕ) (covered : ℕ → ℕ → Bool) (word : ℕ) (x : ℕ → ℕ) (c : Reach) where
+module _ (xlen misaligned pc base : ℕ) (mem : List ℕ) (covered : ℕ → ℕ → Bool) (word : ℕ) (x : ℕ → ℕ) (c : Reach) where
   same-reach : (i : Instr) → Regs i → c ≡ record { rd = shownRd i; at = writesAt xlen i x }
-      → Reaches (c .rd) (c .at) (execute xlen i word x pc base mem covered)
+      → Reaches (c .rd) (c .at) (execute xlen misaligned i word x pc base mem covered)
   same-reach i l s =
-      subst (λ (q : Reach). Reaches (q .rd) (q .at) (execute xlen i word x pc base mem covered)) (sym s) (reaches xlen pc base mem covered i l word x)
+      subst (λ (q : Reach). Reaches (q .rd) (q .at) (execute xlen misaligned i word x pc base mem covered)) (sym s) (reaches xlen misaligned pc base mem covered i l word x)
 
-  by-class : (i : Instr) → Regs i → Shows xlen c x i → Reaches (c .rd) (c .at) (execute xlen i word x pc base mem covered)
+  by-class : (i : Instr) → Regs i → Shows xlen c x i → Reaches (c .rd) (c .at) (execute xlen misaligned i word x pc base mem covered)
   unfolding execute
   by-class Illegal l s = tt
   by-class Ecall l s = tt
@@ -171,10 +172,10 @@ module _ (xlen pc base : ℕ) (mem : List ℕ) (covered : ℕ → ℕ → Bool) 
   by-class (Op32 op rd rs1 rs2) l s = same-reach (Op32 op rd rs1 rs2) l s
   by-class (Amo m) l s = same-reach (Amo m) l s
 
-pub reaches-in : (xlen pc base : ℕ) (mem : List ℕ) (covered : ℕ → ℕ → Bool) (word : ℕ) (x : ℕ → ℕ)
-    → (let c = reachIn xlen word x in Reaches (c .rd) (c .at) (execute xlen (decodeAt xlen word) word x pc base mem covered))
-reaches-in xlen pc base mem covered word x =
-    by-class xlen pc base mem covered word x (reachIn xlen word x) (decodeAt xlen word) (regs-at xlen word) (shows xlen word x)
+pub reaches-in : (xlen misaligned pc base : ℕ) (mem : List ℕ) (covered : ℕ → ℕ → Bool) (word : ℕ) (x : ℕ → ℕ)
+    → (let c = reachIn xlen word x in Reaches (c .rd) (c .at) (execute xlen misaligned (decodeAt xlen word) word x pc base mem covered))
+reaches-in xlen misaligned pc base mem covered word x =
+    by-class xlen misaligned pc base mem covered word x (reachIn xlen word x) (decodeAt xlen word) (regs-at xlen word) (shows xlen word x)
 
 -- ---- rd is a register
 

@@ -1,14 +1,18 @@
-// replay CASE LOG: replays a board's log, of any size, from the harts and the memory of a case file, and writes the answer on standard output.
-// What can't be read or written is told on standard error; then there is no answer.
+// replay CASE LOG: replays a board's log, of any size, from the harts and the memory of a case file, and writes the answer on standard output. replay CASE LOG
+// SETTINGS BOARD: the same on a board of a settings file, by its number, from 0. What can't be read or written is told on standard error; then there is no
+// answer.
+use board_choice::Choice;
 use casefile::Found;
 use libc::STDERR_FILENO;
 use libc::STDOUT_FILENO;
 use machine::State;
 use rows::Replayed;
 use rows::Stop;
+use settings::Board;
 ghost use mathlib.Core.Path.{_≡_};
 ghost use Prim.Native.Nat.{_+_, _/_, _%_, _^_, _<_, min};
 ghost use lib.ListN.{length};
+ghost use Rattle.settings.specs.Boards.{BoardRules};
 
 // Of a log that is read part by part: the next part is due; a row was the last; or the log can't be read as it was before, which is told.
 enum Going {
@@ -31,8 +35,7 @@ struct Size {
 
 // What the system says went wrong with a file.
 fn tell(what: &[u8]) {
-    io::write_all(STDERR_FILENO, b"replay: ");
-    os::fail(what);
+    arguments::tell(b"replay", what);
 }
 
 // What went wrong with a file where the system says nothing.
@@ -203,8 +206,10 @@ fn replay_log(fd: i32, path: &[u8], s: State, base: u64, mem: &mut [u8], bytes: 
 }
 
 // Refusals 7 to 11 come first.
-fn replay_file(file: &mut [u8], fd: i32, path: &[u8], bytes: u64) {
-    let c = casefile::read_case(file);
+fn replay_file(board: Board, file: &mut [u8], fd: i32, path: &[u8], bytes: u64)
+    requires { ⌜ BoardRules board ⌝ }
+{
+    let c = casefile::read_case_on(board, file);
     let found = c.found;
     let base = c.base;
     let s = c.state;
@@ -217,7 +222,9 @@ fn replay_file(file: &mut [u8], fd: i32, path: &[u8], bytes: u64) {
 }
 
 // The log is read twice, from its start.
-fn read_log(file: &mut [u8], fd: i32, path: &[u8]) {
+fn read_log(board: Board, file: &mut [u8], fd: i32, path: &[u8])
+    requires { ⌜ BoardRules board ⌝ }
+{
     let size = size_of(fd);
     if !size.known {
         tell(path);
@@ -227,42 +234,38 @@ fn read_log(file: &mut [u8], fd: i32, path: &[u8]) {
         tell_of(path, b" can't be read twice, as a log is\n");
         return;
     }
-    replay_file(file, fd, path, size.bytes);
+    replay_file(board, file, fd, path, size.bytes);
 }
 
-fn open_log(file: &mut [u8], path: &[u8]) {
+fn open_log(board: Board, file: &mut [u8], path: &[u8])
+    requires { ⌜ BoardRules board ⌝ }
+{
     let fd = os::open_read(path);
     if fd < 0 {
         tell(path);
         return;
     }
-    read_log(file, fd, path);
+    read_log(board, file, fd, path);
     libc::close(fd);
 }
 
-fn open_case(case: &[u8], log: &[u8]) {
+fn open_case(board: Board, case: &[u8], log: &[u8])
+    requires { ⌜ BoardRules board ⌝ }
+{
     // one byte more than a case may have, so that a longer file is seen to be longer
     let mut space = [0u8; 65537];
-    let fd = os::open_read(case);
-    if fd < 0 {
-        tell(case);
-        return;
-    }
-    let got = input::read_input(fd, &mut space);
-    libc::close(fd);
+    let got = arguments::read_file(b"replay", case, &mut space);
     if got.failed {
-        tell(case);
         return;
     }
     let n = got.length;
-    open_log(&mut space[..n], log);
+    open_log(board, &mut space[..n], log);
 }
 
-fn main() {
-    if os::arg_count() != 3 {
-        io::write_all(STDERR_FILENO, b"use: replay CASE LOG\n");
-        return;
-    }
+// Replays the log that the arguments name.
+fn run(board: Board)
+    requires { ⌜ BoardRules board ⌝ }
+{
     let mut case = io::buffer();
     let n = os::arg(1, &mut case);
     if os::errno() != 0 {
@@ -275,5 +278,26 @@ fn main() {
         tell(b"LOG");
         return;
     }
-    open_case(&case[..n], &log[..m]);
+    open_case(board, &case[..n], &log[..m]);
+}
+
+// Where the settings file is refused, neither the case nor the log is read.
+fn run_on_board() {
+    match board_choice::chosen(b"replay", 3, 4) {
+        Choice::Told => {}
+        Choice::Refused { number, place } => write_refusal(number as u64, place),
+        Choice::Chosen(board) => run(board),
+    }
+}
+
+fn main() {
+    if os::arg_count() == 3 {
+        run(settings::default_board());
+        return;
+    }
+    if os::arg_count() == 5 {
+        run_on_board();
+        return;
+    }
+    io::write_all(STDERR_FILENO, b"use: replay CASE LOG [SETTINGS BOARD]\n");
 }

@@ -6,17 +6,23 @@ use mathlib.Core.List.{List, [], _∷_, _++_}
 use Prim.Native.Nat.{ℕ, suc, _-_}
 use lib.ListN.{length}
 use Rattle.word.specs.Memory.{part}
+use Rattle.settings.specs.Boards.{defaultBoard}
+use Rattle.settings.specs.declared.Board.{Board}
 use Rattle.events.specs.declared.Event.{Event}
 use Rattle.model.specs.Perform.{Machine}
 use Rattle.model.specs.Retired.{Refuses}
 use Rattle.model.specs.declared.Reply.{Reply}
-use Rattle.casefile.specs.Case.{caseOf}
+use Rattle.casefile.specs.Case.{caseOn}
 use Rattle.lines.specs.Lines.{lineOf}
 use Rattle.report.specs.Report.{caseLine, endLine}
 
--- the machine that a file's case starts from: the memory body starts at m and the events body at e
+-- the machine that a file's case starts from on a board: the memory body starts at m and the events body at e
+abbrev pub machineOn : Board → List ℕ → ℕ → ℕ → Machine
+machineOn board file m e = record { state = caseOn board file .state; mem = part file m (e - m) }
+
+-- and where none is given
 abbrev pub machineOf : List ℕ → ℕ → ℕ → Machine
-machineOf file m e = record { state = caseOf file .state; mem = part file m (e - m) }
+machineOf file m e = machineOn defaultBoard file m e
 
 -- the text is a line for each of the events, numbered from k on, each with an outcome that isn't a refusal: `ok`, `sc 0`, `sc 1` or a trap; with or
 -- without a set of harts behind it (which one: broken/proofs/Shown)

@@ -6,7 +6,9 @@ use lib.ListN.{length, drop}
 use Rattle.word.specs.Memory.{part}
 use Rattle.machine.specs.declared.State.{State}
 use Rattle.events.specs.Events.{eventsOf}
-use Rattle.casefile.specs.Case.{caseOf}
+use Rattle.settings.specs.Boards.{defaultBoard}
+use Rattle.settings.specs.declared.Board.{Board}
+use Rattle.casefile.specs.Case.{caseOn}
 use Rattle.casefile.specs.declared.Case.{Case}
 use Rattle.casefile.specs.declared.Found.{Found}
 use Rattle.casefile.specs.declared.Found.the-variants.{Refused, Bodies}
@@ -41,5 +43,10 @@ textOf file base s (Bodies m e) = linesOfCase base s (part file m (e - m)) (drop
 abbrev pub textOfCase : List ℕ → Case → List ℕ
 textOfCase file c = textOf file (c .base) (c .state) (c .found)
 
-unfoldable pub reportOf : List ℕ → List ℕ
-reportOf file = textOfCase file (caseOf file)
+-- on a board
+unfoldable pub reportOn : Board → List ℕ → List ℕ
+reportOn board file = textOfCase file (caseOn board file)
+
+-- and where none is given
+abbrev pub reportOf : List ℕ → List ℕ
+reportOf file = reportOn defaultBoard file

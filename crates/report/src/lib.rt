@@ -1,6 +1,7 @@
 // A case's bytes turned into the program's whole output.
 use casefile::Found;
 use machine::State;
+use settings::Board;
 use text::put_byte;
 use text::put_bytes;
 use text::put_decimal;
@@ -11,7 +12,8 @@ ghost use Rattle.word.specs.Memory.{part};
 ghost use Rattle.io.specs.Counts.{Counts};
 ghost use Rattle.machine.specs.State.{refusalOf};
 ghost use Rattle.text.specs.Put.{Put};
-ghost use Rattle.report.specs.Report.{refusedLine, caseLine, endLine, linesOfCase, reportOf};
+ghost use Rattle.report.specs.Report.{refusedLine, caseLine, endLine, linesOfCase, reportOn, reportOf};
+ghost use Rattle.settings.specs.Boards.{BoardRules};
 
 // The line of a refused file.
 pub fn put_refused(out: &mut [u8], at: usize, number: u64, place: u64) -> usize
@@ -92,13 +94,14 @@ fn put_bodies(
     put_lines_of_case(out, from, s, base, &file[events..])
 }
 
-// The report of any bytes, put into a lent buffer.
-pub fn put_report(out: &mut [u8], file: &[u8]) -> usize
+// The report of any bytes on a board, put into a lent buffer.
+pub fn put_report_on(board: Board, out: &mut [u8], file: &[u8]) -> usize
+    requires { ⌜ BoardRules board ⌝ }
     requires { ⌜ length (now out) ≡ 262144 ⌝ }
-    ensures { λ r. ⌜ Put (now (out .entry)) 0 (reportOf (now (file .entry))) (now (out .exit)) r ⌝ }
+    ensures { λ r. ⌜ Put (now (out .entry)) 0 (reportOn board (now (file .entry))) (now (out .exit)) r ⌝ }
     ensures { λ r. ⌜ r ≤ 262144 ⌝ }
 {
-    let c = casefile::read_case(file);
+    let c = casefile::read_case_on(board, file);
     let found = c.found;
     let base = c.base;
     let s = c.state;
@@ -108,10 +111,28 @@ pub fn put_report(out: &mut [u8], file: &[u8]) -> usize
     }
 }
 
-// The text of any bytes: the first r bytes of out are all that the program writes for them.
+// The report of any bytes, put into a lent buffer.
+pub fn put_report(out: &mut [u8], file: &[u8]) -> usize
+    requires { ⌜ length (now out) ≡ 262144 ⌝ }
+    ensures { λ r. ⌜ Put (now (out .entry)) 0 (reportOf (now (file .entry))) (now (out .exit)) r ⌝ }
+    ensures { λ r. ⌜ r ≤ 262144 ⌝ }
+{
+    put_report_on(settings::default_board(), out, file)
+}
+
+// The text of any bytes on a board: the first r bytes of out are all that the program writes for them.
+pub fn report_on(board: Board, file: &[u8], out: &mut [u8; 262144]) -> usize
+    requires { ⌜ BoardRules board ⌝ }
+    ensures { λ r. ⌜ Counts r (now (out .exit)) ⌝ }
+    ensures { λ r. ⌜ take r (now (out .exit)) ≡ reportOn board (now (file .entry)) ⌝ }
+{
+    put_report_on(board, out, file)
+}
+
+// The text of any bytes: the first r bytes of out are all that the program writes for them where no board is given.
 pub fn report(file: &[u8], out: &mut [u8; 262144]) -> usize
     ensures { λ r. ⌜ Counts r (now (out .exit)) ⌝ }
     ensures { λ r. ⌜ take r (now (out .exit)) ≡ reportOf (now (file .entry)) ⌝ }
 {
-    put_report(out, file)
+    report_on(settings::default_board(), file, out)
 }

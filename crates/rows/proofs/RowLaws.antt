@@ -20,7 +20,7 @@ use Rattle.effect.specs.Execute.{regAt, execute, executeWord}
 use Rattle.effect.specs.declared.Done.the-variants.{Trap}
 use Rattle.events.specs.declared.Event.the-variants.{Step}
 use Rattle.model.specs.Act.{setReg, outcomeOf, registersAfter, pcsAfter, leaves, apply}
-use Rattle.model.specs.Perform.{Machine, xlen, reservationOf, fetchOf, stepOf, ofExec, actOn, actOf, answerOf, memoryOf, nextOf, outcomeAt}
+use Rattle.model.specs.Perform.{Machine, xlen, misaligned, reservationOf, fetchOf, stepOf, ofExec, actOn, actOf, answerOf, memoryOf, nextOf, outcomeAt}
 use Rattle.model.specs.Valid.{Valid}
 use Rattle.model.specs.Advance.{registersBy, pcsBy, outcomeBy}
 use Rattle.model.specs.declared.Outcome.{Outcome}
@@ -75,7 +75,7 @@ module _ (base : ℕ) (m : Machine) (v : Valid base m) (h : ℕ) (l : h < m .sta
     word = wordAt base m h
 
     fetched : exec
-        ≡ execute (xlen m) (decodeAt (xlen m) word) word (regAt (m .state .x) h) (pcAt base m h) base (m .mem)
+        ≡ execute (xlen m) (misaligned m) (decodeAt (xlen m) word) word (regAt (m .state .x) h) (pcAt base m h) base (m .mem)
         (coversOf (m .state .settings) (reservationOf (m .state) h))
     unfolding fetchOf executeWord
     fetched = rw (of-inside base (length (m .mem)) (pcAt base m h) 4 inside)
@@ -84,12 +84,12 @@ module _ (base : ℕ) (m : Machine) (v : Valid base m) (h : ℕ) (l : h < m .sta
     exec-reaches-in : (let c = reachIn (xlen m) word (regAt (m .state .x) h) in Reaches (c .rd) (c .at) exec)
     exec-reaches-in =
         rw fetched
-        (reaches-in (xlen m) (pcAt base m h) base (m .mem) (coversOf (m .state .settings) (reservationOf (m .state) h)) word (regAt (m .state .x) h))
+        (reaches-in (xlen m) (misaligned m) (pcAt base m h) base (m .mem) (coversOf (m .state .settings) (reservationOf (m .state) h)) word (regAt (m .state .x) h))
 
     pub exec-reaches : Reaches (rdAt base m h) (writesAt (xlen m) (decodeAt (xlen m) word) (regAt (m .state .x) h)) exec
     exec-reaches =
         rw fetched
-        (reaches (xlen m) (pcAt base m h) base (m .mem) (coversOf (m .state .settings) (reservationOf (m .state) h)) (decodeAt (xlen m) word)
+        (reaches (xlen m) (misaligned m) (pcAt base m h) base (m .mem) (coversOf (m .state .settings) (reservationOf (m .state) h)) (decodeAt (xlen m) word)
         (regs-at (xlen m) word) word (regAt (m .state .x) h))
 
 -- a row whose word can't be fetched
@@ -103,11 +103,11 @@ told-unfetched base m r same v l out =
     sym (past-pc base m r same ∙ past-fetch base m r out ∙ ap (λ (q : Outcome). toldBy q r (rdAt base m h) (valueAfter base m h)) o)
 
 -- what is told by the code's rd is what is told by the instruction's, where registers have k bits: a word whose rd the code doesn't know traps
-module _ (k : ℕ) (r : Row) (h word pc base : ℕ) (mem : List ℕ) (covered : ℕ → ℕ → Bool) (x : ℕ → ℕ) (c : Reach) (o : Outcome) (after : List ℕ) where
+module _ (k misaligned : ℕ) (r : Row) (h word pc base : ℕ) (mem : List ℕ) (covered : ℕ → ℕ → Bool) (x : ℕ → ℕ) (c : Reach) (o : Outcome) (after : List ℕ) where
   abbrev told : ℕ → Told
   told d = toldBy o r d (regAt after h d)
 
-  told-same : (i : Instr) → Shows k c x i → o ≡ outcomeBy (doneOf h (execute k i word x pc base mem covered)) → told (c .rd) ≡ told (shownRd i)
+  told-same : (i : Instr) → Shows k c x i → o ≡ outcomeBy (doneOf h (execute k misaligned i word x pc base mem covered)) → told (c .rd) ≡ told (shownRd i)
   unfolding execute outcomeBy toldBy
   told-same Illegal s e = rw e refl
   told-same Ecall s e = rw e refl
@@ -163,7 +163,7 @@ module _ (base : ℕ) (m : Machine) (r : Row) (ready : Ready base m r) {c : Reac
       let shown = subst (λ (q : Reach). Shows (xlen m) q x (decodeAt (xlen m) word)) model-reach (shows (xlen m) word x) in
       let answer = eo ∙ step-outcome base m v h l ∙ ap (λ (e : Exec). outcomeBy (doneOf h e)) (fetched base m v h l within) in
       et ∙ ap (toldBy o r d) value
-      ∙ told-same (xlen m) r h word (pcAt base m h) base (m .mem) covered x c o after (decodeAt (xlen m) word) shown answer
+      ∙ told-same (xlen m) (misaligned m) r h word (pcAt base m h) base (m .mem) covered x c o after (decodeAt (xlen m) word) shown answer
       ∙ ap (λ (q : Outcome). toldBy q r (rdAt base m h) (valueAfter base m h)) eo
 
   -- what a step may change, put back

@@ -11,7 +11,9 @@ use lib.Seq.{getD-set-same}
 use borrow.Author.Tests.{eqb-true, eqb-false, ne-eqb}
 use Rattle.word.specs.Bytes.{toLe}
 use Rattle.word.proofs.TestLaws.{bool-cases, contrary}
+use Rattle.settings.specs.Settings.{AmoCause, amoCause}
 use Rattle.settings.specs.declared.Settings.{Settings}
+use Rattle.settings.proofs.SettingsLaws.{amo-cause-exact}
 use Rattle.reserve.specs.Range.{Inside, insideOf}
 use Rattle.reserve.specs.Reserve.{coversOf, observeOf}
 use Rattle.reserve.specs.declared.Reservation.{Reservation}
@@ -28,7 +30,7 @@ use Rattle.effect.proofs.TrapLaws as T
 use Rattle.events.specs.declared.Event.{Event}
 use Rattle.events.specs.declared.Event.the-variants.{Step}
 use Rattle.model.specs.Act.{Act, actNotice, outcomeOf, setReg, apply, leaves}
-use Rattle.model.specs.Perform.{Machine, xlen, reservationOf, ofExec, actOf, answerOf, memoryOf, nextOf, runOf, outcomeAt}
+use Rattle.model.specs.Perform.{Machine, xlen, misaligned, reservationOf, ofExec, actOf, answerOf, memoryOf, nextOf, runOf, outcomeAt}
 use Rattle.model.specs.Valid.{Valid}
 use Rattle.model.specs.Retired.{Traps}
 use Rattle.model.specs.Trace.{traceOf}
@@ -51,7 +53,8 @@ module _ (base : ℕ) (m : Machine) (v : Valid base m) (h : ℕ) (u : h < m .sta
   covered = coversOf (m .state .settings) (reservationOf (m .state) h)
 
   exec : Exec
-  exec = execSc (xlen m) (sc .width) (sc .rd) (atomicAddress m h sc) (regAt (m .state .x) h (sc .rs2)) (getD (m .state .pc) h 0) base (m .mem) covered
+  exec =
+      execSc (xlen m) (misaligned m) (sc .width) (sc .rd) (atomicAddress m h sc) (regAt (m .state .x) h (sc .rs2)) (getD (m .state .pc) h 0) base (m .mem) covered
 
   act-sc : actOf base (m .mem) (m .state) (Step h) ≡ ofExec h exec
   unfolding exec covered execute execAtomic
@@ -62,17 +65,21 @@ module _ (base : ℕ) (m : Machine) (v : Valid base m) (h : ℕ) (u : h < m .sta
   by-exec e q = ap outcomeOf (act-sc ∙ ap (ofExec h) q)
 
   -- what it comes to, by its address, and by what the reservation covers
-  exec-misaligned : MisalignedSc m h sc → exec ≡ trap 6 (atomicAddress m h sc)
+  exec-misaligned : MisalignedSc m h sc → exec ≡ trap (amoCause (misaligned m)) (atomicAddress m h sc)
   unfolding exec
-  exec-misaligned d = T.exec-sc-misaligned (xlen m) (getD (m .state .pc) h 0) (sc .width) (sc .rd) (atomicAddress m h sc) _ base (m .mem) covered d
+  exec-misaligned d = T.exec-sc-misaligned (xlen m) (getD (m .state .pc) h 0) (misaligned m) (sc .width) (sc .rd) (atomicAddress m h sc) _ base (m .mem) covered d
 
   exec-outside : atomicAddress m h sc % atomicSize sc ≡ 0 → OutsideSc base m h sc → exec ≡ trap 7 (atomicAddress m h sc)
   unfolding exec
-  exec-outside al d = T.exec-sc-outside (xlen m) (getD (m .state .pc) h 0) (sc .width) (sc .rd) (atomicAddress m h sc) _ base (m .mem) covered al d
+  exec-outside al d = T.exec-sc-outside (xlen m) (getD (m .state .pc) h 0) (misaligned m) (sc .width) (sc .rd) (atomicAddress m h sc) _ base (m .mem) covered al d
 
-  -- 01: cause 6, "address not aligned to its width", value "address"
-  pub sc-misaligned : MisalignedSc m h sc → outcomeAt base m (Step h) ≡ Trap 6 (atomicAddress m h sc)
-  sc-misaligned d = by-exec _ (exec-misaligned d)
+  traps-misaligned : MisalignedSc m h sc → outcomeAt base m (Step h) ≡ Trap (amoCause (misaligned m)) (atomicAddress m h sc)
+  traps-misaligned d = by-exec _ (exec-misaligned d)
+
+  -- 01: cause 6, "address not aligned to its width", value "address"; 02 [11]: by the setting 6 or 7
+  pub sc-misaligned : (cause : ℕ) → AmoCause (misaligned m) cause → MisalignedSc m h sc → outcomeAt base m (Step h) ≡ Trap cause (atomicAddress m h sc)
+  sc-misaligned cause r d =
+      subst (λ (c : ℕ). outcomeAt base m (Step h) ≡ Trap c (atomicAddress m h sc)) (sym (amo-cause-exact (misaligned m) cause .0 r)) (traps-misaligned d)
 
   -- 02 [2]: "After alignment, an SC whose bytes aren't wholly in memory is now cause 7, value the address"
   pub sc-outside : atomicAddress m h sc % atomicSize sc ≡ 0 → OutsideSc base m h sc → outcomeAt base m (Step h) ≡ Trap 7 (atomicAddress m h sc)
@@ -86,7 +93,7 @@ module _ (base : ℕ) (m : Machine) (v : Valid base m) (h : ℕ) (u : h < m .sta
     exec-stored c =
         let i = covered-in-memory (m .state .settings) base (length (m .mem)) (v .0) (reservationOf (m .state) h) (v .1 .2 h u .2) (atomicAddress m h sc)
         (atomicSize sc) c in
-        T.exec-sc-stored (xlen m) (getD (m .state .pc) h 0) (sc .width) (sc .rd) (atomicAddress m h sc) _ base (m .mem) covered al i c
+        T.exec-sc-stored (xlen m) (getD (m .state .pc) h 0) (misaligned m) (sc .width) (sc .rd) (atomicAddress m h sc) _ base (m .mem) covered al i c
 
     -- an aligned SC whose bytes the reservation's set contains doesn't trap: it stores
     pub sc-covered : coversOf (m .state .settings) (reservationOf (m .state) h) (atomicAddress m h sc) (atomicSize sc) ≡ true
@@ -97,7 +104,7 @@ module _ (base : ℕ) (m : Machine) (v : Valid base m) (h : ℕ) (u : h < m .sta
       exec-failed : coversOf (m .state .settings) (reservationOf (m .state) h) (atomicAddress m h sc) (atomicSize sc) ≡ false
           → exec ≡ effect (one (sc .rd) 1) (nextPc (xlen m) (getD (m .state .pc) h 0)) scFailed
       unfolding exec covered
-      exec-failed c = T.exec-sc-failed (xlen m) (getD (m .state .pc) h 0) (sc .width) (sc .rd) (atomicAddress m h sc) _ base (m .mem) covered al i c
+      exec-failed c = T.exec-sc-failed (xlen m) (getD (m .state .pc) h 0) (misaligned m) (sc .width) (sc .rd) (atomicAddress m h sc) _ base (m .mem) covered al i c
 
       pub sc-uncovered : coversOf (m .state .settings) (reservationOf (m .state) h) (atomicAddress m h sc) (atomicSize sc) ≡ false
           → outcomeAt base m (Step h) ≡ ScFailed
@@ -111,7 +118,7 @@ module _ (base : ℕ) (m : Machine) (v : Valid base m) (h : ℕ) (u : h < m .sta
 
   -- why an SC traps
   data Trapped : Type 0 where
-    misaligned : MisalignedSc m h sc → Trapped
+    skewed : MisalignedSc m h sc → Trapped
     outside : atomicAddress m h sc % atomicSize sc ≡ 0 → OutsideSc base m h sc → Trapped
 
   trapped : Traps (outcomeAt base m (Step h)) → Trapped
@@ -123,22 +130,22 @@ module _ (base : ℕ) (m : Machine) (v : Valid base m) (h : ℕ) (u : h < m .sta
       bool-cases (insideOf base (length (m .mem)) a n)
       (λ i. absurd (untrapped (eqb-true (a % n) 0 e) (inside-of base (length (m .mem)) a n i) t))
       (λ i. outside (eqb-true (a % n) 0 e) (λ j. contrary (of-inside base (length (m .mem)) a n j) i)))
-      (λ e. misaligned (eqb-false (a % n) 0 e))
+      (λ e. skewed (eqb-false (a % n) 0 e))
 
   -- An SC traps exactly if its address isn't aligned or its bytes aren't wholly in memory, whatever the reservation; by `sc-misaligned` and
-  -- `sc-outside` with cause 6 if it isn't aligned, and else with cause 7.
+  -- `sc-outside` with cause 6, or 7 by its setting, if it isn't aligned, and else with cause 7.
   pub sc-traps : Traps (outcomeAt base m (Step h)) ↔ (MisalignedSc m h sc ⊎ OutsideSc base m h sc)
-  sc-traps = (λ t. said (trapped t), ⊎-elim (λ (d : MisalignedSc m h sc). (6, atomicAddress m h sc, sc-misaligned d)) beyond)
+  sc-traps = (λ t. said (trapped t), ⊎-elim (λ (d : MisalignedSc m h sc). (amoCause (misaligned m), atomicAddress m h sc, traps-misaligned d)) beyond)
     where
       said : Trapped → MisalignedSc m h sc ⊎ OutsideSc base m h sc
-      said (misaligned d) = inl d
+      said (skewed d) = inl d
       said (outside al d) = inr d
 
       beyond : OutsideSc base m h sc → Traps (outcomeAt base m (Step h))
       beyond d =
           bool-cases (eqb (atomicAddress m h sc % atomicSize sc) 0)
           (λ e. (7, atomicAddress m h sc, sc-outside (eqb-true (atomicAddress m h sc % atomicSize sc) 0 e) d))
-          (λ e. (6, atomicAddress m h sc, sc-misaligned (eqb-false (atomicAddress m h sc % atomicSize sc) 0 e)))
+          (λ e. (amoCause (misaligned m), atomicAddress m h sc, traps-misaligned (eqb-false (atomicAddress m h sc % atomicSize sc) 0 e)))
 
   -- one that doesn't trap succeeds exactly if the reservation's set contains its bytes, and fails otherwise
   module _ (d : Traps (outcomeAt base m (Step h)) → ⊥) where
@@ -185,7 +192,7 @@ module _ (base : ℕ) (m : Machine) (v : Valid base m) (h : ℕ) (u : h < m .sta
       same c v q = let n = next-by _ q in record { reservation = ap (λ (k : Machine). reservationOf (k .state) h) n; machine = n }
 
       go : Trapped → TrappedLeaves base m h
-      go (misaligned d) = same 6 _ (exec-misaligned d)
+      go (skewed d) = same _ _ (exec-misaligned d)
       go (outside al d) = same 7 _ (exec-outside al d)
 
   module _ (shaped : Shaped (m .state)) where

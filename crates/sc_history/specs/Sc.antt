@@ -28,11 +28,11 @@ pub record FetchesSc (base : ℕ) (m : Machine) (h : ℕ) (sc : Atomic) : Type 0
   pub fetches : Fetches base m h (Amo sc)
   pub operation : sc .op ≡ Sc
 
--- The SCs that trap, whatever the reservation. 01: cause 6, "address not aligned to its width"
+-- The SCs that trap, whatever the reservation. 01: cause 6, "address not aligned to its width"; 02 [11]: or 7, by the setting
 abbrev pub MisalignedSc : Machine → ℕ → Atomic → Type 0
 MisalignedSc m h sc = atomicAddress m h sc % atomicSize sc ≢ 0
 
--- 02 [2]: "an SC whose bytes aren't wholly in memory": cause 7 "After alignment", so 6 if it is misaligned too
+-- 02 [2]: "an SC whose bytes aren't wholly in memory": cause 7 "After alignment", so that of the row before if it is misaligned too
 abbrev pub OutsideSc : ℕ → Machine → ℕ → Atomic → Type 0
 OutsideSc base m h sc = Inside base (length (m .mem)) (atomicAddress m h sc) (atomicSize sc) → ⊥
 

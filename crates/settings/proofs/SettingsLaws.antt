@@ -1,8 +1,8 @@
 -- Sizes that are powers of two: the test says what the rule says, and what is a multiple of the larger of 64 and the size is one of the size. Proved over
--- the exponent and over the digits. And the versions of A. Assumes nothing.
+-- the exponent and over the digits. And versions of A, kinds of core, what a misaligned atomic access gives, and boards. Assumes nothing.
 use mathlib.Core.Path.{_≡_, refl, sym, ap, _∙_, subst}
 use mathlib.Core.Bool.{true, cond, _&&_, _||_}
-use mathlib.Core.Logic.{_↔_, inl, inr, ⊎-elim}
+use mathlib.Core.Logic.{_↔_, _⊎_, inl, inr, ⊎-elim}
 use Prim.Native.Nat.{ℕ, zero, suc, _+_, _*_, _-_, _/_, _%_, _^_, _≤_, _<_, min, max}
 use native.Mathlib.Nat.{pow-suc, one-mul, zero-mod}
 use native.Mathlib.Omega.{arith}
@@ -10,14 +10,17 @@ use lib.Arith.{bin-ind}
 use lib.Bits.{bitAnd, and-step, and-self, and-shifted}
 use lib.Dec.{eqb, leb}
 use lib.Pow.{pow-lt, pow-mono, mod-mod-pow, ones-lt}
-use borrow.Author.Tests.{eqb-true, leb-true, eq-eqb, le-leb}
-use Rattle.word.proofs.TestLaws.{and-both, or-either}
+use borrow.Author.Tests.{eqb-true, leb-true, eq-eqb, ne-eqb, le-leb}
+use Rattle.word.proofs.TestLaws.{bool-cases, contrary, and-both, or-either}
 use Rattle.word.proofs.WordLaws.{split-lt}
 use Rattle.word.specs.Word.{Xlen}
 use Rattle.word.proofs.ChooseLaws.{cond-all}
 use Rattle.settings.specs.Settings.{PowerOfTwo, defaults, atVersion, xlenOf, SizeRules, sizeOk, granuleOf}
 use Rattle.settings.specs.Settings.{VersionRules, versionOk, KindRules, kindOk, ReadingRules, readingOk}
 use Rattle.settings.specs.Settings.{DevicesBreak, devicesBreak, JalrPermitted, jalrPermitted}
+use Rattle.settings.specs.Settings.{MisalignedRules, misalignedOk, LrCause, lrCause, AmoCause, amoCause}
+use Rattle.settings.specs.Boards.{onBoard, defaultBoard, BoardRules, boardOk}
+use Rattle.settings.specs.declared.Board.{Board}
 use Rattle.settings.specs.declared.Settings.{Settings}
 
 -- a power of two and the number before it have no bit in common
@@ -129,9 +132,68 @@ reading-exact s = (
   λ r. rw (version-exact s .1 (r .0), kind-exact s .1 (r .1)),
 )
 
--- the defaults are allowed
-pub defaults-allowed : SizeRules defaults × ReadingRules defaults
-defaults-allowed = (((6, refl), omega arith, omega arith), (inr refl, inl refl))
+-- the test of what a misaligned atomic access gives passes exactly if the rule holds
+pub misaligned-exact : (s : Settings) → (misalignedOk s ≡ true) ↔ MisalignedRules s
+unfolding misalignedOk
+misaligned-exact s = (
+  λ e.
+      ⊎-elim (λ (t : eqb (s .misaligned) 0 ≡ true). inl (eqb-true (s .misaligned) 0 t))
+      (λ (t : eqb (s .misaligned) 1 ≡ true). inr (eqb-true (s .misaligned) 1 t))
+      (or-either (eqb (s .misaligned) 0) (eqb (s .misaligned) 1) e),
+  λ r. ⊎-elim (λ (e : s .misaligned ≡ 0). rw e) (λ (e : s .misaligned ≡ 1). rw e) r,
+)
+
+-- a number by a setting: what is said of it in words has exactly that number
+cause-exact : (one other m c : ℕ) → ((m ≡ 1 → c ≡ one) × ((m ≡ 1 → ⊥) → c ≡ other)) ↔ (c ≡ cond (eqb m 1) one other)
+cause-exact one other m c = (
+  λ r.
+      bool-cases (eqb m 1) (λ t. r .0 (eqb-true m 1 t) ∙ rw t) (λ f. r .1 (λ (e : m ≡ 1). contrary (eq-eqb m 1 e) f) ∙ rw f),
+  λ e. (λ is. e ∙ rw (eq-eqb m 1 is), λ not. e ∙ rw (ne-eqb m 1 not)),
+)
+
+pub lr-cause-exact : (m c : ℕ) → LrCause m c ↔ (c ≡ lrCause m)
+unfolding lrCause
+lr-cause-exact m c = cause-exact 5 4 m c
+
+pub amo-cause-exact : (m c : ℕ) → AmoCause m c ↔ (c ≡ amoCause m)
+unfolding amoCause
+amo-cause-exact m c = cause-exact 7 6 m c
+
+-- one of two numbers each
+pub lr-cause-is : (m : ℕ) → (lrCause m ≡ 4) ⊎ (lrCause m ≡ 5)
+unfolding lrCause
+lr-cause-is m = cond-all (λ c. (c ≡ 4) ⊎ (c ≡ 5)) (eqb m 1) 5 4 (inr refl) (inl refl)
+
+pub amo-cause-is : (m : ℕ) → (amoCause m ≡ 6) ⊎ (amoCause m ≡ 7)
+unfolding amoCause
+amo-cause-is m = cond-all (λ c. (c ≡ 6) ⊎ (c ≡ 7)) (eqb m 1) 7 6 (inr refl) (inl refl)
+
+pub lr-cause-some : (m : ℕ) → 0 < lrCause m
+unfolding lrCause
+lr-cause-some m = cond-all (λ c. 0 < c) (eqb m 1) 5 4 (omega arith) (omega arith)
+
+pub amo-cause-some : (m : ℕ) → 0 < amoCause m
+unfolding amoCause
+amo-cause-some m = cond-all (λ c. 0 < c) (eqb m 1) 7 6 (omega arith) (omega arith)
+
+-- the test of a board passes exactly if the rules hold
+pub board-exact : (b : Board) → (boardOk b ≡ true) ↔ BoardRules b
+unfolding boardOk
+board-exact b = (
+  λ e.
+      let p = and-both (sizeOk (onBoard b 0)) _ e in
+      let q = and-both (versionOk (onBoard b 0)) (misalignedOk (onBoard b 0)) (p .1) in
+      (size-exact (onBoard b 0) .0 (p .0), version-exact (onBoard b 0) .0 (q .0), misaligned-exact (onBoard b 0) .0 (q .1)),
+  λ r.
+      rw (size-exact (onBoard b 0) .1 (r .0), version-exact (onBoard b 0) .1 (r .1), misaligned-exact (onBoard b 0) .1 (r .2)),
+)
+
+-- the defaults are allowed, and those of a board
+pub defaults-allowed : SizeRules defaults × ReadingRules defaults × MisalignedRules defaults
+defaults-allowed = (((6, refl), omega arith, omega arith), (inr refl, inl refl), inl refl)
+
+pub default-board-allowed : BoardRules defaultBoard
+default-board-allowed = (((6, refl), omega arith, omega arith), inr refl, inl refl)
 
 -- the register width is one of the two, by the kind
 pub xlen-is : (s : Settings) → Xlen (xlenOf s)

@@ -1,2 +1,3 @@
 -- What a machine is set to.
 pub mod Settings
+pub mod Boards

@@ -1,4 +1,4 @@
--- What a machine is set to (02 [5], [7], [10]): which settings are allowed, and what a state has that is not set otherwise.
+-- What a machine is set to (02 [5], [7], [10], [11]): which settings are allowed, and what a state has that is not set otherwise.
 -- RULES 1.6; `granuleOf` 1.2.
 use mathlib.Core.Path.{_≡_}
 use mathlib.Core.Logic.{_⊎_}
@@ -9,20 +9,20 @@ use lib.Dec.{eqb, leb}
 use Rattle.settings.specs.declared.Settings.{Settings}
 
 -- 02 [5]: "a power of two from 8 to 4,096, the same for all harts, default 64"; [7]: "2.1 the default"; [10]: "0 is 64-bit, 1 is 32-bit", and 01's machine
--- is the first
+-- is the first; [11]: "The state gets this setting too, default 0"
 abbrev pub defaults : Settings
-defaults = record { size = 64; version = 21; kind = 0 }
+defaults = record { size = 64; version = 21; kind = 0; misaligned = 0 }
 
 -- the same with another version of A, and with another kind too
 abbrev pub ofVersion : ℕ → Settings
-ofVersion version = record { size = 64; version = version; kind = 0 }
+ofVersion version = record { size = 64; version = version; kind = 0; misaligned = 0 }
 
 abbrev pub ofKind : ℕ → ℕ → Settings
-ofKind version kind = record { size = 64; version = version; kind = kind }
+ofKind version kind = record { size = 64; version = version; kind = kind; misaligned = 0 }
 
 -- these settings with another version of A
 abbrev pub atVersion : ℕ → Settings → Settings
-atVersion version s = record { size = s .size; version = version; kind = s .kind }
+atVersion version s = record { size = s .size; version = version; kind = s .kind; misaligned = s .misaligned }
 
 -- the bits of registers, the pc and addresses. 01: "x0 to x31 (64 bits, x0 zero)"; 02 [10]: "registers and addresses of 32 bits"
 unfoldable pub xlenOf : Settings → ℕ
@@ -82,3 +82,27 @@ JalrPermitted s = s .version ≡ 20
 -- the same as a test
 abbrev pub jalrPermitted : Settings → Bool
 jalrPermitted s = eqb (s .version) 20
+
+-- 02 [11]: "0 where a misaligned LR, SC or AMO gives 4 and 6, 1 where it gives, as 000 permits, 5 and 7"; "any other value refusal 2"
+abbrev pub MisalignedRules : Settings → Type 0
+MisalignedRules s = (s .misaligned ≡ 0) ⊎ (s .misaligned ≡ 1)
+
+-- the same as a test
+unfoldable pub misalignedOk : Settings → Bool
+misalignedOk s = eqb (s .misaligned) 0 || eqb (s .misaligned) 1
+
+-- the cause of an LR that is misaligned, by this setting
+abbrev pub LrCause : ℕ → ℕ → Type 0
+LrCause misaligned cause = (misaligned ≡ 1 → cause ≡ 5) × ((misaligned ≡ 1 → ⊥) → cause ≡ 4)
+
+-- the same as a number
+unfoldable pub lrCause : ℕ → ℕ
+lrCause misaligned = cond (eqb misaligned 1) 5 4
+
+-- and of an SC, an AMO or an AMOCAS, of which 001 says: "the same exception options apply if the address is not naturally aligned"
+abbrev pub AmoCause : ℕ → ℕ → Type 0
+AmoCause misaligned cause = (misaligned ≡ 1 → cause ≡ 7) × ((misaligned ≡ 1 → ⊥) → cause ≡ 6)
+
+-- the same as a number
+unfoldable pub amoCause : ℕ → ℕ
+amoCause misaligned = cond (eqb misaligned 1) 7 6

@@ -12,7 +12,7 @@ use native.Mathlib.Nat.{zero-div}
 use Rattle.word.proofs.TestLaws.{bool-cases}
 use Rattle.word.specs.Each.{each}
 use Rattle.word.specs.Bytes.{toLe}
-use Rattle.settings.specs.Settings.{devicesBreak, sizeOk, versionOk, kindOk, readingOk, atVersion}
+use Rattle.settings.specs.Settings.{devicesBreak, sizeOk, versionOk, kindOk, readingOk, misalignedOk, atVersion}
 use Rattle.settings.proofs.SettingsLaws.{at-version-xlen}
 use Rattle.settings.specs.declared.Settings.{Settings}
 use Rattle.reserve.specs.Reserve.{slot, coversOf, breaksOf, ownOf, observeOf, observeSlot, brokenOf, Observed, observeAllOf}
@@ -164,7 +164,7 @@ module _ (base : ℕ) (m : Machine) where
   width-same = at-version-xlen 20 (new .state .settings)
 
   pub refusal-same : refusalOf base (length (m .mem)) (old .state) ≡ refusalOf base (length (m .mem)) (new .state)
-  unfolding refusalOf memoryOk sizeOk lentOk stateOk versionOk kindOk readingOk
+  unfolding refusalOf memoryOk sizeOk lentOk stateOk versionOk kindOk readingOk misalignedOk
   refusal-same =
       let s = m .state in
       let one = old .state .settings in

@@ -1,76 +1,23 @@
-use mathlib.Core.Path.{refl}
-use native.Mathlib.Omega.{arith}
-use Rattle.word.specs.Memory.{part}
-use Rattle.case_replay.specs.CaseReplay.{fileReplay}
-use Rattle.casefile.proofs.CaseLaws.{found-bodies}
-use Rattle.case_replay.proofs.FileLaws.{lent-body}
+use mathlib.Core.Path.{sym, subst}
+use Rattle.settings.specs.Boards.{BoardRules}
+use Rattle.settings.proofs.SettingsLaws.{default-board-allowed}
 use borrow.Author.Needs.{needs}
 use Rattle.case_replay.proofs.replay_case.Statement.{statement}
 use Rattle.case_replay.proofs.replay_case.Tie as tie
 
-read-case-requires : tie.Need-read-case-requires
-read-case-requires c κs = search needs
+default-board-requires : tie.Need-default-board-requires
+default-board-requires c κs = search needs
 
-enum-known-found : tie.Need-enum-known-found
-enum-known-found c = search needs
-
-enum-known-found-2 : tie.Need-enum-known-found-2
-enum-known-found-2 c = search needs
-
-sub-replay : tie.Need-sub-replay
-sub-replay c =
-    let found = c .before in
-    let k = found .before .before .before .read-case in
-    omega (arith, found-bodies _ _ _ _ (k .ensures .1) (found .found2 .given .1))
-
-part-replay-start : tie.Need-part-replay-start
-part-replay-start c =
-    let found = c .before in
-    let k = found .before .before .before .read-case in
-    omega (arith, found-bodies _ _ _ _ (k .ensures .1) (found .found2 .given .1))
-
-part-replay-end : tie.Need-part-replay-end
-part-replay-end c =
-    let found = c .before in
-    let k = found .before .before .before .read-case in
-    omega (arith, found-bodies _ _ _ _ (k .ensures .1) (found .found2 .given .1))
-
-replay-requires : tie.Need-replay-requires
-replay-requires c κs = search needs
+replay-case-on-requires : tie.Need-replay-case-on-requires
+replay-case-on-requires c κs = subst BoardRules (sym (c .before .default-board .ensures)) default-board-allowed
 
 same-length : tie.Need-same-length
 same-length c = search needs
 
 returns : tie.Need-returns
-unfolding fileReplay
 returns c =
-    let found = c .before in
-    rw (← found .before .before .before .read-case .ensures .0, found .found .given .1) (refl, refl)
-
-same-length-2 : tie.Need-same-length-2
-same-length-2 c = search needs
-
-returns-2 : tie.Need-returns-2
-unfolding fileReplay part
-returns-2 c =
-    let found = c .before .before .before .before .before in
-    let k = found .before .before .before .read-case in
-    let r = c .before .before .replay in
-    let t = found-bodies _ _ _ _ (k .ensures .1) (found .found2 .given .1) in
-    rw (← k .ensures .0, found .found2 .given .1) (r .ensures .0, lent-body _ _ _ _ _ (t .0) (t .1) (r .kept .1 .1 .0) (r .ensures .1))
+    let replayed = c .before .before in
+    rw (← replayed .before .before .default-board .ensures) (replayed .replay-case-on .ensures)
 
 pub replay-case-spec : {M : Type 1} → statement M
-replay-case-spec =
-    tie.close
-    (tie.spec
-    read-case-requires
-    enum-known-found
-    enum-known-found-2
-    sub-replay
-    part-replay-start
-    part-replay-end
-    replay-requires
-    same-length
-    returns
-    same-length-2
-    returns-2)
+replay-case-spec = tie.close (tie.spec default-board-requires replay-case-on-requires same-length returns)

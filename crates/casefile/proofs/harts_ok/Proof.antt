@@ -1,10 +1,11 @@
-use mathlib.Core.Path.{sym, ap, _∙_}
+use mathlib.Core.Path.{sym, ap, subst, _∙_}
 use Prim.Native.Nat.{ℕ, _+_, _*_}
 use native.Mathlib.Omega.{arith}
 use lib.ListN.{length}
 use borrow.Author.Tests.{eq-eqb, ne-eqb}
-use Rattle.casefile.specs.Harts.{countOf, hartsOk}
-use Rattle.casefile.specs.Harts.{hartsOk}
+use Rattle.settings.specs.Settings.{PowerOfTwo, granuleOf}
+use Rattle.settings.proofs.SettingsLaws.{granule-power}
+use Rattle.casefile.specs.Harts.{countOf, hartsOk, settingsOf}
 use borrow.Author.Needs.{needs}
 use Rattle.casefile.proofs.harts_ok.Statement.{statement}
 use Rattle.casefile.proofs.harts_ok.Tie as tie
@@ -34,6 +35,18 @@ load-at-requires c κs = search needs
 field-requires-2 : tie.Need-field-requires-2
 field-requires-2 c κs = search needs
 
+read-settings-requires : tie.Need-read-settings-requires
+read-settings-requires c κs = search needs
+
+granule-requires : tie.Need-granule-requires
+granule-requires c κs = search needs
+
+remainder-requires : tie.Need-remainder-requires
+remainder-requires c κs =
+    let start = c .before .before .before .before .before .before .before .before in
+    subst PowerOfTwo (sym (c .granule .ensures ∙ ap granuleOf (c .before .read-settings .ensures)))
+    (granule-power (settingsOf (start .args .board) (start .args .body .now)) (start .pre .0))
+
 pcs-ok-requires : tie.Need-pcs-ok-requires
 pcs-ok-requires c κs = search needs
 
@@ -43,13 +56,18 @@ halves-ok-requires c κs = search needs
 returns-3 : tie.Need-returns-3
 unfolding hartsOk
 returns-3 c =
-    let count = c .before .before .before .before .before .field .ensures .0 in
-    let size = c .before .before .before .before .if2 .left ∙ ap (λ (n : ℕ). 16 + 256 * n) count in
+    let set = c .before .before .before .before in
+    let tested = set .before .before .before in
+    let count = tested .before .field .ensures .0 in
+    let size = tested .if2 .left ∙ ap (λ (n : ℕ). 16 + 256 * n) count in
     rw (
       c .halves-ok .ensures,
       c .before .pcs-ok .ensures,
-      c .before .before .field2 .ensures .0,
-      c .before .before .before .load-at .ensures,
+      c .before .before .remainder .ensures,
+      c .before .before .before .granule .ensures,
+      set .read-settings .ensures,
+      set .before .field2 .ensures .0,
+      set .before .before .load-at .ensures,
       eq-eqb _ _ size,
       count,
     )
@@ -65,6 +83,9 @@ harts-ok-spec =
     returns-2
     load-at-requires
     field-requires-2
+    read-settings-requires
+    granule-requires
+    remainder-requires
     pcs-ok-requires
     halves-ok-requires
     returns-3)

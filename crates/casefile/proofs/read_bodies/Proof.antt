@@ -7,6 +7,7 @@ use native.Mathlib.Omega.{arith}
 use lib.ListN.{length, take, drop, length-take, length-drop}
 use borrow.Author.Tests.{not-true, not-false}
 use Rattle.word.specs.Memory.{part}
+use Rattle.settings.specs.declared.Board.{Board}
 use Rattle.events.specs.Events.{checkedOf, Within}
 use Rattle.events.specs.declared.Checked.{Checked}
 use Rattle.casefile.specs.Harts.{baseOf, countOf, hartsOk, HartsRules}
@@ -19,12 +20,15 @@ use Rattle.casefile.proofs.read_bodies.Tie as tie
 abbrev harts : (c : tie.Else1) → List ℕ
 harts c = take (c .before .before .before .before .args .memory - 40) (drop 40 (c .before .before .before .before .args .file .now))
 
+abbrev board : (c : tie.Else1) → Board
+board c = c .before .before .before .before .args .board
+
 -- what 9 and 10 let pass, and what the check of the events said
-right : (c : tie.Else1) → hartsOk (harts c) ≡ true
+right : (c : tie.Else1) → hartsOk (board c) (harts c) ≡ true
 right c = sym (c .before .harts-ok .ensures) ∙ not-false _ (c .if1 .left)
 
-rules : (c : tie.Else1) → HartsRules (harts c)
-rules c = harts-exact (harts c) .0 (right c)
+rules : (c : tie.Else1) → HartsRules (board c) (harts c)
+rules c = harts-exact (board c) (harts c) .0 (right c)
 
 abbrev memory : (c : tie.Else1) → List ℕ
 memory c =
@@ -35,7 +39,7 @@ memory c =
 size : (c : tie.Else1) → length (memory c) ≡ c .before .before .before .before .args .events - c .before .before .before .before .args .memory
 size c = simp (length-take, length-drop) (omega arith)
 
-long : (c : tie.Else2) → memoryBodyOk (harts (c .before .before)) (length (memory (c .before .before))) ≡ true
+long : (c : tie.Else2) → memoryBodyOk (board (c .before .before)) (harts (c .before .before)) (length (memory (c .before .before))) ≡ true
 long c = rw (size (c .before .before)) (sym (c .before .memory-ok .ensures) ∙ not-false _ (c .if2 .left))
 
 -- `&file[events..]` is what follows that place
@@ -78,7 +82,7 @@ sub-memory-ok : tie.Need-sub-memory-ok
 sub-memory-ok c = search needs
 
 memory-ok-requires : tie.Need-memory-ok-requires
-memory-ok-requires c κs = rules c
+memory-ok-requires c κs = (c .before .before .before .before .pre .0, rules c)
 
 refused-requires-2 : tie.Need-refused-requires-2
 refused-requires-2 c κs = search needs

@@ -1,53 +1,18 @@
-use mathlib.Core.Path.{sym, subst, _∙_}
-use lib.ListN.{length}
-use Rattle.casefile.specs.Table.{InsideFile}
-use Rattle.casefile.specs.Case.{caseOf}
-use Rattle.casefile.specs.declared.Found.{Found}
-use Rattle.casefile.proofs.TableLaws.{table-inside}
-use Rattle.casefile.proofs.CaseLaws.{read-sound}
+use mathlib.Core.Path.{sym, subst}
+use Rattle.settings.specs.Boards.{defaultBoard, BoardRules}
+use Rattle.settings.proofs.SettingsLaws.{default-board-allowed}
 use borrow.Author.Needs.{needs}
 use Rattle.casefile.proofs.read_case.Statement.{statement}
 use Rattle.casefile.proofs.read_case.Tie as tie
 
-read-table-requires : tie.Need-read-table-requires
-read-table-requires c κs = search needs
+default-board-requires : tie.Need-default-board-requires
+default-board-requires c κs = search needs
 
-enum-known-number : tie.Need-enum-known-number
-enum-known-number c = search needs
-
-refused-requires : tie.Need-refused-requires
-refused-requires c κs = search needs
-
-enum-known-memory : tie.Need-enum-known-memory
-enum-known-memory c = search needs
-
-read-bodies-requires : tie.Need-read-bodies-requires
-read-bodies-requires c κs =
-    let file = c .before .before .before .before .before .args .file .now in
-    let table = sym (c .before .before .before .read-table .ensures) ∙ c .before .memory .given .1 in
-    let i = subst (λ (f : Found). InsideFile (length file) f) table (table-inside file) in
-    ((i .0, i .1), (i .2, i .3))
+read-case-on-requires : tie.Need-read-case-on-requires
+read-case-on-requires c κs = subst BoardRules (sym (c .default-board .ensures)) default-board-allowed
 
 returns : tie.Need-returns
-unfolding caseOf
-returns c =
-    let table = sym (c .before .before .before .before .read-table .ensures) ∙ c .before .before .number .given .1 in
-    read-sound (c .before .before .before .before .before .before .args .file .now) _ (rw table (c .refused .ensures))
-
-returns-2 : tie.Need-returns-2
-unfolding caseOf
-returns-2 c =
-    let table = sym (c .before .before .before .before .read-table .ensures) ∙ c .before .before .memory .given .1 in
-    read-sound (c .before .before .before .before .before .before .args .file .now) _ (rw table (c .read-bodies .ensures))
+returns c = rw (← c .before .default-board .ensures) (c .read-case-on .ensures)
 
 pub read-case-spec : {M : Type 1} → statement M
-read-case-spec =
-    tie.close
-    (tie.spec
-    read-table-requires
-    enum-known-number
-    refused-requires
-    enum-known-memory
-    read-bodies-requires
-    returns
-    returns-2)
+read-case-spec = tie.close (tie.spec default-board-requires read-case-on-requires returns)

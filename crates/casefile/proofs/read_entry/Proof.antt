@@ -3,7 +3,8 @@ use mathlib.Core.Bool.{true}
 use native.Mathlib.Omega.{arith}
 use lib.Dec.{eqb}
 use borrow.Author.Tests.{eq-eqb, ne-eqb}
-use Rattle.casefile.specs.Table.{fieldAt, entryOf}
+use Rattle.word.specs.Memory.{fieldAt}
+use Rattle.casefile.specs.Table.{entryOf}
 use borrow.Author.Needs.{needs}
 use Rattle.casefile.proofs.read_entry.Statement.{statement}
 use Rattle.casefile.proofs.read_entry.Tie as tie

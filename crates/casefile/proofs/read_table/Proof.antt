@@ -6,7 +6,8 @@ use native.Mathlib.Omega.{arith}
 use lib.Dec.{ltb, eqb}
 use lib.ListN.{length}
 use borrow.Author.Tests.{lt-ltb, le-ltb, eq-eqb, ne-eqb}
-use Rattle.casefile.specs.Table.{fieldAt, entryOf, tableOf, EndsWithin}
+use Rattle.word.specs.Memory.{fieldAt}
+use Rattle.casefile.specs.Table.{entryOf, tableOf, EndsWithin}
 use Rattle.casefile.specs.declared.Entry.the-variants.{Ends}
 use borrow.Author.Needs.{needs}
 use Rattle.casefile.proofs.read_table.Statement.{statement}

@@ -51,7 +51,7 @@ returns : tie.Need-returns
 unfolding execAtomic
 returns c =
     rw (c .before .before .enum-told .given .1, ← c .before .before .before .before .before .reg .ensures)
-    (record { answer = c .lr .ensures; memory = sym (memoryBy-lr _ _ _ _ _ _ _) })
+    (record { answer = c .lr .ensures; memory = sym (memoryBy-lr _ _ _ _ _ _ _ _) })
 
 same-length-2 : tie.Need-same-length-2
 same-length-2 c = search needs

@@ -25,8 +25,8 @@ returns c =
     let gone : (eqb (a .xlen) 32 && lacks (asked .before .decode .result)) ≡ true
     = rw (eq-eqb _ _ (asked .if1 .taken)) (sym (c .before .lacks .ensures) ∙ c .if2 .taken) in
     met-as
-    (lacked-word (a .xlen) (a .word) _ (asked .before .decode .ensures) gone (regAt (a .x .now) (a .h)) (a .pc) (a .base) (a .mem .now)
-    (coversOf (a .settings) (a .res)))
+    (lacked-word (a .xlen) (a .word) _ (asked .before .decode .ensures) gone (a .settings .misaligned) (regAt (a .x .now) (a .h)) (a .pc) (a .base)
+    (a .mem .now) (coversOf (a .settings) (a .res)))
     (record { answer = refl; memory = refl })
 
 execute-requires : tie.Need-execute-requires
@@ -48,7 +48,7 @@ returns-2 c =
     let has : (eqb (a .xlen) 32 && lacks (read .decode .result)) ≡ false
     = ⊎-elim (λ t. rw (eq-eqb _ _ (t .0 .taken)) (sym (t .1 .ensures) ∙ t .2 .left)) (λ f. rw (ne-eqb _ _ (f .left))) (joined .if1 .came) in
     met-as
-    (had-word (a .xlen) (a .word) _ (read .decode .ensures) has (regAt (a .x .now) (a .h)) (a .pc) (a .base) (a .mem .now)
+    (had-word (a .xlen) (a .word) _ (read .decode .ensures) has (a .settings .misaligned) (regAt (a .x .now) (a .h)) (a .pc) (a .base) (a .mem .now)
     (coversOf (a .settings) (a .res)))
     (c .before .before .execute .ensures)
 

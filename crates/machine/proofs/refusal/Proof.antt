@@ -1,4 +1,5 @@
-use mathlib.Core.Path.{sym, _∙_}
+use mathlib.Core.Path.{sym, ap₂, _∙_}
+use mathlib.Core.Bool.{_&&_}
 use borrow.Author.Tests.{lt-leb, le-leb, not-true, not-false}
 use native.Mathlib.Omega.{arith}
 use Rattle.machine.specs.State.{stateOk, refusalOf}
@@ -30,16 +31,19 @@ returns-3 c =
 reading-ok-requires : tie.Need-reading-ok-requires
 reading-ok-requires c κs = search needs
 
+misaligned-ok-requires : tie.Need-misaligned-ok-requires
+misaligned-ok-requires c κs = search needs
+
 returns-4 : tie.Need-returns-4
 unfolding refusalOf stateOk
 returns-4 c =
-    let counted = c .before .before .before .before in
+    let counted = c .before .before .before .before .before in
     let a = counted .before .before .args in
     rw (
       sym (counted .before .memory-ok .ensures) ∙ not-false _ (counted .if1 .left),
       le-leb 1 (a .count) (omega arith),
       le-leb (a .count) 8 (omega arith),
-      sym (c .before .reading-ok .ensures) ∙ not-true _ (c .if4 .taken),
+      sym (ap₂ _&&_ (c .before .before .reading-ok .ensures) (c .before .misaligned-ok .ensures)) ∙ not-true _ (c .if4 .taken),
     )
 
 harts-ok-requires : tie.Need-harts-ok-requires
@@ -49,13 +53,13 @@ returns-5 : tie.Need-returns-5
 unfolding refusalOf stateOk
 returns-5 c =
     let versioned = c .before .before in
-    let counted = versioned .before .before .before .before in
+    let counted = versioned .before .before .before .before .before in
     let a = counted .before .before .args in
     rw (
       sym (counted .before .memory-ok .ensures) ∙ not-false _ (counted .if1 .left),
       le-leb 1 (a .count) (omega arith),
       le-leb (a .count) 8 (omega arith),
-      sym (versioned .before .reading-ok .ensures) ∙ not-false _ (versioned .if4 .left),
+      sym (ap₂ _&&_ (versioned .before .before .reading-ok .ensures) (versioned .before .misaligned-ok .ensures)) ∙ not-false _ (versioned .if4 .left),
       sym (c .before .harts-ok .ensures) ∙ c .if5 .taken,
     )
 
@@ -63,13 +67,13 @@ returns-6 : tie.Need-returns-6
 unfolding refusalOf stateOk
 returns-6 c =
     let versioned = c .before .before in
-    let counted = versioned .before .before .before .before in
+    let counted = versioned .before .before .before .before .before in
     let a = counted .before .before .args in
     rw (
       sym (counted .before .memory-ok .ensures) ∙ not-false _ (counted .if1 .left),
       le-leb 1 (a .count) (omega arith),
       le-leb (a .count) 8 (omega arith),
-      sym (versioned .before .reading-ok .ensures) ∙ not-false _ (versioned .if4 .left),
+      sym (ap₂ _&&_ (versioned .before .before .reading-ok .ensures) (versioned .before .misaligned-ok .ensures)) ∙ not-false _ (versioned .if4 .left),
       sym (c .before .harts-ok .ensures) ∙ c .if5 .left,
     )
 
@@ -82,6 +86,7 @@ refusal-spec =
     returns-2
     returns-3
     reading-ok-requires
+    misaligned-ok-requires
     returns-4
     harts-ok-requires
     returns-5

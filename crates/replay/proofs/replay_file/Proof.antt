@@ -4,8 +4,8 @@ use borrow.Author.Needs.{needs}
 use Rattle.replay.proofs.replay_file.Statement.{statement}
 use Rattle.replay.proofs.replay_file.Tie as tie
 
-read-case-requires : tie.Need-read-case-requires
-read-case-requires c κs = search needs
+read-case-on-requires : tie.Need-read-case-on-requires
+read-case-on-requires c κs = search needs
 
 enum-known-found : tie.Need-enum-known-found
 enum-known-found c = search needs
@@ -19,19 +19,19 @@ enum-known-found-2 c = search needs
 sub-replay-log : tie.Need-sub-replay-log
 sub-replay-log c =
     let found = c .before in
-    let k = found .before .before .before .read-case in
+    let k = found .before .before .before .read-case-on in
     omega (arith, found-bodies _ _ _ _ (k .ensures .1) (found .found2 .given .1))
 
 part-replay-log-start : tie.Need-part-replay-log-start
 part-replay-log-start c =
     let found = c .before in
-    let k = found .before .before .before .read-case in
+    let k = found .before .before .before .read-case-on in
     omega (arith, found-bodies _ _ _ _ (k .ensures .1) (found .found2 .given .1))
 
 part-replay-log-end : tie.Need-part-replay-log-end
 part-replay-log-end c =
     let found = c .before in
-    let k = found .before .before .before .read-case in
+    let k = found .before .before .before .read-case-on in
     omega (arith, found-bodies _ _ _ _ (k .ensures .1) (found .found2 .given .1))
 
 replay-log-requires : tie.Need-replay-log-requires
@@ -53,7 +53,7 @@ pub replay-file-spec : {M : Type 1} → statement M
 replay-file-spec =
     tie.close
     (tie.spec
-    read-case-requires
+    read-case-on-requires
     enum-known-found
     write-refusal-requires
     enum-known-found-2

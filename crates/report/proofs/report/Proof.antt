@@ -1,24 +1,18 @@
-use mathlib.Core.Path.{sym}
-use Prim.Native.Nat.{_≤_}
-use native.Mathlib.Omega.{arith}
-use lib.ListN.{length}
-use lib.Seq.{length-take-le}
+use mathlib.Core.Path.{sym, subst}
+use Rattle.settings.specs.Boards.{BoardRules}
+use Rattle.settings.proofs.SettingsLaws.{default-board-allowed}
 use borrow.Author.Needs.{needs}
 use Rattle.report.proofs.report.Statement.{statement}
 use Rattle.report.proofs.report.Tie as tie
 
-put-report-requires : tie.Need-put-report-requires
-put-report-requires c κs = search needs
+default-board-requires : tie.Need-default-board-requires
+default-board-requires c κs = search needs
+
+report-on-requires : tie.Need-report-on-requires
+report-on-requires c κs = subst BoardRules (sym (c .before .default-board .ensures)) default-board-allowed
 
 returns : tie.Need-returns
-returns c =
-    let p = c .put-report in
-    let fits : p .result ≤ length (p .last .0) = omega (arith, p .ensures .1, p .kept .0) in
-    ((fits, sym (length-take-le _ _ fits)), p .ensures .0 .holds)
+returns c = rw (← c .before .before .default-board .ensures) (c .report-on .ensures)
 
 pub report-spec : {M : Type 1} → statement M
-report-spec =
-    tie.close
-    (tie.spec
-    put-report-requires
-    returns)
+report-spec = tie.close (tie.spec default-board-requires report-on-requires returns)

@@ -1,6 +1,7 @@
 use mathlib.Core.Path.{sym, _∙_}
 use mathlib.Core.List.{[], _∷_}
-use Rattle.layout.proofs.LayoutLaws.{length-wordBytes, splice-whole}
+use Rattle.word.proofs.MemoryLaws.{splice-whole}
+use Rattle.layout.proofs.LayoutLaws.{length-wordBytes}
 use borrow.Author.Needs.{needs}
 use Rattle.capi.proofs.steps.tell.Statement.{statement}
 use Rattle.capi.proofs.steps.tell.Tie as tie

@@ -11,7 +11,16 @@ returns c =
         | inl t ↦ rw (t .1, t .0 .keys2)
         | inr v ↦ elim v [
           | inl t ↦ rw (t .1, t .0 .keys3)
-          | inr t ↦ rw (t .1, ne-eqb _ _ (t .0 .rest .0 .0 .1), ne-eqb _ _ (t .0 .rest .0 .1), ne-eqb _ _ (t .0 .rest .1))
+          | inr w ↦ elim w [
+            | inl t ↦ rw (t .1, t .0 .keys4)
+            | inr t ↦ rw (
+              t .1,
+              ne-eqb _ _ (t .0 .rest .0 .0 .0 .1),
+              ne-eqb _ _ (t .0 .rest .0 .0 .1),
+              ne-eqb _ _ (t .0 .rest .0 .1),
+              ne-eqb _ _ (t .0 .rest .1),
+            )
+          ]
         ]
       ]
     ]

@@ -14,26 +14,31 @@ bytes-of-requires c κs = search needs
 bits-of-requires : tie.Need-bits-of-requires
 bits-of-requires c κs = search needs
 
+amo-cause-requires : tie.Need-amo-cause-requires
+amo-cause-requires c κs = search needs
+
 fault-requires : tie.Need-fault-requires
 fault-requires c κs = search needs
 
 returns : tie.Need-returns
 unfolding execAmo
-returns c = rw (← c .before .before .before .bytes-of .ensures .0) (met-trap 6 7 _ _ _ _ _ (c .before .fault .ensures) _ (c .if1 .taken))
+returns c =
+    rw (← c .before .before .before .before .bytes-of .ensures .0, ← c .before .before .amo-cause .ensures .0)
+    (met-trap _ 7 _ _ _ _ _ (c .before .fault .ensures) _ (c .if1 .taken))
 
 wrap-requires : tie.Need-wrap-requires
 wrap-requires c κs = search needs
 
 sub-modify-at : tie.Need-sub-modify-at
 sub-modify-at c =
-    let i = room 6 7 _ _ _ _ _ (c .before .before .before .fault .ensures) (omega arith) (omega arith) (c .before .before .if1 .left) in
+    let i = room _ 7 _ _ _ _ _ (c .before .before .before .fault .ensures) (omega arith) (omega arith) (c .before .before .if1 .left) in
     omega arith
 
 modify-at-requires : tie.Need-modify-at-requires
 modify-at-requires c κs =
-    let i = room 6 7 _ _ _ _ _ (c .before .before .before .fault .ensures) (omega arith) (omega arith) (c .before .before .if1 .left) in
-    let n = c .before .before .before .before .before .bytes-of .ensures .0 in
-    (rw (← n) (omega arith), rw (← c .before .before .before .before .bits-of .ensures .0, c .before .wrap .ensures) (low-lt _ _))
+    let i = room _ 7 _ _ _ _ _ (c .before .before .before .fault .ensures) (omega arith) (omega arith) (c .before .before .if1 .left) in
+    let n = c .before .before .before .before .before .before .bytes-of .ensures .0 in
+    (rw (← n) (omega arith), rw (← c .before .before .before .before .before .bits-of .ensures .0, c .before .wrap .ensures) (low-lt _ _))
 
 sign-extend-requires : tie.Need-sign-extend-requires
 sign-extend-requires c κs = search needs
@@ -47,11 +52,12 @@ same-length c = search needs
 returns-2 : tie.Need-returns-2
 unfolding execAmo valueAt
 returns-2 c =
-    let n = c .before .before .before .before .before .before .before .before .before .before .bytes-of .ensures .0 in
-    let k = c .before .before .before .before .before .before .before .before .before .bits-of .ensures .0 in
-    let f = rw n at (c .before .before .before .before .before .before .before .before .fault .ensures) in
+    let faulted = c .before .before .before .before .before .before .before .before in
+    let n = faulted .before .before .before .bytes-of .ensures .0 in
+    let k = faulted .before .before .bits-of .ensures .0 in
+    let f = rw (n, faulted .before .amo-cause .ensures .0) at (faulted .fault .ensures) in
     let v = rw k at (c .before .before .before .before .before .before .wrap .ensures) in
-    met-done 6 7 _ _ _ _ _ f _ (c .before .before .before .before .before .before .before .if1 .left)
+    met-done _ 7 _ _ _ _ _ f _ (c .before .before .before .before .before .before .before .if1 .left)
     (record {
       answer = rw (length-toLe, ← c .before .before .before .before .modify-at .ensures .0, ← k, ← c .before .sign-extend .ensures, ← n) (c .retire .ensures);
       memory = rw (← v) (c .before .before .before .before .modify-at .ensures .1);
@@ -63,6 +69,7 @@ amo-spec =
     (tie.spec
     bytes-of-requires
     bits-of-requires
+    amo-cause-requires
     fault-requires
     returns
     wrap-requires

@@ -53,7 +53,7 @@ returns c =
     let moved = c .before .before .move-hart .ensures in
     let settled = c .settle .ensures in
     let does : Reservation → E.Exec = λ q.
-    fetchOf (xlenOf (a .settings)) (regAt (m .state .x) h) (getD (m .state .pc) h 0) (a .base) (m .mem) (coversOf (a .settings) q) in
+    fetchOf (xlenOf (a .settings)) (a .settings .misaligned) (regAt (m .state .x) h) (getD (m .state .pc) h 0) (a .base) (m .mem) (coversOf (a .settings) q) in
     let same = ap does (held .reservation .ensures) in
     let d = f .answer ∙ ap (E.doneOf h) same in
     let is : actOn (a .base) (m .mem) (m .state) (Step h) ≡ ofExec h e = rw (lt-ltb h (a .count) (start .pre .1)) in

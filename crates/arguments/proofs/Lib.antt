@@ -1,0 +1,2 @@
+-- The laws of numbers said by digits.
+pub mod NumberLaws

@@ -1,0 +1,2 @@
+-- The board that a program is told to run on.
+pub mod Choice

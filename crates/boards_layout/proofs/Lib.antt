@@ -1,0 +1,2 @@
+-- The laws of boards as bytes.
+pub mod BoardLaws

@@ -1,0 +1,2 @@
+-- Boards as bytes.
+pub mod Boards
