@@ -1,1 +1,2 @@
 // Theorems only: who lost a reservation to an event, in words.
+#![tactic(auto)]

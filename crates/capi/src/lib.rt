@@ -1,4 +1,5 @@
 // The functions that C and Rust call: include/floecavern.h says how. None has a precondition.
+#![tactic(auto)]
 mod replay;
 mod settings_files;
 mod steps;

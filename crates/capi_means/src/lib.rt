@@ -1,1 +1,2 @@
 // Theorems only: what the contracts of `capi` come to for a caller.
+#![tactic(auto)]

@@ -1,4 +1,5 @@
 // A board's log replayed from a case file, and the answer as text.
+#![tactic(auto)]
 pub mod answer;
 
 ghost use Rattle.std.specs.Prelude.{◌≡◌, ◌+◌, ◌/◌, ◌%◌, ◌^◌, ◌<◌, length, take};

@@ -1,6 +1,7 @@
 // loopcheck [VERSION [KIND]]: says of the words on standard input, 4 bytes each and the lowest first, whether they are a retry loop that is accepted, under
 // A 2.1 or the VERSION that is given, 20 for 2.0 and 21 for 2.1, read as a 64-bit core reads them or as the KIND does that is given, 0 for 64 bits and 1 for
 // 32: a line `accepted`, `rejected PLACE REASON` or `refused NUMBER`. What can't be read or written is told on standard error.
+#![tactic(auto)]
 use arguments::argument;
 use input::Input;
 use libc::{STDERR_FILENO, STDIN_FILENO, STDOUT_FILENO};

@@ -1,1 +1,2 @@
 // Theorems only: from which events alone each notice comes.
+#![tactic(auto)]

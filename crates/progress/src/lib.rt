@@ -1,1 +1,2 @@
 // Theorems only: an accepted retry loop that is left alone finishes.
+#![tactic(auto)]

@@ -1,6 +1,7 @@
 // replay CASE LOG: replays a board's log, of any size, from the harts and the memory of a case file, and writes the answer on standard output. replay CASE LOG
 // SETTINGS BOARD: the same on a board of a settings file, by its number, from 0. What can't be read or written is told on standard error; then there is no
 // answer.
+#![tactic(auto)]
 ghost use Rattle.std.specs.Prelude.{◌≡◌, ◌+◌, ◌/◌, ◌%◌, ◌^◌, ◌<◌, min, length};
 ghost use Rattle.settings.specs.Boards.{BoardRules};
 

@@ -1,1 +1,2 @@
 // Theorems only: when an SC of a run succeeds.
+#![tactic(auto)]

@@ -1,4 +1,5 @@
 // Rows of the boards' logs: read, and written.
+#![tactic(auto)]
 pub mod digits;
 
 ghost use Rattle.std.specs.Prelude.{◌≡◌, [], ◌∷◌, ◌++◌, ◌+◌, ◌≤◌, ◌<◌, length};

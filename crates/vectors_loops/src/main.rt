@@ -1,6 +1,7 @@
 // Writes the line of each block on standard input. A block is a byte with the version of A, one with the kind of core, one with the number of its words,
 // then the words, 4 bytes each and the lowest first.
 // The lines that are expected were made by an independent model of document 01.
+#![tactic(auto)]
 ghost use Rattle.std.specs.Prelude.{◌<◌, length};
 
 use libc::{STDIN_FILENO, STDOUT_FILENO};
