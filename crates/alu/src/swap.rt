@@ -9,7 +9,7 @@ use isa::Width;
 use word::bytes::{load_at, load_le, store_at, store_le};
 
 // A number as a pair of registers holds it, each half of them of a width.
-#[derive(Drop)]
+#[derive(Clone, Copy)]
 pub struct Pair {
     pub low: u64,
     pub high: u64,

@@ -3,7 +3,7 @@
 use reserve::Notice;
 
 // A retired instruction: up to two registers written, the first one first (x0: none), the next pc, and what reservations learn.
-#[derive(Drop)]
+#[derive(Clone, Copy)]
 pub struct Effect {
     pub rd: usize,
     pub value: u64,
@@ -13,7 +13,7 @@ pub struct Effect {
     pub notice: Notice,
 }
 
-#[derive(Drop)]
+#[derive(Clone, Copy)]
 pub enum Done {
     Retired(Effect),
     Trap { cause: u64, value: u64 },

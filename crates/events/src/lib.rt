@@ -8,7 +8,7 @@ ghost use Rattle.events.specs.Events.{hart_event, device_event, good_event, chec
 use word::bytes::{load_at, load_le, wide};
 
 // A hart's step; a device write of the size lowest bytes of data, the first byte lowest; a yield, which drops a hart's reservation.
-#[derive(Drop)]
+#[derive(Clone, Copy)]
 pub enum Event {
     Step { hart: usize },
     Device { addr: u64, size: usize, data: u64 },
@@ -16,7 +16,7 @@ pub enum Event {
 }
 
 // Whether each event of a body is well formed, or the place of the first that is not.
-#[derive(Drop)]
+#[derive(Clone, Copy)]
 pub enum Checked {
     Good,
     Bad(usize),

@@ -18,7 +18,7 @@ use Rattle.isa.specs.Fields.{bits, rd_of, rs1_of, rs2_of, funct3_of, funct5_of, 
 use Rattle.isa.specs.Decode as D
 use Rattle.isa.specs.Decode.{key, decode_of, is_even}
 use Rattle.isa.specs.Narrow.{if_kept, kept_load, kept_store, kept_imm, narrowed, decode_at, is_double, is_cas}
-use Rattle.isa.specs.Legal32.{◌oneOf◌, Legal32, is_load, is_fence, is_op_imm, is_shift_left, is_shift_right, is_auipc, is_store}
+use Rattle.isa.specs.Legal32.{◌one_of◌, Legal32, is_load, is_fence, is_op_imm, is_shift_left, is_shift_right, is_auipc, is_store}
 use Rattle.isa.specs.Legal32.{is_atomic, is_lr, is_pair, is_op, is_sub_or_sra, is_lui, is_branch, is_jalr, is_jal, is_system}
 use Rattle.isa.specs.declared.AtomicOp.{AtomicOp}
 use Rattle.isa.specs.declared.AtomicOp.TheVariants.{Lr, Sc, Cas, CasPair, Rmw}

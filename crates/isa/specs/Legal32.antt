@@ -6,8 +6,8 @@ use Rattle.isa.specs.Fields.{rd_of, rs2_of, funct3_of, funct5_of, funct7_of}
 use Rattle.isa.specs.Decode.{LOAD, MISC-MEM, OP-IMM, AUIPC, STORE, AMO, OP, LUI, BRANCH, JALR, JAL, class_of}
 
 -- the number is one of these
-infix 40 ◌oneOf◌
-abbrev pub ◌oneOf◌ : ℕ → List ℕ → Type 0
+infix 40 ◌one_of◌
+abbrev pub ◌one_of◌ : ℕ → List ℕ → Type 0
 n one_of [] = ⊥
 n one_of (m ∷ ms) = (n ≡ m) ⊎ (n one_of ms)
 

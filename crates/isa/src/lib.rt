@@ -13,7 +13,7 @@ pub mod narrow;
 mod ops;
 mod tables;
 
-#[derive(Drop)]
+#[derive(Clone, Copy)]
 pub enum LoadOp {
     Lb,
     Lh,
@@ -24,7 +24,7 @@ pub enum LoadOp {
     Lwu,
 }
 
-#[derive(Drop)]
+#[derive(Clone, Copy)]
 pub enum StoreOp {
     Sb,
     Sh,
@@ -32,7 +32,7 @@ pub enum StoreOp {
     Sd,
 }
 
-#[derive(Drop)]
+#[derive(Clone, Copy)]
 pub enum BranchOp {
     Eq,
     Ne,
@@ -43,7 +43,7 @@ pub enum BranchOp {
 }
 
 // The operations of OP, OP-IMM, OP-32 and OP-IMM-32.
-#[derive(Drop)]
+#[derive(Clone, Copy)]
 pub enum AluOp {
     Add,
     Sub,
@@ -58,7 +58,7 @@ pub enum AluOp {
 }
 
 // The operations of the nine AMOs.
-#[derive(Drop)]
+#[derive(Clone, Copy)]
 pub enum AmoOp {
     Swap,
     Add,
@@ -72,7 +72,7 @@ pub enum AmoOp {
 }
 
 // CasPair compares and swaps a pair of registers: AMOCAS.Q, and AMOCAS.D of RV32.
-#[derive(Drop)]
+#[derive(Clone, Copy)]
 pub enum AtomicOp {
     Lr,
     Sc,
@@ -82,14 +82,14 @@ pub enum AtomicOp {
 }
 
 // The width of what an atomic instruction moves to or from one register.
-#[derive(Drop)]
+#[derive(Clone, Copy)]
 pub enum Width {
     Word,
     Double,
 }
 
 // An atomic operation with its width, both ordering bits and its registers.
-#[derive(Drop)]
+#[derive(Clone, Copy)]
 pub struct Atomic {
     pub op: AtomicOp,
     pub width: Width,
@@ -101,7 +101,7 @@ pub struct Atomic {
 }
 
 // imm is the immediate sign-extended to 64 bits, or the shift amount; of a FENCE, bits 31 to 20 as they stand.
-#[derive(Drop)]
+#[derive(Clone, Copy)]
 pub enum Instr {
     Illegal,
     Lui {

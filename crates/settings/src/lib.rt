@@ -7,7 +7,7 @@ ghost use Rattle.settings.specs.Boards.{default_board, on_board, board_ok};
 
 // size is the number of bytes of a reservation's set, the same for all harts; version that of A, 20 for 2.0 and 21 for 2.1; kind that of the core, 0 for
 // registers of 64 bits and 1 for registers of 32; misaligned is 0 where a misaligned LR, SC, AMO or AMOCAS gives cause 4 or 6, and 1 where it gives 5 or 7.
-#[derive(Drop)]
+#[derive(Clone, Copy)]
 pub struct Settings {
     pub size: u64,
     pub version: u64,
@@ -16,7 +16,7 @@ pub struct Settings {
 }
 
 // What a settings file says of a board. The kind isn't in it: every case says its own.
-#[derive(Drop)]
+#[derive(Clone, Copy)]
 pub struct Board {
     pub size: u64,
     pub version: u64,
