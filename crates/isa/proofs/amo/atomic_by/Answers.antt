@@ -12,6 +12,6 @@ returns-else-refuses c =
       ← c.refuses.ensures,
       c.if-refuses.false,
       ← c.atomic_op.ensures,
-      ← c.width_of_lem.ensures,
+      ← c.width_of.ensures,
     )
     c.atomic_as.ensures

@@ -1,10 +1,10 @@
 use Rattle.isa.proofs.narrow.kept_imm.Goals as goal
 
 pub returns-in-Sll : goal.returns-in-Sll
-returns-in-Sll c = rw c.enum_told-in-Sll-1.given.1
+returns-in-Sll c = rw c.in-Sll.is
 
 pub returns-in-Srl : goal.returns-in-Srl
-returns-in-Srl c = rw c.enum_told-in-Srl-1.given.1
+returns-in-Srl c = rw c.in-Srl.is
 
 pub returns-in-Sra : goal.returns-in-Sra
-returns-in-Sra c = rw c.enum_told-in-Sra-1.given.1
+returns-in-Sra c = rw c.in-Sra.is

@@ -1,0 +1,11 @@
+use Rattle.std.proofs.Common.{sym, refl, ◌∙◌}
+use Rattle.alu.specs.Amo.{min_of}
+use Rattle.alu.proofs.atomic.min_signed.Goals as goal
+
+pub returns-then-less_at : goal.returns-then-less_at
+unfolding min_of
+returns-then-less_at c = rw (sym c.less_at.ensures ∙ c.if-less_at.true) refl
+
+pub returns-else-less_at : goal.returns-else-less_at
+unfolding min_of
+returns-else-less_at c = rw (sym c.less_at.ensures ∙ c.if-less_at.false) refl

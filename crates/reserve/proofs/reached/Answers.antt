@@ -1,0 +1,11 @@
+use borrow.Author.Tests.{eq-eqb, ne_eqb}
+use Rattle.reserve.proofs.reached.Goals as goal
+
+pub returns-then-w : goal.returns-then-w
+returns-then-w c = rw (c.if-w.true, c.devices_break.ensures, c.touch.ensures.value)
+
+pub returns-then-w-h : goal.returns-then-w-h
+returns-then-w-h c = rw (c.if-w.false, ne_eqb _ _ c.if-w-h.true) c.touches_set.ensures
+
+pub returns-else-w-h : goal.returns-else-w-h
+returns-else-w-h c = rw (c.if-w.false, eq-eqb _ _ c.if-w-h.false)

@@ -1,0 +1,38 @@
+use mathlib.Core.Bool.{Bool, true}
+use mathlib.Core.Logic.{◌⊎◌, ◌↔◌, inl, inr}
+use mathlib.Core.Path.{◌≡◌, refl}
+use native.Mathlib.Omega.{arith}
+use borrow.Author.Tests.{eqb-true, eqb-false, leb-true, le-leb}
+use Rattle.word.proofs.TestLaws.{contrary, not_zero}
+use Prim.Native.Nat.{ℕ, ◌^◌, ◌≤◌}
+use Rattle.reserve.specs.Range.{Touch, touches}
+use Rattle.reserve.proofs.RangeLaws.{touches_only, empty_apart, ends_exact}
+use Rattle.reserve.proofs.touch.Goals as goal
+
+told : (b n c m : ℕ) (r : Bool) → (Touch b n c m → r ≡ true) → (r ≡ true → Touch b n c m) → ((r ≡ true) ↔ Touch b n c m) × (r ≡ touches b n c m)
+told b n c m r always only = ((only, always), touches_only b n c m r (only, always))
+
+pub last-requires-2 : goal.last-requires-2
+last-requires-2 c =
+    not_zero c.args.m c.if-m-eq0.false
+
+pub returns-then-n-eq0 : goal.returns-then-n-eq0
+returns-then-n-eq0 c =
+    let a = c.args in
+    let none : (a.n ≡ 0) ⊎ (a.m ≡ 0) = elim c.then-n-eq0.branch [ goal.then-n-eq0-via-then-n-eq0 w ↦ inl w.if-n-eq0.true | goal.then-n-eq0-via-else-n-eq0+then-m-eq0 w ↦ inr w.if-m-eq0.true ] in
+    let t = told a.b a.n a.c a.m _ (λ s. absurd (empty_apart a.b a.n a.c a.m none s)) (λ e. contrary e refl) in
+    record { variant = t.0; value = t.1 }
+
+pub returns : goal.returns
+returns c =
+    let ends = c in
+    let tried = ends in
+    let a = tried.args in
+    let some-n = not_zero a.n tried.if-n-eq0.false in
+    let some-m = not_zero a.m tried.if-m-eq0.false in
+    let exact : (ends.higher.result ≤ c.lower.result) ↔ Touch a.b a.n a.c a.m =
+    rw (ends.higher.ensures, c.lower.ensures, ends.last.ensures, c.last-2.ensures)
+    (ends_exact a.b a.n a.c a.m (2 ^ 64) (omega arith) (omega arith) some-n some-m) in
+    let t = told a.b a.n a.c a.m _ (λ s. le-leb ends.higher.result c.lower.result (exact.1 s))
+    (λ e. exact.0 (leb-true ends.higher.result c.lower.result e)) in
+    record { variant = t.0; value = t.1 }
