@@ -1,0 +1,4 @@
+use Rattle.exec.proofs.retire.Goals as goal
+
+pub returns : goal.returns
+returns c = rw c.add.ensures

@@ -1,0 +1,12 @@
+use mathlib.Core.Path.{refl}
+use Rattle.layout.proofs.load_settings.Goals as goal
+
+pub returns : goal.returns
+returns c =
+    rw (
+      c.load_at.ensures,
+      c.load_at-2.ensures,
+      c.load_at-3.ensures,
+      c.load_at-4.ensures,
+    )
+    refl
