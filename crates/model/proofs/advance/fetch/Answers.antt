@@ -1,0 +1,37 @@
+use mathlib.Core.Path.{refl, sym, ◌∙◌}
+use native.Mathlib.Omega.{arith}
+use Prim.Native.Nat.{◌-◌}
+use Rattle.settings.proofs.SettingsLaws.{xlen_is}
+use Rattle.effect.proofs.Fits.{value_lt}
+use Rattle.reserve.proofs.RangeLaws.{inside_of_lem}
+use Rattle.effect.specs.Memory.{value_at}
+use Rattle.model.specs.Perform.{fetch_of}
+use Rattle.model.proofs.advance.fetch.Goals as goal
+
+pub returns-then-not-inside : goal.returns-then-not-inside
+unfolding fetch_of
+returns-then-not-inside c = rw (sym c.inside.ensures ∙ c.if-not-inside.true) (record { answer = refl; memory = refl })
+
+pub overflow_sub-pc : goal.overflow_sub-pc
+overflow_sub-pc c = let i = inside_of_lem _ _ _ _ (sym c.inside.ensures ∙ c.if-not-inside.false) in omega arith
+
+pub load_at-word-requires : goal.load_at-word-requires
+load_at-word-requires c = let i = inside_of_lem _ _ _ _ (sym c.inside.ensures ∙ c.if-not-inside.false) in omega arith
+
+pub overflow_cast-word : goal.overflow_cast-word
+unfolding value_at
+overflow_cast-word c =
+    let x = c.args in
+    record { fits = rw c.load_at-word.ensures (value_lt x.base x.mem.now (λ k. (c.slice_known-1.given k).fits) x.pc 4) }
+
+pub execute_word-requires : goal.execute_word-requires
+execute_word-requires c =
+    let start = c in
+    (start.requires.0, start.requires.1, rw c.xlen-xlen.ensures (xlen_is start.args.settings))
+
+pub returns : goal.returns
+unfolding fetch_of value_at
+returns c =
+    let load = c in
+    let inside = sym load.inside.ensures ∙ load.if-not-inside.false in
+    rw (inside, ← load.load_at-word.ensures, ← c.xlen-xlen.ensures) c.execute_word.ensures

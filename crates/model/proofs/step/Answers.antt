@@ -1,0 +1,4 @@
+use Rattle.model.proofs.step.Goals as goal
+
+pub returns : goal.returns
+returns c = c.perform.ensures
