@@ -12,7 +12,7 @@ mod reasons;
 pub use bytes::check_bytes;
 
 // What the checker sees of a word: an LR, an SC, a word that is permitted after the LR by what it writes and where it leads, or any other.
-#[derive(Drop)]
+#[derive(Clone, Copy)]
 pub enum View {
     Lr { rd: usize, rs1: usize, width: usize },
     Sc { rs1: usize, width: usize },
@@ -23,7 +23,7 @@ pub enum View {
 }
 
 // Refused has 01's number: 2 for a version that is not kept, 6 for a block that is too short or too long.
-#[derive(Drop)]
+#[derive(Clone, Copy)]
 pub enum LoopAnswer {
     Accepted,
     Rejected { place: usize, reason: usize },
