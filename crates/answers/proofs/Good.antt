@@ -88,7 +88,7 @@ module _ (base : ℕ) where
   run_fits m v [] f = tt
   run_fits m v (e ∷ es) f = (
     (fits_exact base m v e).0 f.0,
-    rw (← count_next base m e, ← length_next base m v e) (run_fits (next_of base m e) (valid_next base m v e) es f.1),
+    rw (count_next base m e, length_next base m v e) at (run_fits (next_of base m e) (valid_next base m v e) es f.1),
   )
 
 -- ---- the event that 24 bytes are

@@ -1,20 +1,15 @@
-use Rattle.std.proofs.Common.{◌≡◌, ℕ, List, [], ◌∷◌, sym, refl, ◌∙◌, le-ltb, lt-ltb}
-use types.Run.{OneOf, miss}
-use denote.Enum.Declared.{tag_of}
+use Rattle.std.proofs.Common.{◌≡◌, ℕ, List, sym, refl, ◌∙◌, le-ltb, lt-ltb}
 use Rattle.settings.specs.declared.Settings.{Settings}
 use Rattle.retry.specs.Loop.{check_of, start_of}
-use Rattle.retry.specs.contracts.View.{the_type}
 use Rattle.retry.specs.declared.View.{View}
 use Rattle.retry.specs.declared.View.TheVariants.{Lr, Sc, Plain, Jump, Branch, Other}
 use Rattle.retry.specs.declared.LoopAnswer.TheVariants.{Rejected}
 use Rattle.retry.proofs.check_loop.Goals as goal
 
-others : List ℕ
-others = 1 ∷ 2 ∷ 3 ∷ 4 ∷ 5 ∷ []
-
-no_lr_lem : (settings : Settings) (v : View) (ws : List ℕ) → OneOf others (tag_of the_type v) → Rejected 0 1 ≡ start_of settings v ws
-unfolding others start_of
-no_lr_lem settings (Lr rd rs1 width) ws h = absurd (miss others 0 tt h)
+-- a block whose first word is no LR
+no_lr_lem : (settings : Settings) (v : View) (ws : List ℕ) → ((rd rs1 width : ℕ) → v ≡ Lr rd rs1 width → ⊥) → Rejected 0 1 ≡ start_of settings v ws
+unfolding start_of
+no_lr_lem settings (Lr rd rs1 width) ws h = absurd (h rd rs1 width refl)
 no_lr_lem settings (Sc rs1 width) ws h = refl
 no_lr_lem settings (Plain rd) ws h = refl
 no_lr_lem settings (Jump rd offset) ws h = refl
@@ -39,7 +34,7 @@ returns-then-words-gt16 c =
     )
 
 pub returns-in_default : goal.returns-in_default
-unfolding check_of others
+unfolding check_of
 returns-in_default c =
     let long = c in
     let short = long in
@@ -50,7 +45,7 @@ returns-in_default c =
       le-ltb _ _ long.if-words-gt16.false,
       ← c.look-first.ensures,
     )
-    (no_lr_lem _ c.look-first.result _ c.in_default.keys2)
+    (no_lr_lem _ c.look-first.result _ c.in_default.not-Lr)
 
 pub returns : goal.returns
 unfolding check_of start_of
