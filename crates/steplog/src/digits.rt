@@ -6,7 +6,7 @@ ghost use Rattle.steplog.specs.Digits.{digits_from, number_of, DigitTable};
 use word::bytes::wide;
 
 // Characters read as a number. The value is zero where they are none.
-#[derive(Drop)]
+#[derive(Clone, Copy)]
 pub struct Number {
     pub good: bool,
     pub value: u64,

@@ -11,7 +11,7 @@ use digits::{digit_table, put_digits, read_number};
 use text::put_byte;
 
 // A row: hart, pc, word, rd, and the value in rd afterwards.
-#[derive(Drop)]
+#[derive(Clone, Copy)]
 pub struct Row {
     pub hart: usize,
     pub pc: u64,
@@ -21,7 +21,7 @@ pub struct Row {
 }
 
 // A part of a log read: badly formed, or a row.
-#[derive(Drop)]
+#[derive(Clone, Copy)]
 pub enum Reading {
     Form,
     Read(Row),

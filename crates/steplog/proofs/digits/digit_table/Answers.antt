@@ -6,8 +6,7 @@ use lib.ListN.{get_or, replicate}
 use Rattle.word.proofs.TableLaws.{rule_at}
 use Rattle.text.specs.Number.{digit_of}
 use Rattle.steplog.specs.Digits.{is_digit, DigitTable}
-use Rattle.steplog.proofs.digits.digit_table.Statement.{statement}
-use Rattle.steplog.proofs.digits.digit_table.Tie as tie
+use Rattle.steplog.proofs.digits.digit_table.Goals as goal
 
 -- the entries of DIGITS
 abbrev table : List ℕ
@@ -23,8 +22,5 @@ right-table : DigitTable table
 unfolding right is_digit
 right-table c h = eqb→eq (get_or table c 0) (cond (is_digit 16 c) (digit_of c) 16) (rule_at right table tt c h)
 
-returns : tie.Need-returns
+pub returns : goal.returns
 returns c = right-table
-
-pub digit-table-spec : {M : Type 1} → statement M
-digit-table-spec = tie.close (tie.spec returns)
