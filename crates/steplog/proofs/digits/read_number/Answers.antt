@@ -1,7 +1,7 @@
 use mathlib.Core.Path.{◌≡◌, refl, sym, ap, ◌∙◌}
 use mathlib.Core.Bool.{Bool, true, false, cond, ◌&&◌}
-use mathlib.Core.List.{[]}
-use Prim.Native.Nat.{ℕ, suc, ◌+◌, ◌*◌, ◌-◌, ◌^◌, ◌<◌}
+use mathlib.Core.List.{List, []}
+use Prim.Native.Nat.{ℕ, suc, ◌+◌, ◌*◌, ◌-◌, ◌^◌, ◌<◌, ◌≤◌}
 use native.Mathlib.Nat.{pow-zero, lt_of_lt_of_le}
 use native.Mathlib.Numerals.{add-one}
 use native.Mathlib.Omega.{arith}
@@ -12,24 +12,14 @@ use Rattle.steplog.specs.Digits.{is_digit, all_digits}
 use Rattle.steplog.proofs.DigitsLaws.{looked_up, not_looked_up, next_below, digits_room, read_turn, digits_turn, number_good, number_bad, digits_nil}
 use Rattle.steplog.proofs.digits.read_number.Goals as goal
 
--- what the table has for the next character
-found : (c : tie.After-wide invariant-loop decreases-loop)
-    → let x = get_or c.args.s.now c.loop-i.i 0 in
-    c.wide-d.result ≡ cond (is_digit 16 x) (digit_of x) 16
-found c =
-    let i = c.loop-i.i in
-    let start = c in
-    c.wide-d.ensures ∙ start.requires.digit_table (get_or start.args.s.now i 0) (c.shared_slice_known-in-loop-i-1.given i).fits
+-- what the table has for a character
+found : (digits : List ℕ) (x : ℕ) (d : ℕ) → ((i : ℕ) → i < 256 → get_or digits i 0 ≡ cond (is_digit 16 i) (digit_of i) 16) → x < 256 → d ≡ get_or digits x 0
+    → d ≡ cond (is_digit 16 x) (digit_of x) 16
+found digits x d table fits said = said ∙ table x fits
 
 -- the next value is below the next power, and that fits 64 bits
-below : (c : tie.Else1 invariant-loop decreases-loop)
-    → let turn = c.loop-i in
-    turn.value * c.args.base + c.wide-d.result < 2 ^ 64
-below c =
-    let turn = c.loop-i in
-    let base = c.args.base in
-    lt_of_lt_of_le (next_below base turn.i turn.value c.wide-d.result turn.invariant.1 (omega arith))
-    (digits_room base (suc turn.i) (omega arith) (omega arith))
+below : (base i value d : ℕ) → value < base ^ i → d < base → base ≤ 16 → i < 16 → value * base + d < 2 ^ 64
+below base i value d fits small most room = lt_of_lt_of_le (next_below base i value d fits small) (digits_room base (suc i) most room)
 
 pub loop-i-init : goal.loop-i-init
 loop-i-init c = (omega arith, rw pow-zero (lit< tt), refl, refl)
@@ -46,17 +36,17 @@ returns-then-base-d c =
     let x = c.args in
     let s = x.s.now in
     let bad : is_digit x.base (get_or s turn.i 0) ≡ false =
-    not_looked_up x.base (get_or s turn.i 0) c.wide-d.result (omega arith) (found c) (omega arith) in
+    not_looked_up x.base (get_or s turn.i 0) c.wide-d.result (omega arith) (found c.args.digits.now (get_or c.args.s.now c.loop-i.i 0) c.wide-d.result c.requires.digit_table (c.shared_slice_known-in-loop-i-1.given c.loop-i.i).fits c.wide-d.ensures) (omega arith) in
     sym
     (number_bad x.base s
     (turn.invariant.2 ∙ digits_turn x.base turn.i s (omega arith)
     ∙ ap (λ (b : Bool). b && all_digits x.base (drop (turn.i + 1) s)) bad))
 
 pub overflow_mul-value : goal.overflow_mul-value
-overflow_mul-value c = record { fits = omega (arith, below c) }
+overflow_mul-value c = record { fits = omega (arith, below c.args.base c.loop-i.i c.loop-i.value c.wide-d.result c.loop-i.invariant.1 (omega arith) (omega arith) (omega arith)) }
 
 pub overflow_add-value : goal.overflow_add-value
-overflow_add-value c = record { fits = below c }
+overflow_add-value c = record { fits = below c.args.base c.loop-i.i c.loop-i.value c.wide-d.result c.loop-i.invariant.1 (omega arith) (omega arith) (omega arith) }
 
 pub loop-i-preserved : goal.loop-i-preserved
 loop-i-preserved c =
@@ -64,7 +54,7 @@ loop-i-preserved c =
     let x = c.args in
     let s = x.s.now in
     let d = c.wide-d.result in
-    let good = looked_up x.base (get_or s turn.i 0) d (omega arith) (found c) (omega arith) in (
+    let good = looked_up x.base (get_or s turn.i 0) d (omega arith) (found c.args.digits.now (get_or c.args.s.now c.loop-i.i 0) c.wide-d.result c.requires.digit_table (c.shared_slice_known-in-loop-i-1.given c.loop-i.i).fits c.wide-d.ensures) (omega arith) in (
       omega arith,
       rw (add-one turn.i) (next_below x.base turn.i turn.value d turn.invariant.1 (omega arith)),
       turn.invariant.2 ∙ digits_turn x.base turn.i s (omega arith) ∙ ap (λ (b : Bool). b && all_digits x.base (drop (turn.i + 1) s)) good.0,
