@@ -8,7 +8,7 @@ pub returns-then-broke-eq0 : goal.returns-then-broke-eq0
 unfolding broke_text
 returns-then-broke-eq0 c = record {
       put = rw c.if-broke-eq0.true (none _ _);
-      upper_bound = rw c.if-broke-eq0.true (omega arith);
+      upper_bound = omega arith;
     }
 
 pub returns : goal.returns

@@ -19,19 +19,6 @@ use Rattle.lines.proofs.BehindLaws.{front_length, front_behind, front_put, lent_
 use Rattle.lines.proofs.BehindLaws.{back, back_length, back_within, back_behind, back_put}
 use Rattle.lines.proofs.put_lines.Goals as goal
 
--- at every turn the memory lies in the buffer
-within : (c : tie.At-loop invariant-loop decreases-loop) → c.args.from ≤ length c.loop-i.out
-within c = omega (arith, c.requires, c.loop-i.invariant)
-
--- also once an event has changed it
-behind-line : (c : tie.After-advance invariant-loop decreases-loop)
-    → let turn = c in
-    let from = turn.args.from in
-    from ≤ length (back turn.loop-i.out c.advance-r.new.pc.1.1.1.1.1.0 from)
-behind-line c =
-    let turn = c in
-    back_within turn.loop-i.out c.advance-r.new.pc.1.1.1.1.1.0 _ (within turn) c.advance-r.auto.mem
-
 pub loop-i-init : goal.loop-i-init
 loop-i-init c =
     let start = c in
@@ -50,10 +37,10 @@ pub read_event-e-requires : goal.read_event-e-requires
 read_event-e-requires c = simp (length-take, length-drop) (omega arith)
 
 pub slice_bounds-advance-count : goal.slice_bounds-advance-count
-slice_bounds-advance-count c = within c
+slice_bounds-advance-count c = omega (arith, c.requires, c.loop-i.invariant)
 
 pub slice_bounds-advance-start : goal.slice_bounds-advance-start
-slice_bounds-advance-start c = within c
+slice_bounds-advance-start c = omega (arith, c.requires, c.loop-i.invariant)
 
 pub advance-r-requires : goal.advance-r-requires
 advance-r-requires c =
@@ -64,15 +51,16 @@ advance-r-requires c =
     l.invariant.3
 
 pub slice_bounds-put_line-end : goal.slice_bounds-put_line-end
-slice_bounds-put_line-end c = behind-line c
+slice_bounds-put_line-end c = back_within c.loop-i.out c.advance-r.new.mem _ (omega (arith, c.requires, c.loop-i.invariant)) c.advance-r.auto.mem
 
 pub slice_bounds-put_line-end-in-loop-i : goal.slice_bounds-put_line-end-in-loop-i
-slice_bounds-put_line-end-in-loop-i c = sym (length-take-le _ _ (behind-line c))
+slice_bounds-put_line-end-in-loop-i c = sym (length-take-le _ _ (back_within c.loop-i.out c.advance-r.new.mem _ (omega (arith, c.requires, c.loop-i.invariant)) c.advance-r.auto.mem))
 
 pub put_line-p-requires : goal.put_line-p-requires
 put_line-p-requires c =
     let turn = c in
-    let w = behind-line c in
+    let w : c.args.from ≤ length (back c.loop-i.out c.advance-r.new.mem c.args.from) =
+    back_within c.loop-i.out c.advance-r.new.mem _ (omega (arith, c.requires, c.loop-i.invariant)) c.advance-r.auto.mem in
     rw length-take-le (omega (arith, turn.requires, turn.loop-i.invariant))
 
 pub overflow_add-i : goal.overflow_add-i
@@ -93,25 +81,27 @@ loop-i-preserved c =
     let l = turn.loop-i in
     let body = a.body.now in
     let n = length body / 24 in
-    let mem = done.advance-r.new.pc.1.1.1.1.1.0 in
+    let mem = done.advance-r.new.mem in
     let kept = done.advance-r.auto.mem in
     let line = c.put_line-p in
     let out = back l.out mem a.from in
-    let w = behind-line done in
-    let left = front_behind out line.new.out a.from w line.auto.out ∙ back_behind l.out mem a.from (within turn) kept in
+    let w : c.args.from ≤ length (back c.loop-i.out c.advance-r.new.mem c.args.from) =
+    back_within c.loop-i.out c.advance-r.new.mem _ (omega (arith, c.requires, c.loop-i.invariant)) c.advance-r.auto.mem in
+    let lies : c.args.from ≤ length c.loop-i.out = omega (arith, c.requires, c.loop-i.invariant) in
+    let left = front_behind out line.new.out a.from w line.auto.out ∙ back_behind l.out mem a.from lies kept in
     let was : List ℕ → Machine = in_parts a.s.count a.s.settings l.x l.pc l.t in
     let here = was (drop a.from l.out) in
-    let left_as : List ℕ → Machine = in_parts a.s.count a.s.settings done.advance-r.new.x done.advance-r.new.pc.0
-    done.advance-r.new.pc.1.0 in
+    let left_as : List ℕ → Machine = in_parts a.s.count a.s.settings done.advance-r.new.x done.advance-r.new.pc
+    done.advance-r.new.t in
     let more = advances_as (ap was (lent_behind l.out a.from)) (ap left_as (sym left)) done.advance-r.ensures in
     let q = more.machine in
     let e = event_cut l.i body read.ensures in
     let first : l.p ≤ a.from = omega (arith, start.requires, l.invariant) in
     let last : line.result ≤ a.from = omega (arith, start.requires, l.invariant, test, line.ensures.upper_bound) in
     let front = front_put out line.new.out a.from w line.auto.out first last line.ensures.put in
-    let put = back_put l.out mem a.from (within turn) kept first front in (
+    let put = back_put l.out mem a.from lies kept first front in (
       omega arith,
-      front_length out line.new.out a.from w line.auto.out ∙ back_length l.out mem a.from (within turn) kept ∙ l.invariant.1,
+      front_length out line.new.out a.from w line.auto.out ∙ back_length l.out mem a.from lies kept ∙ l.invariant.1,
       omega (arith, line.ensures.upper_bound),
       subst (Valid a.base) (sym q) (valid_next a.base here l.invariant.3 read.result),
       λ o r y. l.invariant.4 o r (as_text (sym (lines_more a.base here _ n l.i body read.result _ (omega arith) e (reply_same more) q)) (then put y)),

@@ -56,5 +56,5 @@ returns c =
     let same = lent_same a.base a.s _ a.mem.now packed.pack-t.ensures in
     let p = done.ensures ∙ ap (λ (m : Machine). end_of a.base m (readings a.s.count (length log / 48) log)) same in record {
       value = rw (none, eq-eqb _ _ second.if-log-ne0.false, ne_eqb _ _ third.if-log-eq0.false, c.unpack-after.ensures) (ap (λ (e : End). (ended e).replayed) p);
-      mem_after = rw (none, eq-eqb _ _ second.if-log-ne0.false, ne_eqb _ _ third.if-log-eq0.false, c.unpack-after.ensures) (ap (λ (e : End). (ended e).mem) p);
+      mem_after = rw (none, eq-eqb _ _ second.if-log-ne0.false, ne_eqb _ _ third.if-log-eq0.false) (ap (λ (e : End). (ended e).mem) p);
     }

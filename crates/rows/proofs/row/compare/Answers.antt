@@ -14,7 +14,7 @@ unfolding told_of after_row
 returns-in-Form c =
     let reading = sym c.read_row_by.ensures ∙ c.in-Form.is in record {
       value = rw reading (refl);
-      mem_after = rw reading (refl);
+      mem_after = refl;
     }
 
 pub returns-in-Read : goal.returns-in-Read
