@@ -1,13 +1,18 @@
 use borrow.Author.Rules.{rules}
 use mathlib.Core.Path.{◌≡◌, sym}
-use mathlib.Core.Bool.{true, false}
-use Prim.Native.Nat.{◌*◌, ◌-◌, ◌^◌, ◌≤◌, ◌<◌}
+use mathlib.Core.Bool.{Bool, false}
+use mathlib.Core.List.{List}
+use Prim.Native.Nat.{ℕ, ◌*◌, ◌^◌, ◌≤◌, ◌<◌}
 use native.Mathlib.Omega.{arith}
 use lib.Dec.{eqb, ltb}
 use borrow.Author.Tests.{eq-eqb, ne_eqb, lt-ltb, le-ltb}
 use Rattle.word.proofs.EachLaws.{all_none, all_more, all_fails}
 use Rattle.casefile.specs.Harts.{number_of}
 use Rattle.casefile.proofs.halves_ok.Goals as goal
+
+-- the number at a place of the harts has 32 bits
+abbrev Small : List ℕ → ℕ → Bool
+Small body = λ i. ltb (number_of body i) (2 ^ 32)
 
 pub returns-then-kind-ne1 : goal.returns-then-kind-ne1
 returns-then-kind-ne1 c =

@@ -1,11 +1,10 @@
 use mathlib.Core.List.{List}
 use lib.Seq.{take_all}
 use mathlib.Core.Path.{◌≡◌, sym, subst, ◌∙◌}
-use mathlib.Core.Bool.{true}
+use mathlib.Core.Bool.{Bool, true}
 use Prim.Native.Nat.{ℕ, ◌-◌, ◌≤◌}
 use native.Mathlib.Omega.{arith}
 use lib.ListN.{length, take, drop, length-take, length-drop}
-use borrow.Author.Tests.{not-false}
 use Rattle.word.specs.Memory.{part}
 use Rattle.settings.specs.declared.Board.{Board}
 use Rattle.events.specs.Events.{checked_of, Within}
@@ -13,50 +12,32 @@ use Rattle.events.specs.declared.Checked.{Checked}
 use Rattle.casefile.specs.Harts.{base_of, count_of, harts_ok, HartsRules}
 use Rattle.casefile.specs.Case.{memory_body_ok, bodies_of}
 use Rattle.casefile.proofs.HartsLaws.{harts_exact}
-use borrow.Author.Rules.{rules}
 use Rattle.casefile.proofs.read_bodies.Goals as goal
 
-abbrev harts : (c : tie.Else1) → List ℕ
-harts c = take (c.args.memory - 40) (drop 40 c.args.file.now)
+-- what 9 lets pass
+right : (board : Board) (harts : List ℕ) (ok : Bool) → ok ≡ harts_ok board harts → ok ≡ true → harts_ok board harts ≡ true
+right board harts ok e t = sym e ∙ t
 
-abbrev board : (c : tie.Else1) → Board
-board c = c.args.board
-
--- what 9 and 10 let pass, and what the check of the events said
-right : (c : tie.Else1) → harts_ok (board c) (harts c) ≡ true
-right c = sym c.harts_ok.ensures ∙ not-false _ c.if-not-harts_ok.false
-
-rules : (c : tie.Else1) → HartsRules (board c) (harts c)
-rules c = (harts_exact (board c) (harts c)).0 (right c)
-
-abbrev memory : (c : tie.Else1) → List ℕ
-memory c =
-    let x = c.args in
-    take (x.events - x.memory) (drop x.memory x.file.now)
+kept : (board : Board) (harts : List ℕ) (ok : Bool) → ok ≡ harts_ok board harts → ok ≡ true → HartsRules board harts
+kept board harts ok e t = (harts_exact board harts).0 (sym e ∙ t)
 
 -- the memory body has as many bytes as its places say
-size : (c : tie.Else1) → length (memory c) ≡ c.args.events - c.args.memory
-size c = simp (length-take, length-drop) (omega arith)
+size : (file : List ℕ) (m e : ℕ) → m ≤ e → e ≤ length file → length (take (e - m) (drop m file)) ≡ e - m
+size file m e h k = simp (length-take, length-drop) (omega arith)
 
-long : (c : tie.Else2) → memory_body_ok (board c) (harts c) (length (memory c)) ≡ true
-long c = rw (size c) (sym c.memory_ok.ensures ∙ not-false _ c.if-not-memory_ok.false)
+-- what 10 lets pass
+long : (board : Board) (harts memory : List ℕ) (n : ℕ) (ok : Bool) → length memory ≡ n → ok ≡ memory_body_ok board harts n → ok ≡ true
+    → memory_body_ok board harts (length memory) ≡ true
+long board harts memory n ok s e t = rw s (sym e ∙ t)
 
 -- `&file[events..]` is what follows that place
 rest : (file : List ℕ) (e : ℕ) → take (length file - e) (drop e file) ≡ drop e file
 rest file e = take_all (length file - e) (drop e file) (rw length-drop (omega arith))
 
--- what is checked
-abbrev checked : (c : tie.Else2) → Checked
-checked c =
-    let x = c.args in
-    let body = harts c in
-    checked_of (count_of body) (base_of body) (length (memory c)) (drop x.events x.file.now)
-
-seen : (c : tie.After-check) → checked c ≡ c.check.result
-seen c =
-    let x = c.args in
-    let same = size c in
-    sym (c.check.ensures.value ∙ rw (c.field-count.ensures.value, c.load_at-base.ensures, same, rest x.file.now x.events))
+-- what the check of the events said
+seen : (harts memory file : List ℕ) (e n count base : ℕ) (r : Checked) → length memory ≡ n → count ≡ count_of harts → base ≡ base_of harts
+    → r ≡ checked_of count base n (take (length file - e) (drop e file)) → checked_of (count_of harts) (base_of harts) (length memory) (drop e file) ≡ r
+seen harts memory file e n count base r s f g h = sym (h ∙ rw (f, g, s, rest file e))
 
 pub returns-then-not-harts_ok : goal.returns-then-not-harts_ok
 unfolding bodies_of part
@@ -64,25 +45,27 @@ returns-then-not-harts_ok c = rw (sym c.harts_ok.ensures ∙ c.if-not-harts_ok.t
 
 pub memory_ok-requires : goal.memory_ok-requires
 memory_ok-requires c = record {
-      board_rules = c.requires.board_rules;
-      harts_rules = rules c;
-    }
+  board_rules = c.requires.board_rules;
+  harts_rules = kept _ _ _ c.harts_ok.ensures c.if-not-harts_ok.false;
+}
 
 pub returns-then-not-memory_ok : goal.returns-then-not-memory_ok
 unfolding bodies_of part
 returns-then-not-memory_ok c =
-    let kept = c in
+    let x = c.args in
+    let right = right _ _ _ c.harts_ok.ensures c.if-not-harts_ok.false in
+    let size = size x.file.now x.memory x.events (omega arith) (omega arith) in
     let short = sym c.memory_ok.ensures ∙ c.if-not-memory_ok.true in
-    rw (right kept, size kept, short) c.refused-then-not-memory_ok.ensures
+    rw (right, size, short) c.refused-then-not-memory_ok.ensures
 
 pub load_at-base-requires : goal.load_at-base-requires
 load_at-base-requires c = record {
-      n_in_bounds = omega (arith, (rules c).0);
-      n_bound = omega arith;
-    }
+  n_in_bounds = omega (arith, (kept _ _ _ c.harts_ok.ensures c.if-not-harts_ok.false).0);
+  n_bound = omega arith;
+}
 
 pub field-count-requires : goal.field-count-requires
-field-count-requires c = omega (arith, (rules c).0)
+field-count-requires c = omega (arith, (kept _ _ _ c.harts_ok.ensures c.if-not-harts_ok.false).0)
 
 pub overflow_add-events : goal.overflow_add-events
 overflow_add-events c =
@@ -94,27 +77,30 @@ overflow_add-events c =
 
 pub read_state-state-requires : goal.read_state-state-requires
 read_state-state-requires c =
-    let r = rules c in
+    let r = kept _ _ _ c.harts_ok.ensures c.if-not-harts_ok.false in
     let f = c.field-count.ensures.value in
     (rw f r.2, rw f r.0)
 
 pub returns-in-Bad : goal.returns-in-Bad
 unfolding bodies_of part
 returns-in-Bad c =
-    let told = c in
-    let passed = told in
-    rw (right passed, long passed, seen told ∙ c.in-Bad.is) c.refused-in-Bad.ensures
+    let x = c.args in
+    let right = right _ _ _ c.harts_ok.ensures c.if-not-harts_ok.false in
+    let size = size x.file.now x.memory x.events (omega arith) (omega arith) in
+    let body = part x.file.now 40 (x.memory - 40) in
+    let memory = part x.file.now x.memory (x.events - x.memory) in
+    let long = long x.board body memory _ _ size c.memory_ok.ensures c.if-not-memory_ok.false in
+    let seen = seen body memory x.file.now x.events _ _ _ _ size c.field-count.ensures.value c.load_at-base.ensures c.check.ensures.value in
+    rw (right, long, seen ∙ c.in-Bad.is) c.refused-in-Bad.ensures
 
 pub returns-in-Good : goal.returns-in-Good
 unfolding bodies_of part
 returns-in-Good c =
-    let told = c in
-    let passed = told in
-    rw (
-      right passed,
-      long passed,
-      seen told ∙ c.in-Good.is,
-      c.read_state-state.ensures,
-      told.field-count.ensures.value,
-      told.load_at-base.ensures,
-    )
+    let x = c.args in
+    let right = right _ _ _ c.harts_ok.ensures c.if-not-harts_ok.false in
+    let size = size x.file.now x.memory x.events (omega arith) (omega arith) in
+    let body = part x.file.now 40 (x.memory - 40) in
+    let memory = part x.file.now x.memory (x.events - x.memory) in
+    let long = long x.board body memory _ _ size c.memory_ok.ensures c.if-not-memory_ok.false in
+    let seen = seen body memory x.file.now x.events _ _ _ _ size c.field-count.ensures.value c.load_at-base.ensures c.check.ensures.value in
+    rw (right, long, seen ∙ c.in-Good.is, c.read_state-state.ensures, c.field-count.ensures.value, c.load_at-base.ensures)

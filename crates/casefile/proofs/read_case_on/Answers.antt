@@ -5,16 +5,14 @@ use Rattle.casefile.specs.Case.{case_on}
 use Rattle.casefile.specs.declared.Found.{Found}
 use Rattle.casefile.proofs.TableLaws.{table_inside}
 use Rattle.casefile.proofs.CaseLaws.{read_sound}
-use borrow.Author.Rules.{rules}
 use Rattle.casefile.proofs.read_case_on.Goals as goal
 
 pub read_bodies-requires : goal.read_bodies-requires
 read_bodies-requires c =
-    let start = c in
-    let file = start.args.file.now in
+    let file = c.args.file.now in
     let table = sym c.read_table.ensures ∙ c.in-Bodies.is in
     let i = subst (λ (f : Found). InsideFile (length file) f) table (table_inside file) in record {
-      board_rules = start.requires;
+      board_rules = c.requires;
       le_memory = (i.0, i.1);
       events_in_bounds = (i.2, i.3);
     }
@@ -22,13 +20,13 @@ read_bodies-requires c =
 pub returns-in-Refused : goal.returns-in-Refused
 unfolding case_on
 returns-in-Refused c =
-    let start = c in
     let table = sym c.read_table.ensures ∙ c.in-Refused.is in
-    read_sound start.args.board start.requires start.args.file.now _ (rw table c.refused.ensures)
+    let t = read_sound c.args.board c.requires c.args.file.now _ (rw table c.refused.ensures) in
+    record { value = t.0; sound_case = t.1 }
 
 pub returns-in-Bodies : goal.returns-in-Bodies
 unfolding case_on
 returns-in-Bodies c =
-    let start = c in
     let table = sym c.read_table.ensures ∙ c.in-Bodies.is in
-    read_sound start.args.board start.requires start.args.file.now _ (rw table c.read_bodies.ensures)
+    let t = read_sound c.args.board c.requires c.args.file.now _ (rw table c.read_bodies.ensures) in
+    record { value = t.0; sound_case = t.1 }

@@ -1,35 +1,30 @@
-use mathlib.Core.Path.{◌≡◌, sym, ◌∙◌}
-use mathlib.Core.Bool.{true}
+use mathlib.Core.Path.{sym, ◌∙◌}
 use native.Mathlib.Omega.{arith}
-use lib.Dec.{eqb}
 use borrow.Author.Tests.{eq-eqb, ne_eqb}
-use Rattle.word.specs.Memory.{field_at}
 use Rattle.casefile.specs.Table.{entry_of}
 use Rattle.casefile.proofs.read_entry.Goals as goal
-
-kind : (c : tie.Else1)
-    → eqb (field_at c.args.file.now c.args.place) c.args.kind ≡ true
-kind c = eq-eqb _ _ (sym c.field.ensures.value ∙ c.if-field-kind.false)
 
 pub returns-then-field-kind : goal.returns-then-field-kind
 unfolding entry_of
 returns-then-field-kind c = record {
-      value = rw (ne_eqb _ _ (λ z. c.if-field-kind.true (c.field.ensures.value ∙ z)));
-      ends_within = tt;
-    }
+  value = rw (ne_eqb _ _ (λ z. c.if-field-kind.true (c.field.ensures.value ∙ z)));
+  ends_within = tt;
+}
 
 pub returns-then-field-offset : goal.returns-then-field-offset
 unfolding entry_of
-returns-then-field-offset c = record {
-      value = rw (kind c, ne_eqb _ _ (λ z. c.if-field-offset.true (c.field-2.ensures.value ∙ z)));
+returns-then-field-offset c =
+    let kind = eq-eqb _ _ (sym c.field.ensures.value ∙ c.if-field-kind.false) in record {
+      value = rw (kind, ne_eqb _ _ (λ z. c.if-field-offset.true (c.field-2.ensures.value ∙ z)));
       ends_within = tt;
     }
 
 pub returns : goal.returns
 unfolding entry_of
 returns c =
+    let kind = eq-eqb _ _ (sym c.field.ensures.value ∙ c.if-field-kind.false) in
     let f = c.field-3.ensures in
     let offset = eq-eqb _ _ (sym c.field-2.ensures.value ∙ c.if-field-offset.false) in record {
-      value = rw (kind c, offset, f.value);
+      value = rw (kind, offset, f.value);
       ends_within = (omega arith, omega (arith, f.upper_bound));
     }

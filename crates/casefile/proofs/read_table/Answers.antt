@@ -1,60 +1,8 @@
-use mathlib.Core.Path.{◌≡◌, sym, ◌∙◌, subst}
-use mathlib.Core.Bool.{true, false}
-use mathlib.Core.List.{List}
-use Prim.Native.Nat.{ℕ}
+use mathlib.Core.Path.{sym, ◌∙◌}
 use native.Mathlib.Omega.{arith}
-use lib.Dec.{ltb, eqb}
-use lib.ListN.{length}
 use borrow.Author.Tests.{lt-ltb, le-ltb, eq-eqb, ne_eqb}
-use Rattle.word.specs.Memory.{field_at}
-use Rattle.casefile.specs.Table.{entry_of, table_of, EndsWithin}
-use Rattle.casefile.specs.declared.Entry.TheVariants.{Ends}
+use Rattle.casefile.specs.Table.{table_of}
 use Rattle.casefile.proofs.read_table.Goals as goal
-
--- the file, past the three tests, and where an entry ends
-abbrev file : (c : tie.Else3) → List ℕ
-file c = c.args.file.now
-
-abbrev end1 : (c : tie.After-known-told2) → ℕ
-end1 c = c.memory-1.given.0.0
-
-abbrev end2 : (c : tie.After-known-told4) → ℕ
-end2 c = c.events-1.given.0.0
-
-abbrev end3 : (c : tie.After-known-told6) → ℕ
-end3 c = c.end-1.given.0.0
-
--- what the tests gave
-small : (c : tie.Else3) → ltb (length (file c)) 40 ≡ false
-small c = le-ltb _ _ c.if-file-lt40.false
-
-large : (c : tie.Else3) → ltb 65536 (length (file c)) ≡ false
-large c = le-ltb _ _ c.if-file-gt65536.false
-
-three : (c : tie.Else3) → eqb (field_at (file c) 0) 3 ≡ true
-three c = eq-eqb _ _ (sym c.field.ensures.value ∙ c.if-field-ne3.false)
-
--- what the entries gave
-first : (c : tie.After-known-told2) → entry_of (file c) 4 1 40 ≡ Ends (end1 c)
-first c = sym c.read_entry.ensures.value ∙ c.memory-1.given.1
-
-from1 : (c : tie.After-known-told2) → EndsWithin 40 (Ends (end1 c))
-from1 c = subst (EndsWithin 40) c.memory-1.given.1 c.read_entry.ensures.ends_within
-
-second : (c : tie.After-known-told4)
-    → entry_of (file c) 16 2 (end1 c) ≡ Ends (end2 c)
-second c = sym c.read_entry-in-Ends.ensures.value ∙ c.events-1.given.1
-
-from2 : (c : tie.After-known-told4) → EndsWithin (end1 c) (Ends (end2 c))
-from2 c = subst (EndsWithin (end1 c)) c.events-1.given.1 c.read_entry-in-Ends.ensures.ends_within
-
-third : (c : tie.After-known-told6)
-    → entry_of (file c) 28 3
-    (end2 c) ≡ Ends (end3 c)
-third c = sym c.read_entry-in-Ends-read_entry.ensures.value ∙ c.end-1.given.1
-
-from3 : (c : tie.After-known-told6) → EndsWithin (end2 c) (Ends (end3 c))
-from3 c = subst (EndsWithin (end2 c)) c.end-1.given.1 c.read_entry-in-Ends-read_entry.ensures.ends_within
 
 pub returns-then-file-lt40 : goal.returns-then-file-lt40
 unfolding table_of
@@ -71,48 +19,48 @@ returns-then-field-ne3 c =
     rw (le-ltb _ _ c.if-file-lt40.false, le-ltb _ _ c.if-file-gt65536.false, other)
 
 pub read_entry-requires-in-Ends : goal.read_entry-requires-in-Ends
-read_entry-requires-in-Ends c = (omega arith, omega (arith, from1 c))
+read_entry-requires-in-Ends c = (omega arith, omega (arith, c.in-Ends.ensures.ends_within))
 
 pub read_entry-requires-in-Ends-read_entry : goal.read_entry-requires-in-Ends-read_entry
-read_entry-requires-in-Ends-read_entry c = (omega arith, omega (arith, from1 c, from2 c))
+read_entry-requires-in-Ends-read_entry c =
+    (omega arith, omega (arith, c.in-Ends.ensures.ends_within, c.in-Ends-read_entry.ensures.ends_within))
 
 pub returns-then-end-file : goal.returns-then-end-file
 unfolding table_of
 returns-then-end-file c =
-    let third-told = c in
-    let second-told = third-told in
-    let first-told = second-told in
-    let tested = first-told in
-    rw (small tested, large tested, three tested, first first-told, second second-told, third third-told, ne_eqb _ _ c.if-end-file.true)
+    let small = le-ltb _ _ c.if-file-lt40.false in
+    let large = le-ltb _ _ c.if-file-gt65536.false in
+    let three = eq-eqb _ _ (sym c.field.ensures.value ∙ c.if-field-ne3.false) in
+    rw (small, large, three, sym c.in-Ends.ensures.value, sym c.in-Ends-read_entry.ensures.value, sym c.in-Ends-read_entry-2.ensures.value, ne_eqb _ _ c.if-end-file.true)
 
 pub returns-in-Wrong : goal.returns-in-Wrong
 unfolding table_of
 returns-in-Wrong c =
-    let tested = c in
-    rw (small tested, large tested, three tested, sym c.read_entry.ensures.value ∙ c.in-Wrong.is)
+    let small = le-ltb _ _ c.if-file-lt40.false in
+    let large = le-ltb _ _ c.if-file-gt65536.false in
+    let three = eq-eqb _ _ (sym c.field.ensures.value ∙ c.if-field-ne3.false) in
+    rw (small, large, three, sym c.in-Wrong.ensures.value)
 
 pub returns-in-Wrong-read_entry : goal.returns-in-Wrong-read_entry
 unfolding table_of
 returns-in-Wrong-read_entry c =
-    let first-told = c in
-    let tested = first-told in
-    let wrong = sym c.read_entry-in-Ends.ensures.value ∙ c.in-Wrong-read_entry.is in
-    rw (small tested, large tested, three tested, first first-told, wrong)
+    let small = le-ltb _ _ c.if-file-lt40.false in
+    let large = le-ltb _ _ c.if-file-gt65536.false in
+    let three = eq-eqb _ _ (sym c.field.ensures.value ∙ c.if-field-ne3.false) in
+    rw (small, large, three, sym c.in-Ends.ensures.value, sym c.in-Wrong-read_entry.ensures.value)
 
 pub returns-in-Wrong-read_entry-2 : goal.returns-in-Wrong-read_entry-2
 unfolding table_of
 returns-in-Wrong-read_entry-2 c =
-    let second-told = c in
-    let first-told = second-told in
-    let tested = first-told in
-    let wrong = sym c.read_entry-in-Ends-read_entry.ensures.value ∙ c.in-Wrong-read_entry-2.is in
-    rw (small tested, large tested, three tested, first first-told, second second-told, wrong)
+    let small = le-ltb _ _ c.if-file-lt40.false in
+    let large = le-ltb _ _ c.if-file-gt65536.false in
+    let three = eq-eqb _ _ (sym c.field.ensures.value ∙ c.if-field-ne3.false) in
+    rw (small, large, three, sym c.in-Ends.ensures.value, sym c.in-Ends-read_entry.ensures.value, sym c.in-Wrong-read_entry-2.ensures.value)
 
 pub returns-else-end-file : goal.returns-else-end-file
 unfolding table_of
 returns-else-end-file c =
-    let third-told = c in
-    let second-told = third-told in
-    let first-told = second-told in
-    let tested = first-told in
-    rw (small tested, large tested, three tested, first first-told, second second-told, third third-told, eq-eqb _ _ c.if-end-file.false)
+    let small = le-ltb _ _ c.if-file-lt40.false in
+    let large = le-ltb _ _ c.if-file-gt65536.false in
+    let three = eq-eqb _ _ (sym c.field.ensures.value ∙ c.if-field-ne3.false) in
+    rw (small, large, three, sym c.in-Ends.ensures.value, sym c.in-Ends-read_entry.ensures.value, sym c.in-Ends-read_entry-2.ensures.value, eq-eqb _ _ c.if-end-file.false)

@@ -1,10 +1,9 @@
 use borrow.Author.Rules.{rules}
 use mathlib.Core.Path.{◌≡◌, sym, ◌∙◌}
-use Prim.Native.Nat.{ℕ, ◌*◌, ◌-◌, ◌/◌, ◌%◌}
+use Prim.Native.Nat.{ℕ, ◌*◌, ◌/◌, ◌%◌}
 use native.Mathlib.Omega.{arith}
 use native.Mathlib.Numerals.{add-one}
 use lib.ListN.{replicate, length-replicate}
-use Rattle.word.specs.Each.{each}
 use Rattle.word.proofs.EachLaws.{each_suc}
 use Rattle.casefile.specs.Harts.{register_of}
 use Rattle.casefile.proofs.registers.Goals as goal
