@@ -5,8 +5,8 @@ use Prim.Native.Nat.{ℕ, zero, suc, ◌+◌, ◌*◌, ◌-◌, ◌≤◌, ◌<�
 use native.Mathlib.Nat.{mul-suc, mul-zero}
 use native.Mathlib.Omega.{arith}
 use lib.Dec.{ltb}
-use lib.ListN.{length, take, drop, length-drop}
-use lib.Seq.{take_all, take-nil, take-take, take-add, drop-drop, take-append-le, drop-append-le, drop-append-add}
+use lib.ListN.{length, take, drop}
+use lib.Seq.{take_all, take-nil, take-take, take-add, drop-drop, drop-append-add}
 use borrow.Author.Tests.{ltb-true, ltb-false}
 use Rattle.word.specs.Memory.{part}
 use Rattle.word.proofs.MemoryLaws.{part_front}

@@ -1,5 +1,6 @@
 // Settings files of the boards, read and written: refusals 21 to 23. The file's own version is called its format, since `version` is that of A.
 #![tactic(auto)]
+
 ghost use Rattle.std.specs.Prelude.{◌≡◌, ◌+◌, ◌*◌, ◌≤◌, ◌<◌, cond, ◌++◌, eqb, length, get_or};
 ghost use Rattle.word.specs.Bytes.{le, to_le};
 ghost use Rattle.word.specs.Memory.{part, splice};

@@ -1,19 +1,18 @@
 -- Boards as bytes: how long they are, and that they read back. Assumes nothing.
-use Prim.Native.Nat.{ℕ, ◌+◌, ◌*◌, ◌^◌, ◌≤◌, ◌<◌}
+use Prim.Native.Nat.{ℕ, ◌+◌, ◌*◌, ◌^◌, ◌<◌}
 use mathlib.Core.Path.{◌≡◌, refl, sym, ap, ◌∙◌}
 use mathlib.Core.List.{List, [], ◌∷◌}
 use native.Mathlib.Nat.{add-zero, mod-eq_of_lt}
 use native.Mathlib.Omega.{arith}
 use lib.ListN.{length, get_or}
-use Rattle.word.specs.Bytes.{le, to_le}
+use Rattle.word.specs.Bytes.{le}
 use Rattle.word.specs.Memory.{part}
 use Rattle.word.proofs.BytesLaws.{le-to_le}
 use Rattle.settings.specs.declared.Board.{Board}
-use Rattle.layout.specs.Layout.{word_at, word_bytes}
+use Rattle.layout.specs.Layout.{word_at}
 use Rattle.layout.proofs.LayoutLaws.{length-word_bytes}
 use Rattle.layout.proofs.Back.{part_word}
 use Rattle.boards.specs.File.{no_board}
-use Rattle.boards.specs.Write.{blocks}
 use Rattle.boards.proofs.BlockLaws.{part-part, part_block}
 use Rattle.boards.proofs.RuleLaws.{same_boards}
 use Rattle.boards_layout.specs.Boards.{board_from, board_bytes, boards_bytes}

@@ -1,5 +1,6 @@
 // Boards kept as bytes, 24 for each, as C and Rust keep them: specs/Boards.antt has the offsets.
 #![tactic(auto)]
+
 ghost use Rattle.std.specs.Prelude.{◌≡◌, [], ◌∷◌, ◌+◌, ◌*◌, ◌≤◌, min, length};
 ghost use Rattle.boards_layout.specs.Boards.{board_from, boards_from, boards_bytes};
 

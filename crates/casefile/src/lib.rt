@@ -1,5 +1,6 @@
 // The reader of case files: refusals 7 to 11.
 #![tactic(auto)]
+
 ghost use Rattle.std.specs.Prelude.{◌≡◌, ◌+◌, ◌*◌, ◌-◌, ◌/◌, ◌%◌, ◌^◌, ◌≤◌, ◌<◌, true, cond, eqb, ltb, length, drop, replicate};
 ghost use Rattle.word.specs.Each.{each, all_below};
 ghost use Rattle.word.specs.Memory.{part};

@@ -1,17 +1,14 @@
-use Prim.Native.Nat.{◌+◌, ◌≤◌}
 use native.Mathlib.Omega.{arith}
-use lib.ListN.{length}
-use Rattle.boards.specs.File.{body_size, board_at}
+use Rattle.boards.specs.File.{board_at}
 use Rattle.boards.proofs.FileLaws.{body_most, start_within, start_most}
 use Rattle.boards.proofs.board_in.Goals as goal
 
--- the body lies in the file
-within : (c : tie.After-start-of) → c.start_of-start.result + body_size c.args.format ≤ length c.args.file.now
-within c = let a = c.args in omega (arith, c.start_of-start.ensures, start_within a.format a.count a.k a.count (omega arith))
-
 pub load_at-requires : goal.load_at-requires
-load_at-requires c = record {
-      n_in_bounds = omega (arith, within c, body_most c.args.format);
+load_at-requires c =
+    let a = c.args in
+    record {
+      n_in_bounds =
+          omega (arith, c.start_of-start.ensures, start_within a.format a.count a.k a.count (omega arith), body_most a.format);
       n_bound = omega arith;
     }
 
@@ -21,13 +18,17 @@ overflow_add-start c =
     omega (arith, c.start_of-start.ensures, start_most a.format a.count a.k (omega arith) (omega arith))
 
 pub load_at-requires-2 : goal.load_at-requires-2
-load_at-requires-2 c = record {
-      n_in_bounds = omega (arith, within c, body_most c.args.format);
+load_at-requires-2 c =
+    let a = c.args in
+    record {
+      n_in_bounds =
+          omega (arith, c.start_of-start.ensures, start_within a.format a.count a.k a.count (omega arith), body_most a.format);
       n_bound = omega arith;
     }
 
 pub misaligned_at-requires : goal.misaligned_at-requires
-misaligned_at-requires c = within c
+misaligned_at-requires c =
+    let a = c.args in omega (arith, c.start_of-start.ensures, start_within a.format a.count a.k a.count (omega arith))
 
 pub returns : goal.returns
 unfolding board_at

@@ -1,10 +1,10 @@
 use mathlib.Core.Path.{◌≡◌, sym, ◌∙◌}
-use Prim.Native.Nat.{◌+◌, ◌*◌, ◌-◌}
+use Prim.Native.Nat.{◌+◌, ◌*◌}
 use native.Mathlib.Omega.{arith}
 use native.Mathlib.Numerals.{add-one}
-use lib.ListN.{length, get_or}
+use lib.ListN.{get_or}
 use Rattle.boards.specs.File.{no_board}
-use Rattle.boards.specs.Write.{blocks, body_bytes}
+use Rattle.boards.specs.Write.{body_bytes}
 use Rattle.boards.proofs.WriteLaws.{blocks_none, blocks_turn, length_body}
 use borrow.Author.Rules.{rules}
 use Rattle.boards.proofs.put_bodies.Goals as goal

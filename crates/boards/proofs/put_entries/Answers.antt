@@ -1,9 +1,7 @@
 use mathlib.Core.Path.{◌≡◌, sym, ◌∙◌}
-use Prim.Native.Nat.{◌-◌}
 use native.Mathlib.Omega.{arith}
 use native.Mathlib.Numerals.{add-one}
-use lib.ListN.{length}
-use Rattle.boards.specs.Write.{blocks, entry_bytes}
+use Rattle.boards.specs.Write.{entry_bytes}
 use Rattle.boards.specs.File.{body_size}
 use Rattle.boards.proofs.WriteLaws.{blocks_none, blocks_turn, length-entry}
 use borrow.Author.Rules.{rules}
