@@ -1,5 +1,6 @@
 // The board that a program runs on, by two of its arguments: SETTINGS, a settings file, and BOARD, the number of one of its boards, from 0.
 #![tactic(auto)]
+
 ghost use Rattle.std.specs.Prelude.{◌≡◌};
 ghost use Rattle.boards.specs.File.{Kept};
 ghost use Rattle.board_choice.specs.Choice.{choice_of, Allowed};

@@ -2,6 +2,7 @@
 // to them. 0, a length and 0: a file of that length to read. 1, a number of boards and a length: a write to a buffer of that length, of the sixteen boards that
 // follow, three numbers each. tools/boards-table makes the cases and, from outside vectors and by another way, the lines that are expected.
 #![tactic(auto)]
+
 ghost use Rattle.std.specs.Prelude.{◌≡◌, ◌+◌, ◌≤◌, length};
 ghost use Rattle.io.specs.Counts.{IsPrefixLen};
 ghost use Rattle.word.specs.Bytes.{le};

@@ -1,5 +1,6 @@
 // The functions that C and Rust call: include/floecavern.h says how. None has a precondition.
 #![tactic(auto)]
+
 mod replay;
 mod settings_files;
 mod steps;

@@ -1,5 +1,6 @@
 // A board's log replayed from a case file, and the answer as text.
 #![tactic(auto)]
+
 pub mod answer;
 
 ghost use Rattle.std.specs.Prelude.{◌≡◌, ◌+◌, ◌/◌, ◌%◌, ◌^◌, ◌<◌, length, take};

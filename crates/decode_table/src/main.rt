@@ -1,6 +1,7 @@
 // Writes a line for each 4-byte word of standard input: the word, its mnemonic, and every field of the decoded instruction. First of all words where
 // registers have 64 bits, then of all where they have 32. tools/decode-table makes the input and, by another disassembler, the lines that are expected.
 #![tactic(auto)]
+
 use isa::Instr;
 use libc::STDIN_FILENO;
 

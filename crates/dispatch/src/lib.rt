@@ -1,5 +1,6 @@
 // What an instruction does, where registers have xlen bits: its source registers are read, then its class is told their values.
 #![tactic(auto)]
+
 ghost use Rattle.std.specs.Prelude.{◌≡◌, cond, ◌&&◌, ℕ, ◌≤◌, ◌<◌, ◌^◌, eqb};
 ghost use Rattle.word.specs.Word.{Xlen};
 ghost use Rattle.isa.specs.Width.{bits_of};

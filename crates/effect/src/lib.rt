@@ -1,5 +1,6 @@
 // What one instruction comes to: its types. Their meaning is in specs/.
 #![tactic(auto)]
+
 use reserve::Notice;
 
 // A retired instruction: up to two registers written, the first one first (x0: none), the next pc, and what reservations learn.

@@ -1,6 +1,7 @@
 // Performs single events, each on a state of its own, and writes the outcome of each and what it changed. Standard input is items of 24 bytes
 // that build a state and name an event; tools/event-table says their layout, makes them and, by another model, the text that is expected.
 #![tactic(auto)]
+
 ghost use Rattle.std.specs.Prelude.{◌≡◌, ◌+◌, ◌%◌, ◌^◌, ◌≤◌, min, length, take, if◌then◌else◌, nat_lt};
 ghost use Rattle.io.specs.Counts.{IsPrefixLen};
 ghost use Rattle.model.specs.Perform.{answer_of};

@@ -1,6 +1,7 @@
 // What an instruction does, class by class, where registers have xlen bits. Each function takes the values of its source registers, so that all of them are
 // read before any register is written.
 #![tactic(auto)]
+
 ghost use Rattle.std.specs.Prelude.{◌≡◌, ◌≤◌};
 ghost use Rattle.effect.specs.Effect.{one, retired, next_pc};
 

@@ -1,6 +1,7 @@
 // floecavern < CASE: a case on standard input, its lines on standard output. floecavern SETTINGS BOARD < CASE: the same on a board of a settings file, by its
 // number, from 0. What can't be read or written is told on standard error.
 #![tactic(auto)]
+
 ghost use Rattle.settings.specs.Boards.{BoardRules};
 
 use board_choice::Choice;

@@ -1,5 +1,6 @@
 // What a program is given on a file descriptor, with a read that fails told apart from the end of the input.
 #![tactic(auto)]
+
 ghost use Rattle.std.specs.Prelude.{◌≡◌, true, ◌<◌, length};
 ghost use Rattle.io.specs.Counts.{IsPrefixLen};
 

@@ -1,5 +1,6 @@
 // The instructions of RV64I (without FENCE.I and CSRs), A 2.1 and Zacas, and their decoder.
 #![tactic(auto)]
+
 ghost use Rattle.std.specs.Prelude.{◌≡◌, ◌≤◌, ◌<◌};
 ghost use Rattle.isa.specs.Width.{bits_of, bytes_of, pair_bytes};
 ghost use Rattle.isa.specs.Decode.{decode_of};

@@ -1,5 +1,6 @@
 // A state kept as 2344 bytes at fixed offsets, as C and Rust keep it: specs/Layout.antt has the offsets.
 #![tactic(auto)]
+
 ghost use Rattle.std.specs.Prelude.{◌≡◌, ◌+◌, ◌*◌, ◌≤◌, min, length, take};
 ghost use Rattle.word.specs.Memory.{splice};
 ghost use Rattle.reserve.specs.Reserve.{slot};

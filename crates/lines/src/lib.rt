@@ -1,5 +1,6 @@
 // The lines of a run, put into a lent buffer.
 #![tactic(auto)]
+
 ghost use Rattle.std.specs.Prelude.{◌≡◌, ◌+◌, ◌*◌, ◌-◌, ◌/◌, ◌≤◌, length, drop};
 ghost use Rattle.machine.specs.State.{refusal_of};
 ghost use Rattle.events.specs.Events.{events_of};

@@ -1,5 +1,6 @@
 // The rows that the model makes: a step performed, and the row that a board logs of it.
 #![tactic(auto)]
+
 ghost use Rattle.std.specs.Prelude.{◌≡◌, true, ◌%◌, length, get_or};
 ghost use Rattle.reserve.specs.Range.{inside_of};
 ghost use Rattle.isa.specs.Narrow.{decode_at};

@@ -2,6 +2,7 @@
 // A 2.1 or the VERSION that is given, 20 for 2.0 and 21 for 2.1, read as a 64-bit core reads them or as the KIND does that is given, 0 for 64 bits and 1 for
 // 32: a line `accepted`, `rejected PLACE REASON` or `refused NUMBER`. What can't be read or written is told on standard error.
 #![tactic(auto)]
+
 use arguments::argument;
 use input::Input;
 use libc::{STDERR_FILENO, STDIN_FILENO, STDOUT_FILENO};

@@ -1,5 +1,6 @@
 // The state of the machine, and which states and memories are refused.
 #![tactic(auto)]
+
 ghost use Rattle.std.specs.Prelude.{◌≡◌, ◌<◌, ◌≤◌};
 ghost use Rattle.word.specs.Each.{all_below};
 ghost use Rattle.settings.specs.Settings.{SizeRules};

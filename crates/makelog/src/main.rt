@@ -1,6 +1,7 @@
 // A case on standard input, the log that the model makes of its events on standard output: a row for each step, up to the first event that is
 // no step or whose step traps, which is told on standard error.
 #![tactic(auto)]
+
 ghost use Rattle.std.specs.Prelude.{◌+◌, ◌*◌, ◌≤◌, ◌<◌, length};
 
 use casefile::Found;

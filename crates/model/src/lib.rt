@@ -1,5 +1,6 @@
 // The machine: events and runs of events on a state and a lent memory.
 #![tactic(auto)]
+
 pub mod advance;
 pub mod run;
 

@@ -1,6 +1,7 @@
 // What a step may change, saved before it and put back: the register that a row shows of it and the one behind it, the pc, and at most 16
 // bytes, from one address on.
 #![tactic(auto)]
+
 ghost use Rattle.std.specs.Prelude.{◌≡◌, ◌+◌, ◌%◌, ◌<◌, ◌≤◌, length, set};
 ghost use Rattle.word.specs.Bytes.{le, to_le};
 ghost use Rattle.word.specs.Memory.{part, splice};

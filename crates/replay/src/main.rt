@@ -2,6 +2,7 @@
 // SETTINGS BOARD: the same on a board of a settings file, by its number, from 0. What can't be read or written is told on standard error; then there is no
 // answer.
 #![tactic(auto)]
+
 ghost use Rattle.std.specs.Prelude.{◌≡◌, ◌+◌, ◌/◌, ◌%◌, ◌^◌, ◌<◌, min, length};
 ghost use Rattle.settings.specs.Boards.{BoardRules};
 

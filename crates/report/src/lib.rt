@@ -1,5 +1,6 @@
 // A case's bytes turned into the program's whole output.
 #![tactic(auto)]
+
 ghost use Rattle.std.specs.Prelude.{◌≡◌, ◌+◌, ◌*◌, ◌-◌, ◌/◌, ◌≤◌, length, take, drop};
 ghost use Rattle.word.specs.Memory.{part};
 ghost use Rattle.io.specs.Counts.{IsPrefixLen};

@@ -1,5 +1,6 @@
 // The checker of retry loops: document 01, "Retry loops", by the version of A and the register width that the settings have.
 #![tactic(auto)]
+
 ghost use Rattle.std.specs.Prelude.{◌≡◌, ◌≤◌, length};
 ghost use Rattle.retry.specs.Loop.{check_of, scan_of};
 

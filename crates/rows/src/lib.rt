@@ -1,5 +1,6 @@
 // Rows of a board's log, replayed on the machine.
 #![tactic(auto)]
+
 pub mod row;
 
 ghost use Rattle.std.specs.Prelude.{◌≡◌, ◌*◌, ◌≤◌, length};

@@ -1,5 +1,6 @@
 // What a machine is set to. The settings are numbers, since a state can be given with any: those that are not allowed are refused.
 #![tactic(auto)]
+
 ghost use Rattle.std.specs.Prelude.{◌≡◌, ◌%◌, ◌<◌};
 ghost use Rattle.settings.specs.Settings.{PowerOfTwo, defaults, of_kind, xlen_of, size_ok, granule_of, version_ok, kind_ok, reading_ok};
 ghost use Rattle.settings.specs.Settings.{devices_break, jalr_permitted, misaligned_ok, lr_cause, amo_cause};

@@ -1,5 +1,6 @@
 // Text that is put into a lent buffer, at a position. Each function returns the position past what it put.
 #![tactic(auto)]
+
 ghost use Rattle.std.specs.Prelude.{◌≡◌, ◌∷◌, [], ◌+◌, ◌≤◌, ◌<◌, length};
 ghost use Rattle.text.specs.Put.{Put};
 ghost use Rattle.text.specs.Number.{glyph, decimal_of, hex_from};

@@ -1,6 +1,7 @@
 // Writes a line for each pair of ranges of standard input: the first byte and the number of bytes of either, and 1 if they touch, else 0. A
 // pair is four numbers of 8 bytes each. tools/touch-table makes the pairs and, by another way, the lines that are expected.
 #![tactic(auto)]
+
 ghost use Rattle.std.specs.Prelude.{◌≡◌, ◌+◌, ◌≤◌, length};
 ghost use Rattle.word.specs.Bytes.{le};
 ghost use Rattle.word.specs.Memory.{part};

@@ -1,5 +1,6 @@
 // The report of each case of data/, 0000 to 0883, in order, each after a line with its number.
 #![tactic(auto)]
+
 use libc::STDOUT_FILENO;
 
 // The name of case i, four digits.

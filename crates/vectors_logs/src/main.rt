@@ -1,6 +1,7 @@
 // Each case of data/ with its log, 000 to 192, in order: a line with its number, the text of the replay, and, unless it is refused, what it
 // leaves: pc, registers that aren't zero and the reservation of each used hart, and the 8-byte words of memory that aren't zero.
 #![tactic(auto)]
+
 ghost use Rattle.std.specs.Prelude.{◌<◌};
 ghost use Rattle.io.specs.Counts.{IsPrefixLen};
 

@@ -2,6 +2,7 @@
 // then the words, 4 bytes each and the lowest first.
 // The lines that are expected were made by an independent model of document 01.
 #![tactic(auto)]
+
 ghost use Rattle.std.specs.Prelude.{◌<◌, length};
 
 use libc::{STDIN_FILENO, STDOUT_FILENO};

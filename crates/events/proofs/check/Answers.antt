@@ -44,16 +44,16 @@ loop-at-preserved c =
 
 pub returns : goal.returns
 returns c = record {
-      value = sym (c.loop-at.invariant.2 ∙ first_bad_none _ _ _ _ _ _ (omega arith));
-      within = omega arith;
-    }
+  value = sym (c.loop-at.invariant.2 ∙ first_bad_none _ _ _ _ _ _ (omega arith));
+  within = omega arith;
+}
 
 pub returns-then-body-ne0 : goal.returns-then-body-ne0
 unfolding checked_of
 returns-then-body-ne0 c = record {
-      value = rw (ne_eqb _ _ c.if-body-ne0.true);
-      within = omega arith;
-    }
+  value = rw (ne_eqb _ _ c.if-body-ne0.true);
+  within = omega arith;
+}
 
 pub loop-at-init : goal.loop-at-init
 unfolding checked_of

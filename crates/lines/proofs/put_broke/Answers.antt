@@ -7,9 +7,9 @@ use Rattle.lines.proofs.put_broke.Goals as goal
 pub returns-then-broke-eq0 : goal.returns-then-broke-eq0
 unfolding broke_text
 returns-then-broke-eq0 c = record {
-      put = rw c.if-broke-eq0.true (none _ _);
-      upper_bound = omega arith;
-    }
+  put = rw c.if-broke-eq0.true (none _ _);
+  upper_bound = omega arith;
+}
 
 pub returns : goal.returns
 unfolding broke_text

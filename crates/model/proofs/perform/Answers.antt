@@ -8,9 +8,9 @@ use Rattle.model.proofs.perform.Goals as goal
 pub returns-then-number-ne0 : goal.returns-then-number-ne0
 unfolding answer_of memory_of act_of apply leaves
 returns-then-number-ne0 c = record {
-      value = rw (← c.refusal-number.ensures, ne_eqb _ _ c.if-number-ne0.true) (refl);
-      mem_after = rw (← c.refusal-number.ensures, ne_eqb _ _ c.if-number-ne0.true) (refl);
-    }
+  value = rw (← c.refusal-number.ensures, ne_eqb _ _ c.if-number-ne0.true) (refl);
+  mem_after = rw (← c.refusal-number.ensures, ne_eqb _ _ c.if-number-ne0.true) (refl);
+}
 
 pub advance-r-requires : goal.advance-r-requires
 advance-r-requires c =

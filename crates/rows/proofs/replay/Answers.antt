@@ -11,9 +11,9 @@ use Rattle.rows.proofs.replay.Goals as goal
 pub returns-then-number-ne0 : goal.returns-then-number-ne0
 unfolding replay_of
 returns-then-number-ne0 c = record {
-      value = rw (← c.refusal-number.ensures, ne_eqb _ _ c.if-number-ne0.true) (c.refused.ensures);
-      mem_after = rw (← c.refusal-number.ensures, ne_eqb _ _ c.if-number-ne0.true) (refl);
-    }
+  value = rw (← c.refusal-number.ensures, ne_eqb _ _ c.if-number-ne0.true) (c.refused.ensures);
+  mem_after = rw (← c.refusal-number.ensures, ne_eqb _ _ c.if-number-ne0.true) (refl);
+}
 
 pub returns-then-log-ne0 : goal.returns-then-log-ne0
 unfolding replay_of

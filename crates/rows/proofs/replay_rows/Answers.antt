@@ -20,9 +20,9 @@ loop-i-init c = (search rules, refl, c.requires.valid, rw sub-zero (further_none
 
 pub compare-requires : goal.compare-requires
 compare-requires c = record {
-      digit_table = c.digit_table-digits.ensures;
-      valid = c.loop-i.invariant.2;
-    }
+  digit_table = c.digit_table-digits.ensures;
+  valid = c.loop-i.invariant.2;
+}
 
 pub loop-i-preserved : goal.loop-i-preserved
 unfolding after_row

@@ -15,33 +15,33 @@ returns-then-part-ne48 c =
 
 pub read_number-hart-requires : goal.read_number-hart-requires
 read_number-hart-requires c = record {
-      digit_table = c.requires;
-      lt_base = search rules;
-    }
+  digit_table = c.requires;
+  lt_base = search rules;
+}
 
 pub read_number-pc-requires : goal.read_number-pc-requires
 read_number-pc-requires c = record {
-      digit_table = c.requires;
-      lt_base = search rules;
-    }
+  digit_table = c.requires;
+  lt_base = search rules;
+}
 
 pub read_number-word-requires : goal.read_number-word-requires
 read_number-word-requires c = record {
-      digit_table = c.requires;
-      lt_base = search rules;
-    }
+  digit_table = c.requires;
+  lt_base = search rules;
+}
 
 pub read_number-rd-requires : goal.read_number-rd-requires
 read_number-rd-requires c = record {
-      digit_table = c.requires;
-      lt_base = search rules;
-    }
+  digit_table = c.requires;
+  lt_base = search rules;
+}
 
 pub read_number-value-requires : goal.read_number-value-requires
 read_number-value-requires c = record {
-      digit_table = c.requires;
-      lt_base = search rules;
-    }
+  digit_table = c.requires;
+  lt_base = search rules;
+}
 
 pub between-requires : goal.between-requires
 between-requires c = omega arith
@@ -50,7 +50,7 @@ pub overflow_cast-result : goal.overflow_cast-result
 unfolding part
 overflow_cast-result c =
     let seen : Seen c.args.part.now c.read_number-hart.result c.read_number-pc.result c.read_number-word.result c.read_number-rd.result
-      c.read_number-value.result c.between.result = record {
+    c.read_number-value.result c.between.result = record {
       long = omega arith;
       is_hart = c.read_number-hart.ensures;
       is_pc = c.read_number-pc.ensures;
@@ -65,7 +65,7 @@ pub returns-then-between-digits : goal.returns-then-between-digits
 unfolding part
 returns-then-between-digits c =
     let seen : Seen c.args.part.now c.read_number-hart.result c.read_number-pc.result c.read_number-word.result c.read_number-rd.result
-      c.read_number-value.result c.between.result = record {
+    c.read_number-value.result c.between.result = record {
       long = omega arith;
       is_hart = c.read_number-hart.ensures;
       is_pc = c.read_number-pc.ensures;
@@ -80,7 +80,7 @@ pub returns : goal.returns
 unfolding part
 returns c =
     let seen : Seen c.args.part.now c.read_number-hart.result c.read_number-pc.result c.read_number-word.result c.read_number-rd.result
-      c.read_number-value.result c.between.result = record {
+    c.read_number-value.result c.between.result = record {
       long = omega arith;
       is_hart = c.read_number-hart.ensures;
       is_pc = c.read_number-pc.ensures;

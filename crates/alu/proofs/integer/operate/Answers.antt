@@ -11,27 +11,27 @@ add-requires c = (xlen_bounds _ c.requires.xlen).1
 
 pub subtract-requires : goal.subtract-requires
 subtract-requires c = record {
-      bits_bound = (xlen_bounds _ c.requires.xlen).1;
-      b_bound = c.requires.a_bound.1;
-    }
+  bits_bound = (xlen_bounds _ c.requires.xlen).1;
+  b_bound = c.requires.a_bound.1;
+}
 
 pub shift_left-requires : goal.shift_left-requires
 shift_left-requires c = (c.amount.ensures.1, (xlen_bounds _ c.requires.xlen).1)
 
 pub less-requires : goal.less-requires
 less-requires c = let b = xlen_bounds _ c.requires.xlen in record {
-      bits_nonzero = (omega arith, b.1);
-      a_bound = c.requires.a_bound;
-    }
+  bits_nonzero = (omega arith, b.1);
+  a_bound = c.requires.a_bound;
+}
 
 pub overflow_shr-result : goal.overflow_shr-result
 overflow_shr-result c = let b = xlen_bounds _ c.requires.xlen in omega (arith, b, c.amount-in-Srl.ensures.1)
 
 pub shift_signed-requires : goal.shift_signed-requires
 shift_signed-requires c = record {
-      by_lt_bits = (c.amount-in-Sra.ensures.1, (xlen_bounds _ c.requires.xlen).1);
-      a_bound = c.requires.a_bound.0;
-    }
+  by_lt_bits = (c.amount-in-Sra.ensures.1, (xlen_bounds _ c.requires.xlen).1);
+  a_bound = c.requires.a_bound.0;
+}
 
 pub returns-in-Add : goal.returns-in-Add
 unfolding alu_of

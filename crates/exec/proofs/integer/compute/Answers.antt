@@ -11,9 +11,9 @@ wrap-y-requires c = omega (arith, c.requires.1, c.requires.2)
 
 pub operate-requires : goal.operate-requires
 operate-requires c = record {
-      xlen = c.requires.0;
-      a_bound = (rw c.wrap-x.ensures (low_lt _ _), rw c.wrap-y.ensures (low_lt _ _));
-    }
+  xlen = c.requires.0;
+  a_bound = (rw c.wrap-x.ensures (low_lt _ _), rw c.wrap-y.ensures (low_lt _ _));
+}
 
 pub sign_extend-value-requires : goal.sign_extend-value-requires
 sign_extend-value-requires c =

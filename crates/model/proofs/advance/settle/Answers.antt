@@ -14,6 +14,6 @@ returns-in-Retired c =
 pub returns-in-Trap : goal.returns-in-Trap
 unfolding outcome_by broken_by slots_by
 returns-in-Trap c = record {
-      outcome_value = rw c.in-Trap.is (c.broke_none.ensures);
-      t_after = rw c.in-Trap.is (refl);
-    }
+  outcome_value = rw c.in-Trap.is (c.broke_none.ensures);
+  t_after = rw c.in-Trap.is (refl);
+}

@@ -13,9 +13,9 @@ use Rattle.model.proofs.run.run.Goals as goal
 pub returns-then-number-ne0 : goal.returns-then-number-ne0
 unfolding result_of
 returns-then-number-ne0 c = record {
-      value = rw (← c.refusal-number.ensures, ne_eqb _ _ c.if-number-ne0.true) (c.refused_run.ensures);
-      mem_after = rw (← c.refusal-number.ensures, ne_eqb _ _ c.if-number-ne0.true) (refl);
-    }
+  value = rw (← c.refusal-number.ensures, ne_eqb _ _ c.if-number-ne0.true) (c.refused_run.ensures);
+  mem_after = rw (← c.refusal-number.ensures, ne_eqb _ _ c.if-number-ne0.true) (refl);
+}
 
 pub perform_first-requires : goal.perform_first-requires
 perform_first-requires c =

@@ -10,9 +10,9 @@ use Rattle.rows.proofs.row.against.Goals as goal
 pub returns-then-r-at : goal.returns-then-r-at
 unfolding after_row
 returns-then-r-at c = record {
-      value = told_pc _ _ _ c.if-r-at.true;
-      mem_after = refl;
-    }
+  value = told_pc _ _ _ c.if-r-at.true;
+  mem_after = refl;
+}
 
 pub returns-then-not-inside : goal.returns-then-not-inside
 unfolding after_row

@@ -5,7 +5,7 @@ use lib.Seq.{take_all}
 use Rattle.word.proofs.BytesLaws.{to_le-step}
 use Prim.Native.Nat.{◌-◌}
 use native.Mathlib.Omega.{arith}
-use lib.ListN.{length, take, length-set}
+use lib.ListN.{length, length-set}
 use borrow.Author.Rules.{rules}
 use Rattle.word.specs.Bytes.{to_le}
 use Rattle.word.proofs.bytes.store_le.Goals as goal
