@@ -42,24 +42,24 @@ value_in O.ScFailed = 0
 value_in (O.Trap cause value) = value
 value_in (O.Refused number) = 0
 
-effect-retired : (h : ℕ) (e : Exec) → T.is_trap e ≡ 0 → IsRetired (outcome_of (of_exec h e))
-effect-retired h (trap cause value) z = absurd (omega (arith, z))
-effect-retired h (effect ws to nothing) z = tt
-effect-retired h (effect ws to (reserve a w)) z = tt
-effect-retired h (effect ws to (store a bs)) z = tt
-effect-retired h (effect ws to (sc_stored a bs)) z = tt
-effect-retired h (effect ws to sc_failed) z = tt
+effect_retired : (h : ℕ) (e : Exec) → T.is_trap e ≡ 0 → IsRetired (outcome_of (of_exec h e))
+effect_retired h (trap cause value) z = absurd (omega (arith, z))
+effect_retired h (effect ws to nothing) z = tt
+effect_retired h (effect ws to (reserve a w)) z = tt
+effect_retired h (effect ws to (store a bs)) z = tt
+effect_retired h (effect ws to (sc_stored a bs)) z = tt
+effect_retired h (effect ws to sc_failed) z = tt
 
 module _ (base : ℕ) (mem : List ℕ) (s : State) where
   -- ---- the rows of an event
 
-  row-cause : (e : Event) (k c v : ℕ) → EventRow base mem s e k c v → c ≤ 8
-  row-cause (Step h) k c v r =
+  row_cause : (e : Event) (k c v : ℕ) → EventRow base mem s e k c v → c ≤ 8
+  row_cause (Step h) k c v r =
       let xlen = xlen_of s.settings in
       let pc = get_or s.pc h 0 in
       T.cause_most xlen s.settings.misaligned (value_at base mem pc 4) (reg_at s.x h) pc base mem (decode_at xlen (value_at base mem pc 4)) k c v r
-  row-cause (Device a n v) k c w r = absurd r
-  row-cause (Yield h) k c v r = absurd r
+  row_cause (Device a n v) k c w r = absurd r
+  row_cause (Yield h) k c v r = absurd r
 
   row_step : (e : Event) (k c v : ℕ) → EventRow base mem s e k c v → (h : ℕ) × (e ≡ Step h)
   row_step (Step h) k c v r = (h, refl)
@@ -81,8 +81,8 @@ module _ (base : ℕ) (mem : List ℕ) (s : State) where
     traps : (c v : ℕ) → o ≡ O.Trap c v → Unrefused base mem s e → FirstTrap (EventRow base mem s e) c v → Decided e o
     retires : IsRetired o → Unrefused base mem s e → Untrapped (EventRow base mem s e) → Decided e o
 
-  step-decided : (h : ℕ) → Unrefused base mem s (Step h) → Decided (Step h) (outcome_of (of_exec h (step_of base mem s h)))
-  step-decided h free = go (T.decided xlen s.settings.misaligned x pc base mem covered)
+  step_decided : (h : ℕ) → Unrefused base mem s (Step h) → Decided (Step h) (outcome_of (of_exec h (step_of base mem s h)))
+  step_decided h free = go (T.decided xlen s.settings.misaligned x pc base mem covered)
     where
       xlen : ℕ
       xlen = xlen_of s.settings
@@ -99,77 +99,77 @@ module _ (base : ℕ) (mem : List ℕ) (s : State) where
       go : T.Decided xlen s.settings.misaligned (value_at base mem pc 4) x pc base mem (decode_at xlen (value_at base mem pc 4)) (step_of base mem s h)
           → Decided (Step h) (outcome_of (of_exec h (step_of base mem s h)))
       go (T.traps c v q f) = traps c v (ap (λ (e : Exec). outcome_of (of_exec h e)) q) free f
-      go (T.retires ws to t q f) = retires (effect-retired h (step_of base mem s h) (ap T.is_trap q)) free f
+      go (T.retires ws to t q f) = retires (effect_retired h (step_of base mem s h) (ap T.is_trap q)) free f
 
-  passed-decided : (e : Event) → Unrefused base mem s e → Decided e (outcome_of (R.passed base mem s e))
-  passed-decided (Step h) free = step-decided h free
-  passed-decided (Device a n v) free = retires tt free (λ k c w r. r)
-  passed-decided (Yield h) free = retires tt free (λ k c v r. r)
+  passed_decided : (e : Event) → Unrefused base mem s e → Decided e (outcome_of (R.passed base mem s e))
+  passed_decided (Step h) free = step_decided h free
+  passed_decided (Device a n v) free = retires tt free (λ k c w r. r)
+  passed_decided (Yield h) free = retires tt free (λ k c v r. r)
 
-  event-decided : (e : Event) → R.Decided base mem s e → Decided e (answer_of base mem s e).outcome
+  event_decided : (e : Event) → R.Decided base mem s e → Decided e (answer_of base mem s e).outcome
   unfolding answer_of
-  event-decided e (R.refuses n q f) = refuses n (ap outcome_of q) f
-  event-decided e (R.passes q free) = rw q (passed-decided e free)
+  event_decided e (R.refuses n q f) = refuses n (ap outcome_of q) f
+  event_decided e (R.passes q free) = rw q (passed_decided e free)
 
   decided : (e : Event) → Decided e (answer_of base mem s e).outcome
-  decided e = event-decided e (R.decided base mem s e)
+  decided e = event_decided e (R.decided base mem s e)
 
   module _ (e : Event) where
-    trap-given : (o : Outcome) → Decided e o → (c v : ℕ) → o ≡ O.Trap c v
+    trap_given : (o : Outcome) → Decided e o → (c v : ℕ) → o ≡ O.Trap c v
         → Unrefused base mem s e × FirstTrap (EventRow base mem s e) c v
-    trap-given o (refuses n q f) c v z = absurd (omega (arith, ap R.kind (sym q ∙ z)))
-    trap-given o (traps d w q free f) c v z = (
+    trap_given o (refuses n q f) c v z = absurd (omega (arith, ap R.kind (sym q ∙ z)))
+    trap_given o (traps d w q free f) c v z = (
       free,
       subst (λ (k : ℕ). FirstTrap (EventRow base mem s e) k v) (ap cause_in (sym q ∙ z))
           (subst (λ (k : ℕ). FirstTrap (EventRow base mem s e) d k) (ap value_in (sym q ∙ z)) f),
     )
-    trap-given o (retires r free f) c v z = absurd (subst IsRetired z r)
+    trap_given o (retires r free f) c v z = absurd (subst IsRetired z r)
 
-    trap-taken : (o : Outcome) → Decided e o → (c v : ℕ) → Unrefused base mem s e → FirstTrap (EventRow base mem s e) c v
+    trap_taken : (o : Outcome) → Decided e o → (c v : ℕ) → Unrefused base mem s e → FirstTrap (EventRow base mem s e) c v
         → o ≡ O.Trap c v
-    trap-taken o (refuses n q f) c v free g = absurd (free n f.applies)
-    trap-taken o (traps d w q clear f) c v free g =
+    trap_taken o (refuses n q f) c v free g = absurd (free n f.applies)
+    trap_taken o (traps d w q clear f) c v free g =
         let same = first_equal e d w c v f g in
         q ∙ ap (λ (k : ℕ). O.Trap k w) same.0 ∙ ap (λ (k : ℕ). O.Trap c k) same.1
-    trap-taken o (retires r clear f) c v free g = absurd (f g.place c v g.applies)
+    trap_taken o (retires r clear f) c v free g = absurd (f g.place c v g.applies)
 
     -- A trap is given exactly where no refusal applies, by the first row of 01's table of traps that applies, with its cause and value. A device
     -- write and a yield have no rows.
-    pub trap-exact : (cause value : ℕ) → ((answer_of base mem s e).outcome ≡ O.Trap cause value)
+    pub trap_exact : (cause value : ℕ) → ((answer_of base mem s e).outcome ≡ O.Trap cause value)
         ↔ (Unrefused base mem s e × FirstTrap (EventRow base mem s e) cause value)
-    trap-exact c v = (trap-given _ (decided e) c v, λ g. trap-taken _ (decided e) c v g.0 g.1)
+    trap_exact c v = (trap_given _ (decided e) c v, λ g. trap_taken _ (decided e) c v g.0 g.1)
 
     -- 01: "A trap returns cause and value and leaves registers, pc, reservations and memory as they were."
-    pub trap-keeps : (cause value : ℕ) → (answer_of base mem s e).outcome ≡ O.Trap cause value
+    pub trap_keeps : (cause value : ℕ) → (answer_of base mem s e).outcome ≡ O.Trap cause value
         → ((answer_of base mem s e).state ≡ s) × (memory_of base mem s e ≡ mem)
-    trap-keeps c v o = R.unretired_keeps base mem s e (omega (arith, ap R.kind o))
+    trap_keeps c v o = R.unretired_keeps base mem s e (omega (arith, ap R.kind o))
 
     -- only steps trap
-    pub trap-step : (cause value : ℕ) → (answer_of base mem s e).outcome ≡ O.Trap cause value → (h : ℕ) × (e ≡ Step h)
-    trap-step c v o = let f = ((trap-exact c v).0 o).1 in row_step e f.place c v f.applies
+    pub trap_step : (cause value : ℕ) → (answer_of base mem s e).outcome ≡ O.Trap cause value → (h : ℕ) × (e ≡ Step h)
+    trap_step c v o = let f = ((trap_exact c v).0 o).1 in row_step e f.place c v f.applies
 
-    retired-given : (o : Outcome) → Decided e o → IsRetired o
+    retired_given : (o : Outcome) → Decided e o → IsRetired o
         → Unrefused base mem s e × Untrapped (EventRow base mem s e)
-    retired-given o (refuses n q f) r = absurd (subst IsRetired q r)
-    retired-given o (traps c v q free f) r = absurd (subst IsRetired q r)
-    retired-given o (retires i free f) r = (free, f)
+    retired_given o (refuses n q f) r = absurd (subst IsRetired q r)
+    retired_given o (traps c v q free f) r = absurd (subst IsRetired q r)
+    retired_given o (retires i free f) r = (free, f)
 
-    retired-taken : (o : Outcome) → Decided e o → Unrefused base mem s e → Untrapped (EventRow base mem s e)
+    retired_taken : (o : Outcome) → Decided e o → Unrefused base mem s e → Untrapped (EventRow base mem s e)
         → IsRetired o
-    retired-taken o (refuses n q f) free clear = absurd (free n f.applies)
-    retired-taken o (traps c v q g f) free clear = absurd (clear f.place c v f.applies)
-    retired-taken o (retires i g f) free clear = i
+    retired_taken o (refuses n q f) free clear = absurd (free n f.applies)
+    retired_taken o (traps c v q g f) free clear = absurd (clear f.place c v f.applies)
+    retired_taken o (retires i g f) free clear = i
 
     -- 01: "A step that doesn't trap is retired": exactly what no row of either table applies to
-    pub retired-exact : IsRetired (answer_of base mem s e).outcome
+    pub retired_exact : IsRetired (answer_of base mem s e).outcome
         ↔ (Unrefused base mem s e × Untrapped (EventRow base mem s e))
-    retired-exact = (retired-given _ (decided e), λ g. retired-taken _ (decided e) g.0 g.1)
+    retired_exact = (retired_given _ (decided e), λ g. retired_taken _ (decided e) g.0 g.1)
 
-    answered-by : (o : Outcome) → Decided e o → Answered o
-    answered-by o (refuses n q f) = let l = R.numbered base mem s e n f.applies in refused n l.0 l.1 q
-    answered-by o (traps c v q free f) = trapped c v (row-cause e f.place c v f.applies) q
-    answered-by o (retires i free f) = retired i
+    answered_by : (o : Outcome) → Decided e o → Answered o
+    answered_by o (refuses n q f) = let l = R.numbered base mem s e n f.applies in refused n l.0 l.1 q
+    answered_by o (traps c v q free f) = trapped c v (row_cause e f.place c v f.applies) q
+    answered_by o (retires i free f) = retired i
 
     -- no event is without an answer, and no answer has another number or cause
     pub answered : Answered (answer_of base mem s e).outcome
-    answered = answered-by _ (decided e)
+    answered = answered_by _ (decided e)

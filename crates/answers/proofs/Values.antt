@@ -36,7 +36,7 @@ use Rattle.answers.specs.Refusals.{bad_state, no_hart, Unrefused}
 use Rattle.answers.specs.Causes.{Reach, nowhere, jumps, reads, writes, atomic_reach, reach_of, TrapRow, EventRow}
 use Rattle.answers.specs.Causes.{unfetched, unknown, called, halted, misaligned_target, misaligned_read, misaligned_write, misaligned_lr, misaligned_amo}
 use Rattle.answers.specs.Causes.{outside_read, outside_write}
-use Rattle.answers.proofs.Answers.{trap-exact}
+use Rattle.answers.proofs.Answers.{trap_exact}
 
 -- a number that has 64 bits, and 32 where registers have no more
 xlen_lt : (xlen : ℕ) → Xlen xlen → (n : ℕ) → n < 2 ^ 64 → (xlen ≡ 32 → n < 2 ^ 32) → n < 2 ^ xlen
@@ -115,5 +115,5 @@ module _ (base : ℕ) (mem : List ℕ) (s : State) (ranged : Ranged s) (bytes : 
   -- else there is no trap.
   pub value_fits : (e : Event) (cause value : ℕ) → (answer_of base mem s e).outcome ≡ O.Trap cause value → value < 2 ^ xlen_of s.settings
   value_fits e c v o =
-      let t = (trap-exact base mem s e c v).0 o in
+      let t = (trap_exact base mem s e c v).0 o in
       event_lt e t.0 t.1.place c v t.1.applies

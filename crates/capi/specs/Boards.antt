@@ -11,7 +11,7 @@ use Rattle.boards.specs.declared.SettingsFile.{SettingsFile}
 use Rattle.boards.specs.declared.Written.{Written}
 use Rattle.boards.specs.declared.Written.TheVariants as W
 use Rattle.boards_layout.specs.Boards.{boards_from, boards_bytes}
-use Rattle.capi.specs.Answers.{wrongSize}
+use Rattle.capi.specs.Answers.{wrong_size}
 
 -- ---- a file read
 
@@ -39,7 +39,7 @@ pub record SettingsTold (f : SettingsFile) (r : ℕ) (boards' told' : List ℕ) 
 
 -- What a read leaves, and its answer r. Where the room isn't that of sixteen boards and of two numbers, nothing is written.
 pub record SettingsRead (file boards told : List ℕ) (r : ℕ) (boards' told' : List ℕ) : Type 0 where
-  pub wrong : ((length boards ≡ 384) × (length told ≡ 16) → ⊥) → (r ≡ wrongSize) × (boards' ≡ boards) × (told' ≡ told)
+  pub wrong : ((length boards ≡ 384) × (length told ≡ 16) → ⊥) → (r ≡ wrong_size) × (boards' ≡ boards) × (told' ≡ told)
   pub right : length boards ≡ 384 → length told ≡ 16 → SettingsTold (read_of file) r boards' told'
 
 -- ---- a file written
@@ -66,6 +66,6 @@ pub record WriteTold (n : ℕ) (boards : List Board) (out : List ℕ) (r : ℕ) 
 
 -- What a write leaves, and its answer r. Where the boards aren't whole or the room isn't that of a number, nothing is written.
 pub record SettingsWritten (boards out told : List ℕ) (r : ℕ) (out' told' : List ℕ) : Type 0 where
-  pub wrong : ((length boards % 24 ≡ 0) × (length told ≡ 8) → ⊥) → (r ≡ wrongSize) × (out' ≡ out) × (told' ≡ told)
+  pub wrong : ((length boards % 24 ≡ 0) × (length told ≡ 8) → ⊥) → (r ≡ wrong_size) × (out' ≡ out) × (told' ≡ told)
   pub right : length boards % 24 ≡ 0 → length told ≡ 8
       → WriteTold (length boards / 24) (boards_from boards (length boards / 24)) out r out' told'

@@ -13,7 +13,7 @@ use Rattle.model.specs.declared.Outcome.TheVariants.{Retired, ScStored, ScFailed
 use Rattle.model.specs.declared.Answer.{Answer}
 use Rattle.model.specs.declared.Verdict.{Verdict}
 use Rattle.model.specs.declared.Verdict.TheVariants as Run
-use Rattle.capi.specs.Answers.{wrongSize}
+use Rattle.capi.specs.Answers.{wrong_size}
 
 -- The bytes of a state with those of another put over them, or as they are. layout/specs/Layout.antt says what the bytes mean (state_in) and what is
 -- put over them (state_over).
@@ -65,7 +65,7 @@ pub record Told (a : Answer) (m state : List ℕ) (r : ℕ) (state' mem' value' 
 -- is written. (A memory of a wrong length is 01's refusal 1, and so is a set size that isn't allowed, as that of a state of zeros: 02 [5];
 -- a version, a kind or a misaligned that isn't allowed is refusal 2: 02 [7], [10], [11].)
 pub record PerformedOn (e : Event) (base : ℕ) (state mem value : List ℕ) (r : ℕ) (state' mem' value' : List ℕ) : Type 0 where
-  pub wrong : ((length state ≡ state_size) × (length value ≡ 8) → ⊥) → (r ≡ wrongSize) × (state' ≡ state) × (mem' ≡ mem) × (value' ≡ value)
+  pub wrong : ((length state ≡ state_size) × (length value ≡ 8) → ⊥) → (r ≡ wrong_size) × (state' ≡ state) × (mem' ≡ mem) × (value' ≡ value)
   pub right : length state ≡ state_size → length value ≡ 8
       → Told (answer_of base mem (state_in state) e) (memory_of base mem (state_in state) e) state r state' mem' value'
 
@@ -101,7 +101,7 @@ pub record RunTold (a : Result) (state : List ℕ) (r : ℕ) (state' mem' told' 
 -- What a run of an events body leaves, and its answer r. Where the state isn't 2344 bytes or the room for two numbers isn't 16, nothing is written. (A
 -- body of a wrong length is 01's refusal 11.)
 pub record RanOn (body : List ℕ) (budget base : ℕ) (state mem told : List ℕ) (r : ℕ) (state' mem' told' : List ℕ) : Type 0 where
-  pub wrong : ((length state ≡ state_size) × (length told ≡ 16) → ⊥) → (r ≡ wrongSize) × (state' ≡ state) × (mem' ≡ mem) × (told' ≡ told)
+  pub wrong : ((length state ≡ state_size) × (length told ≡ 16) → ⊥) → (r ≡ wrong_size) × (state' ≡ state) × (mem' ≡ mem) × (told' ≡ told)
   pub right : length state ≡ state_size → length told ≡ 16 → RunTold (result_of base mem (state_in state) body budget) state r state' mem' told'
 
 -- ---- what stays

@@ -5,7 +5,7 @@ use Rattle.rows.specs.Replay.{Result, replay_of}
 use Rattle.rows.specs.Numbers.{stop_code, board_of, model_of}
 use Rattle.rows.specs.declared.Stop.{Stop}
 use Rattle.rows.specs.declared.Stop.TheVariants.{Agreed, Form, Pc, Word, Trap, Rd, Value, Refused}
-use Rattle.capi.specs.Answers.{wrongSize}
+use Rattle.capi.specs.Answers.{wrong_size}
 use Rattle.capi.specs.Events.{state_if}
 
 -- a refusal leaves every byte of the state as it was; a stop is none (02 [1]: "the state and memory are the ones after exactly those" rows)
@@ -40,5 +40,5 @@ pub record ReplayTold (a : Result) (state : List ℕ) (r : ℕ) (state' mem' tol
 -- What a replay of a log leaves, and its answer r. Where the state isn't 2344 bytes or the room for three numbers isn't 24, nothing is written. (A log
 -- of a wrong length is 02's refusal 12, and one of no rows 13.)
 pub record ReplayedOn (log : List ℕ) (base : ℕ) (state mem told : List ℕ) (r : ℕ) (state' mem' told' : List ℕ) : Type 0 where
-  pub wrong : ((length state ≡ state_size) × (length told ≡ 24) → ⊥) → (r ≡ wrongSize) × (state' ≡ state) × (mem' ≡ mem) × (told' ≡ told)
+  pub wrong : ((length state ≡ state_size) × (length told ≡ 24) → ⊥) → (r ≡ wrong_size) × (state' ≡ state) × (mem' ≡ mem) × (told' ≡ told)
   pub right : length state ≡ state_size → length told ≡ 24 → ReplayTold (replay_of base mem (state_in state) log) state r state' mem' told'

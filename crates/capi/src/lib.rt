@@ -8,7 +8,7 @@ mod steps;
 ghost use Rattle.std.specs.Prelude.{◌≡◌, ◌/◌, length};
 ghost use Rattle.settings.specs.Settings.{defaults, of_kind};
 ghost use Rattle.retry.specs.Loop.{check_of, words_of};
-ghost use Rattle.capi.specs.Answers.{Reported, loopNumber, loopAnswer};
+ghost use Rattle.capi.specs.Answers.{Reported, loop_number, loop_answer};
 
 use retry::LoopAnswer;
 use settings::Settings;
@@ -30,7 +30,7 @@ pub extern "C" fn floecavern_report(file: &[u8], out: &mut [u8]) -> u64
 
 // The checker's answer as a number.
 fn loop_number(settings: Settings, bytes: &[u8]) -> u64
-    ensures { result ≡ loopNumber (check_of settings (words_of bytes.now (length bytes.now / 4))) }
+    ensures { result ≡ loop_number (check_of settings (words_of bytes.now (length bytes.now / 4))) }
 {
     match retry::check_bytes(settings, bytes) {
         LoopAnswer::Accepted => 0,
@@ -41,7 +41,7 @@ fn loop_number(settings: Settings, bytes: &[u8]) -> u64
 
 // Whether words, 4 bytes each and the lowest first, are a retry loop that is accepted. 2^64 - 1 if they are not whole words.
 fn check_words(settings: Settings, words: &[u8]) -> u64
-    ensures { result ≡ loopAnswer settings words.now }
+    ensures { result ≡ loop_answer settings words.now }
 {
     if words.len() % 4 != 0 {
         return BAD_SIZE;
@@ -52,7 +52,7 @@ fn check_words(settings: Settings, words: &[u8]) -> u64
 // The same under A 2.1, for the 64-bit core.
 #[unsafe(no_mangle)]
 pub extern "C" fn floecavern_check_loop(words: &[u8]) -> u64
-    ensures { result ≡ loopAnswer defaults words.now }
+    ensures { result ≡ loop_answer defaults words.now }
 {
     check_words(settings::defaults(), words)
 }
@@ -60,7 +60,7 @@ pub extern "C" fn floecavern_check_loop(words: &[u8]) -> u64
 // The same under a version of A, for a kind of core.
 #[unsafe(no_mangle)]
 pub extern "C" fn floecavern_check_loop_for(version: u64, kind: u64, words: &[u8]) -> u64
-    ensures { result ≡ loopAnswer (of_kind version kind) words.now }
+    ensures { result ≡ loop_answer (of_kind version kind) words.now }
 {
     check_words(settings::of_kind(version, kind), words)
 }
