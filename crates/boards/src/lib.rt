@@ -14,7 +14,7 @@ use settings::Board;
 use word::bytes::{field, load_at, store_at};
 
 // What a file is found to be: refused, at a place counted from its first byte, or boards, in this format.
-#[derive(Drop)]
+#[derive(Clone, Copy)]
 pub enum Read {
     Refused { number: usize, place: usize },
     Boards { format: usize },
@@ -29,7 +29,7 @@ pub struct SettingsFile {
 }
 
 // What a write answers: refused, with nothing written, or how many bytes the file has.
-#[derive(Drop)]
+#[derive(Clone, Copy)]
 pub enum Written {
     Refused { number: usize, place: usize },
     Bytes(usize),

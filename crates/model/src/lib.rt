@@ -13,7 +13,7 @@ use machine::State;
 use reserve::packed;
 
 // How an event ends. ScStored and ScFailed are the two ends of an SC that does not trap, whatever its rd: 0 and 1.
-#[derive(Drop)]
+#[derive(Clone, Copy)]
 pub enum Outcome {
     Retired,
     ScStored,
@@ -23,7 +23,7 @@ pub enum Outcome {
 }
 
 // What is told of an event: its outcome, and the harts whose reservation it broke, bit k for hart k.
-#[derive(Drop)]
+#[derive(Clone, Copy)]
 pub struct Reply {
     pub outcome: Outcome,
     pub broke: u64,
@@ -38,7 +38,7 @@ pub struct Answer {
 }
 
 // Whether a run performed its events.
-#[derive(Drop)]
+#[derive(Clone, Copy)]
 pub enum Verdict {
     Performed,
     Refused { number: u64, place: usize },

@@ -15,7 +15,7 @@ use steplog::digits::digit_table;
 
 // Why a replay ended: all rows agreed, or the first row that did not. Of a difference, the row's own value comes first, the model's second.
 // The place of a refusal by 7 to 11 is one in a case file; that of the others is 0.
-#[derive(Drop)]
+#[derive(Clone, Copy)]
 pub enum Stop {
     Agreed,
     Form,
@@ -28,7 +28,7 @@ pub enum Stop {
 }
 
 // What the model says of one row.
-#[derive(Drop)]
+#[derive(Clone, Copy)]
 pub enum Told {
     Agrees,
     Stops(Stop),
@@ -43,7 +43,7 @@ pub struct Replayed {
 }
 
 // Where the rows stopped, in place.
-#[derive(Drop)]
+#[derive(Clone, Copy)]
 struct Stopped {
     stop: Stop,
     rows: usize,

@@ -1,6 +1,6 @@
 use mathlib.Core.Path.{ap, ◌∙◌}
 use Rattle.settings.specs.declared.Settings.{Settings}
-use Rattle.capi.specs.Answers.{loop_answer}
+use Rattle.capi.specs.Answers.{loopAnswer}
 use borrow.Author.Rules.{rules}
 use Rattle.capi.proofs.floecavern_check_loop_for.Statement.{statement}
 use Rattle.capi.proofs.floecavern_check_loop_for.Tie as tie
@@ -14,7 +14,7 @@ check-words-requires c κs = search rules
 returns : tie.Need-returns
 returns c =
     let words = c.before.before.before.args.words.now in
-    c.check-words.ensures ∙ ap (λ (settings : Settings). loop_answer settings words) c.before.of-kind.ensures
+    c.check-words.ensures ∙ ap (λ (settings : Settings). loopAnswer settings words) c.before.of-kind.ensures
 
 pub floecavern-check-loop-for-spec : {M : Type 1} → statement M
 floecavern-check-loop-for-spec = tie.close (tie.spec of-kind-requires check-words-requires returns)

@@ -1,6 +1,6 @@
 use mathlib.Core.Path.{sym, ◌∙◌, ap, subst}
 use native.Mathlib.Omega.{arith}
-use Rattle.capi.specs.Answers.{loop_number}
+use Rattle.capi.specs.Answers.{loopNumber}
 use Rattle.capi.proofs.LoopLaws.{Small, small_check}
 use borrow.Author.Rules.{rules}
 use Rattle.capi.proofs.loop_number.Statement.{statement}
@@ -34,13 +34,13 @@ enum-known-number : tie.Need-enum-known-number
 enum-known-number c = search rules
 
 returns : tie.Need-returns
-returns c = sym (ap loop_number (sym c.before.before.check-bytes.ensures ∙ c.enum_told.given.1))
+returns c = sym (ap loopNumber (sym c.before.before.check-bytes.ensures ∙ c.enum_told.given.1))
 
 returns-2 : tie.Need-returns-2
-returns-2 c = sym (ap loop_number (sym c.before.before.before.check-bytes.ensures ∙ c.before.place.given.1))
+returns-2 c = sym (ap loopNumber (sym c.before.before.before.check-bytes.ensures ∙ c.before.place.given.1))
 
 returns-3 : tie.Need-returns-3
-returns-3 c = sym (ap loop_number (sym c.before.before.before.check-bytes.ensures ∙ c.before.number.given.1))
+returns-3 c = sym (ap loopNumber (sym c.before.before.before.check-bytes.ensures ∙ c.before.number.given.1))
 
 pub loop-number-spec : {M : Type 1} → statement M
 loop-number-spec =
