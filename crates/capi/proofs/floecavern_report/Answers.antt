@@ -1,0 +1,31 @@
+use mathlib.Core.Path.{◌≡◌, refl, sym, ◌∙◌}
+use Prim.Native.Nat.{◌≤◌}
+use native.Mathlib.Omega.{arith}
+use lib.ListN.{length, drop}
+use lib.Seq.{length-take-le, take-append-le, drop_at}
+use Rattle.capi.proofs.floecavern_report.Goals as goal
+
+pub returns-then-out-lt262144 : goal.returns-then-out-lt262144
+returns-then-out-lt262144 c = record { small = λ _. (refl, refl); large = λ h. absurd (omega (arith, h, c.if-out-lt262144.true)) }
+
+pub slice_bounds-put_report-end-2 : goal.slice_bounds-put_report-end-2
+slice_bounds-put_report-end-2 c = sym (length-take-le 262144 c.args.out.now c.if-out-lt262144.false)
+
+pub put_report-requires : goal.put_report-requires
+put_report-requires c = length-take-le 262144 c.args.out.now c.if-out-lt262144.false
+
+pub returns : goal.returns
+returns c =
+    let o = c.args.out.now in
+    let p = c.put_report in
+    let h : 262144 ≤ length o = c.if-out-lt262144.false in
+    let l : length p.new.out ≡ 262144 = p.auto.out ∙ length-take-le 262144 o h in
+    record {
+      small = λ k. absurd (omega (arith, h, k));
+      large = λ _. (
+        omega (arith, p.ensures.put.end),
+        p.ensures.upper_bound,
+        take-append-le p.result p.new.out (drop 262144 o) (omega (arith, l, p.ensures.upper_bound)) ∙ p.ensures.put.holds,
+        drop_at p.new.out (drop 262144 o) 262144 l,
+      );
+    }
