@@ -1,7 +1,7 @@
 // What a program is given by a reader, with a read that fails told apart from the end of the input.
 #![tactic(auto)]
 
-ghost use Rattle.std.specs.Prelude.{◌≡◌, true, ◌<◌, ◌↔◌, IsSome, length, take};
+ghost use Rattle.std.specs.Prelude.{◌≡◌, true, false, ◌<◌, ◌↔◌, IsSome, length, take};
 ghost use Rattle.std.specs.Io.KnownBytes.{Consumes, IsAtEnd};
 ghost use Rattle.io.specs.Counts.{IsPrefixLen};
 
@@ -21,6 +21,8 @@ pub fn read_input<R: Read>(reader: &mut R, buf: &mut [u8]) -> Input
     ensures prefix_len { IsPrefixLen result.length buf.new }
     ensures length_in_bounds { result.failed ≡ true → result.length < length buf.new }
     ensures why { result.failed ≡ true ↔ IsSome result.why }
+    ensures bytes { Consumes (R.remaining reader.old) (R.remaining reader.new) (take result.length buf.new) }
+    ensures end { result.failed ≡ false → result.length < length buf.new → IsAtEnd (R.remaining reader.new) }
 {
     let mut length = 0;
     while length < buf.len() {
