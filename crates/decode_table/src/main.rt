@@ -2,7 +2,7 @@
 // registers have 64 bits, then of all where they have 32. tools/decode-table makes the input and, by another disassembler, the lines that are expected.
 #![tactic(auto)]
 
-use input::read_input;
+use input::read_full;
 use isa::Instr;
 use std::io;
 
@@ -48,10 +48,7 @@ fn all(rt: &impl Print, words: &[u8], xlen: u32) -> io::Result<()> {
 
 fn main(rt: HostRuntime) -> io::Result<()> {
     let mut space = [0u8; 65536];
-    let got = read_input(&mut rt.stdin(), &mut space);
-    if let Some(e) = got.why {
-        return Err(e);
-    }
-    all(&rt, &space[..got.length], 64)?;
-    all(&rt, &space[..got.length], 32)
+    let n = read_full(&mut rt.stdin(), &mut space)?;
+    all(&rt, &space[..n], 64)?;
+    all(&rt, &space[..n], 32)
 }

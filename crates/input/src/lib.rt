@@ -1,10 +1,12 @@
 // What a program is given by a reader, with a read that fails told apart from the end of the input.
 #![tactic(auto)]
 
-ghost use Rattle.std.specs.Prelude.{◌≡◌, true, false, ◌<◌, ◌↔◌, IsSome, length, take};
+ghost use Rattle.std.specs.Prelude.{◌≡◌, true, false, ◌<◌, ◌↔◌, IsSome, IfOk, OnErr, length, take};
+ghost use Rattle.std.specs.Io.{ReadsAtMost};
 ghost use Rattle.std.specs.Io.KnownBytes.{Consumes, IsAtEnd};
 ghost use Rattle.io.specs.Counts.{IsPrefixLen};
 
+use std::io;
 use std::io::{Error, Read};
 
 // How many bytes were read, and whether a read failed before the end, and then why.
@@ -44,5 +46,19 @@ pub fn read_input<R: Read>(reader: &mut R, buf: &mut [u8]) -> Input
         length,
         failed: false,
         why: None,
+    }
+}
+
+// The same, with a read that fails as an error: how many bytes were read.
+pub fn read_full<R: Read>(reader: &mut R, buf: &mut [u8]) -> io::Result<usize>
+    ensures bound { ReadsAtMost result buf.new }
+    ensures bytes { IfOk result (λ n. Consumes (R.remaining reader.old) (R.remaining reader.new) (take n buf.new)) }
+    ensures end { IfOk result (λ n. n < length buf.new → IsAtEnd (R.remaining reader.new)) }
+    ensures err { OnErr result (0 < length buf.new) }
+{
+    let got = read_input(reader, buf);
+    match got.why {
+        None => Ok(got.length),
+        Some(e) => Err(e),
     }
 }

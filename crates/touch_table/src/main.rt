@@ -6,7 +6,7 @@ ghost use Rattle.std.specs.Prelude.{◌≡◌, ◌+◌, ◌≤◌, length};
 ghost use Rattle.word.specs.Bytes.{le};
 ghost use Rattle.word.specs.Memory.{part};
 
-use input::read_input;
+use input::read_full;
 use std::io;
 
 // The little-endian number at a place.
@@ -51,9 +51,6 @@ fn all(rt: &impl Print, pairs: &[u8]) -> io::Result<()> {
 
 fn main(rt: HostRuntime) -> io::Result<()> {
     let mut space = [0u8; 65536];
-    let got = read_input(&mut rt.stdin(), &mut space);
-    if let Some(e) = got.why {
-        return Err(e);
-    }
-    all(&rt, &space[..got.length])
+    let n = read_full(&mut rt.stdin(), &mut space)?;
+    all(&rt, &space[..n])
 }
