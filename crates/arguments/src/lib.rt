@@ -108,16 +108,18 @@ pub fn argument<R: Env>(rt: &R, i: usize, other: u64) -> Number
     }
 }
 
-// Writes the system's words for an error. std puts its number behind them, which is left out where there is memory for it.
+// What stands before the number that std puts behind the system's words for an error.
+fn words_of(all: &str) -> &str {
+    match all.split_once(" (os error ") {
+        Some((words, _)) => words,
+        None => all,
+    }
+}
+
+// Writes the system's words for an error, with std's number behind them where there is no memory to leave it out.
 fn write_why<R: Alloc, W: Write>(rt: &R, err: &mut W, why: Error) -> io::Result<()> {
     match format!(in rt.alloc(); "{why}") {
-        Ok(all) => {
-            let words = match all.as_str().split_once(" (os error ") {
-                Some((words, _)) => words,
-                None => all.as_str(),
-            };
-            err.write_all(words.as_bytes())
-        }
+        Ok(all) => err.write_all(words_of(all.as_str()).as_bytes()),
         Err(_) => write!(err, "{why}"),
     }
 }
@@ -147,7 +149,7 @@ pub fn tell<R: Alloc, W: Write>(rt: &R, err: &mut W, program: &[u8], what: &[u8]
 }
 
 // Opens a file by its path. std's paths are UTF-8 text, and no other is tried.
-pub fn open<R: Files>(rt: &R, path: &[u8]) -> io::Result<R::File> {
+pub fn open_file<R: Files>(rt: &R, path: &[u8]) -> io::Result<R::File> {
     match str::from_utf8(path) {
         Ok(text) => fs::open(rt, text),
         Err(_) => Err(Error::from(ErrorKind::InvalidFilename)),
@@ -164,7 +166,7 @@ pub fn read_file<R: Files + Alloc, W: Write>(
 ) -> Input
     ensures { IsPrefixLen result.length buf.new }
 {
-    match open(rt, path) {
+    match open_file(rt, path) {
         Ok(mut file) => {
             let got = input::read_input(&mut file, buf);
             if let Some(e) = got.why {

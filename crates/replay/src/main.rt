@@ -6,7 +6,7 @@
 ghost use Rattle.std.specs.Prelude.{◌≡◌, ◌+◌, ◌/◌, ◌%◌, ◌^◌, ◌<◌, IfOk, min, length};
 ghost use Rattle.settings.specs.Boards.{BoardRules};
 
-use arguments::{is_given, open, read_file, text_of};
+use arguments::{is_given, open_file, read_file, text_of};
 use board_choice::Choice;
 use casefile::Found;
 use input::read_input;
@@ -263,7 +263,7 @@ fn read_log(rt: &HostRuntime, board: Board, file: &mut [u8], log: &mut File, pat
 fn open_log(rt: &HostRuntime, board: Board, file: &mut [u8], path: &[u8])
     requires { BoardRules board }
 {
-    match open(rt, path) {
+    match open_file(rt, path) {
         Ok(mut log) => read_log(rt, board, file, &mut log, path),
         Err(e) => tell(rt, path, e),
     }

@@ -1,7 +1,7 @@
 // The report of each case of data/, 0000 to 0883, in order, each after a line with its number.
 #![tactic(auto)]
 
-use arguments::{open, tell_failure};
+use arguments::{open_file, tell_failure};
 use input::read_full;
 use std::io;
 use std::io::Read;
@@ -28,7 +28,7 @@ fn run_case(rt: &HostRuntime, i: u64) -> io::Result<()> {
     let name = name_of(i);
     rt.write_all(&name)?;
     rt.write_all(b"\n")?;
-    match open(rt, &name) {
+    match open_file(rt, &name) {
         Ok(mut file) => print_report(rt, &mut file),
         Err(e) => {
             tell_failure(rt, &mut rt.stderr(), &name, e);

@@ -5,7 +5,7 @@
 ghost use Rattle.std.specs.Prelude.{◌<◌};
 ghost use Rattle.std.specs.Io.{ReadsAtMost};
 
-use arguments::{open, tell_failure};
+use arguments::{open_file, tell_failure};
 use casefile::Found;
 use input::read_full;
 use machine::State;
@@ -37,7 +37,7 @@ fn log_name(i: u64) -> [u8; 7] {
 fn read_file(rt: &HostRuntime, name: &[u8], buf: &mut [u8]) -> io::Result<usize>
     ensures { ReadsAtMost result buf.new }
 {
-    match open(rt, name) {
+    match open_file(rt, name) {
         Ok(mut file) => read_full(&mut file, buf),
         Err(e) => {
             tell_failure(rt, &mut rt.stderr(), name, e);
