@@ -60,9 +60,10 @@ fn pick_or_tell<W: Write>(err: &mut W, program: &[u8], file: SettingsFile, said:
     ensures value { result ≡ choice_of file said }
     ensures allowed { Allowed result }
 {
+    let count = file.count;
     let choice = pick(file, said);
     match choice {
-        Choice::Told => tell_board(err, program, file.count),
+        Choice::Told => tell_board(err, program, count),
         _ => {}
     }
     choice

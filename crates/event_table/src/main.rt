@@ -39,8 +39,8 @@ fn answer(s: State, base: u64, mem: &mut [u8], len: usize, e: Event) -> Answer
 fn perform(rt: &impl Print, c: Case, mem: &mut [u8; 8192], e: Event) -> io::Result<()> {
     let mut old: [u8; 8192] = [0; 8192];
     build::copy(mem, &mut old);
-    let s = c.state;
-    let a = answer(s, c.base, mem, c.len, e);
+    let s = build::again(&c.state);
+    let a = answer(c.state, c.base, mem, c.len, e);
     let outcome = a.outcome;
     let state = a.state;
     show::outcome(rt, c.number, outcome, a.broke)?;
@@ -76,9 +76,10 @@ fn take(rt: &impl Print, c: Case, mem: &mut [u8; 8192], item: &[u8; 24]) -> io::
     if item[0] < 7 {
         return Ok(build::patch(c, mem, item));
     }
+    let number = c.number;
     perform(rt, c, mem, event(item))?;
     build::fill(mem, 8192);
-    Ok(build::first(std::num::wrapping_add_u64(c.number, 1)))
+    Ok(build::first(std::num::wrapping_add_u64(number, 1)))
 }
 
 // Reads the next item: how many of its bytes there were.
