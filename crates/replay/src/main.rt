@@ -61,16 +61,15 @@ fn write_refusal(rt: &HostRuntime, number: u64, place: usize) {
     write_answer(rt, 0, 0, Stop::Refused { number, place });
 }
 
-fn going_after(stop: Stop) -> Going {
+fn going_after(stop: &Stop) -> Going {
     match stop {
         Stop::Agreed => Going::On,
         _ => Going::Stopped,
     }
 }
 
-fn is_on(r: Reached) -> bool {
-    let going = r.going;
-    match going {
+fn is_on(r: &Reached) -> bool {
+    match r.going {
         Going::On => true,
         _ => false,
     }
@@ -131,11 +130,8 @@ fn replay_part(
         };
     }
     let replayed = case_replay::replay_next(before, s, base, mem, part);
-    let stop = replayed.stop;
-    Reached {
-        going: going_after(stop),
-        replayed,
-    }
+    let going = going_after(&replayed.stop);
+    Reached { going, replayed }
 }
 
 fn least(a: usize, b: usize) -> usize
@@ -192,7 +188,7 @@ fn replay_parts(
         replayed,
     };
     let mut left = all;
-    while 0 < left && is_on(r) {
+    while 0 < left && is_on(&r) {
         let want = least(left, 1365);
         let so_far = r.replayed;
         let state = so_far.state;

@@ -163,13 +163,18 @@ fn print_memory_of(rt: &impl Print, file: &[u8]) -> io::Result<()> {
     Ok(())
 }
 
-fn print_left(rt: &impl Print, stop: Stop, s: State, file: &[u8]) -> io::Result<()> {
+// Whether a replay leaves something to write: none that is refused does.
+fn leaves(stop: &Stop) -> bool {
     match stop {
-        Stop::Refused { .. } => {}
-        _ => {
-            print_harts(rt, s)?;
-            print_memory_of(rt, file)?;
-        }
+        Stop::Refused { .. } => false,
+        _ => true,
+    }
+}
+
+fn print_left(rt: &impl Print, left: bool, s: State, file: &[u8]) -> io::Result<()> {
+    if left {
+        print_harts(rt, s)?;
+        print_memory_of(rt, file)?;
     }
     Ok(())
 }
@@ -177,11 +182,12 @@ fn print_left(rt: &impl Print, stop: Stop, s: State, file: &[u8]) -> io::Result<
 fn print_replay(rt: &impl Print, file: &mut [u8], log: &[u8]) -> io::Result<()> {
     let r = case_replay::replay_case(file, log);
     let stop = r.stop;
+    let left = leaves(&stop);
     let mut out = [0u8; 128];
     let n = case_replay::answer_text((log.len() / 48) as u64, r.rows as u64, stop, &mut out);
     rt.write_all(&out[..n])?;
     let s = r.state;
-    print_left(rt, stop, s, file)
+    print_left(rt, left, s, file)
 }
 
 fn run_case(rt: &HostRuntime, i: u64) -> io::Result<()> {
