@@ -1,5 +1,5 @@
 -- Digits read one after another, where all numbers from 1,000 on count as 1,000. Assumes nothing.
-use mathlib.Core.Path.{◌≡◌, refl, sym, ap, ap₂, ◌∙◌}
+use mathlib.Core.Path.{◌≡◌, refl, ap}
 use mathlib.Core.Bool.{true, false, not, cond}
 use mathlib.Core.List.{List, [], ◌∷◌}
 use mathlib.Core.Logic.{⊎_elim}
@@ -14,7 +14,6 @@ use Rattle.word.proofs.WordLaws.{split_lt}
 use Rattle.text.specs.Number.{glyph, digit_of, read_from}
 use Rattle.steplog.specs.Digits.{is_digit, all_digits}
 use Rattle.arguments.specs.Numbers.{number_said}
-use Rattle.arguments.specs.declared.Number.{Number}
 
 -- which bytes are decimal digits
 pub below_digits : (c : ℕ) → c < 48 → is_digit 10 c ≡ false

@@ -1,9 +1,9 @@
 -- A settings file has 200 bytes at most. So the first 4,096 bytes of a file, or any number above 200, get the answer of the whole. Assumes nothing.
-use mathlib.Core.Path.{◌≡◌, sym, ap, ap₂, ◌∙◌}
+use mathlib.Core.Path.{◌≡◌, sym, ap, ◌∙◌}
 use mathlib.Core.Logic.{⊎_elim}
 use mathlib.Core.Bool.{false, cond}
 use mathlib.Core.List.{List}
-use Prim.Native.Nat.{ℕ, ◌+◌, ◌*◌, ◌≤◌, ◌<◌}
+use Prim.Native.Nat.{ℕ, ◌≤◌, ◌<◌}
 use native.Mathlib.Omega.{arith}
 use lib.Dec.{eqb, leb}
 use lib.ListN.{length, take}
@@ -14,7 +14,6 @@ use Rattle.word.specs.Memory.{part}
 use Rattle.word.proofs.TestLaws.{bool_cases}
 use Rattle.word.proofs.WordLaws.{split_lt}
 use Rattle.boards.specs.File.{format_of, board_count, format_ok, body_size, start_of, table_ok, refused_file, read_of}
-use Rattle.boards.specs.declared.SettingsFile.{SettingsFile}
 
 -- where 16 boards or fewer end
 end_most : (format n : ℕ) → n ≤ 16 → start_of format n n ≤ 200

@@ -5,10 +5,12 @@ ghost use Rattle.std.specs.Prelude.{◌≡◌};
 ghost use Rattle.boards.specs.File.{Kept};
 ghost use Rattle.board_choice.specs.Choice.{choice_of, Allowed};
 
-use arguments::{Number, argument, read_file, tell};
+use arguments::{Number, argument, read_file, tell, text_of};
 use boards::{Read, SettingsFile};
-use libc::STDERR_FILENO;
 use settings::Board;
+use std::io;
+use std::io::Write;
+use std::rt::{Env, Files};
 
 // What the arguments say: nothing that can be followed, which is told on standard error; a settings file that is refused; or a board.
 #[derive(Drop)]
@@ -18,12 +20,17 @@ pub enum Choice {
     Chosen(Board),
 }
 
+fn write_board<W: Write>(err: &mut W, program: &[u8], count: usize) -> io::Result<()> {
+    err.write_all(program)?;
+    writeln!(
+        err,
+        ": BOARD is not a number below {count}, as many boards as SETTINGS has"
+    )
+}
+
 // A BOARD that the settings file, which has so many, hasn't.
-fn tell_board(program: &[u8], count: usize) {
-    io::write_all(STDERR_FILENO, program);
-    io::write_all(STDERR_FILENO, b": BOARD is not a number below ");
-    io::print_decimal(STDERR_FILENO, count as u64);
-    io::write_all(STDERR_FILENO, b", as many boards as SETTINGS has\n");
+fn tell_board<W: Write>(err: &mut W, program: &[u8], count: usize) {
+    let _ = write_board(err, program, count);
 }
 
 // The board of a file that has been read, by the number that is said.
@@ -48,14 +55,15 @@ fn pick(file: SettingsFile, said: Number) -> Choice
 }
 
 // The same, with a number that isn't a board's told of.
-fn pick_or_tell(program: &[u8], file: SettingsFile, said: Number) -> Choice
+fn pick_or_tell<W: Write>(err: &mut W, program: &[u8], file: SettingsFile, said: Number) -> Choice
     requires { Kept file }
     ensures value { result ≡ choice_of file said }
     ensures allowed { Allowed result }
 {
+    let count = file.count;
     let choice = pick(file, said);
     match choice {
-        Choice::Told => tell_board(program, file.count),
+        Choice::Told => tell_board(err, program, count),
         _ => {}
     }
     choice
@@ -63,21 +71,29 @@ fn pick_or_tell(program: &[u8], file: SettingsFile, said: Number) -> Choice
 
 // What the arguments with these numbers say. The file is read first: of a long one 4,096 bytes, which get the answer of the whole (cut-same of
 // proofs/Cut.antt).
-pub fn chosen(program: &[u8], settings: usize, board: usize) -> Choice
+pub fn chosen<R: Env + Files + Alloc, W: Write>(
+    rt: &R,
+    err: &mut W,
+    program: &[u8],
+    settings: usize,
+    board: usize,
+) -> Choice
     ensures { Allowed result }
 {
-    let mut path = io::buffer();
-    let n = os::arg(settings, &mut path);
-    if os::errno() != 0 {
-        tell(program, b"SETTINGS");
-        return Choice::Told;
-    }
-    let mut space = io::buffer();
-    let got = read_file(program, &path[..n], &mut space);
+    let mut path = [0u8; 4096];
+    let n = match text_of(rt, settings, &mut path) {
+        Ok(n) => n,
+        Err(e) => {
+            tell(rt, err, program, b"SETTINGS", e);
+            return Choice::Told;
+        }
+    };
+    let mut space = [0u8; 4096];
+    let got = read_file(rt, err, program, &path[..n], &mut space);
     if got.failed {
         return Choice::Told;
     }
     let m = got.length;
     let file = boards::read_settings(&space[..m]);
-    pick_or_tell(program, file, argument(board, 0))
+    pick_or_tell(err, program, file, argument(rt, board, 0))
 }

@@ -4,13 +4,16 @@
 #![tactic(auto)]
 
 ghost use Rattle.std.specs.Prelude.{◌≡◌, ◌+◌, ◌≤◌, length};
+ghost use Rattle.std.specs.Io.{ReadsAtMost};
 ghost use Rattle.io.specs.Counts.{IsPrefixLen};
 ghost use Rattle.word.specs.Bytes.{le};
 ghost use Rattle.word.specs.Memory.{part};
 
 use boards::{Read, SettingsFile, Written};
-use libc::{STDIN_FILENO, STDOUT_FILENO};
+use input::read_full;
 use settings::Board;
+use std::io;
+use std::io::Read as Reader;
 
 // What a buffer holds before a write: a byte that no file has, so that a byte that was written shows.
 const FILLING: u8 = 0xa5;
@@ -34,48 +37,50 @@ fn lent(n: u64, bytes: &[u8]) -> usize
     }
 }
 
-fn put_number(n: u64) {
-    io::write_all(STDOUT_FILENO, b" ");
-    io::print_decimal(STDOUT_FILENO, n);
+fn put_number(rt: &impl Print, n: u64) -> io::Result<()> {
+    rt.write_all(b" ")?;
+    print!(rt; "{n}")
 }
 
-fn put_refused(number: usize, place: usize) {
-    io::write_all(STDOUT_FILENO, b" refused");
-    put_number(number as u64);
-    put_number(place as u64);
+fn put_refused(rt: &impl Print, number: usize, place: usize) -> io::Result<()> {
+    rt.write_all(b" refused")?;
+    put_number(rt, number as u64)?;
+    put_number(rt, place as u64)
 }
 
 // A board, unless it is one that isn't there.
-fn put_board(board: Board, there: bool) {
+fn put_board(rt: &impl Print, board: Board, there: bool) -> io::Result<()> {
     if there | (board.size != 0) | (board.version != 0) | (board.misaligned != 0) {
-        io::write_all(STDOUT_FILENO, b" board");
-        put_number(board.size);
-        put_number(board.version);
-        put_number(board.misaligned);
+        rt.write_all(b" board")?;
+        put_number(rt, board.size)?;
+        put_number(rt, board.version)?;
+        put_number(rt, board.misaligned)?;
     }
+    Ok(())
 }
 
 // The boards of a file that was read, and whatever stands behind them.
-fn put_boards(count: usize, boards: [Board; 16]) {
+fn put_boards(rt: &impl Print, count: usize, boards: [Board; 16]) -> io::Result<()> {
     let mut k: usize = 0;
     while k < 16 {
         let board = boards[k];
-        put_board(board, k < count);
+        put_board(rt, board, k < count)?;
         k += 1;
     }
+    Ok(())
 }
 
-fn put_read(file: SettingsFile) {
+fn put_read(rt: &impl Print, file: SettingsFile) -> io::Result<()> {
     let read = file.read;
     match read {
-        Read::Refused { number, place } => put_refused(number, place),
+        Read::Refused { number, place } => put_refused(rt, number, place)?,
         Read::Boards { format } => {
-            io::write_all(STDOUT_FILENO, b" format");
-            put_number(format as u64);
+            rt.write_all(b" format")?;
+            put_number(rt, format as u64)?;
         }
     }
     let boards = file.boards;
-    put_boards(file.count, boards);
+    put_boards(rt, file.count, boards)
 }
 
 // Sets every byte to the filling.
@@ -101,33 +106,36 @@ fn filled_from(out: &[u8]) -> usize
     n
 }
 
-fn put_hex(bytes: &[u8]) {
+fn put_hex(rt: &impl Print, bytes: &[u8]) -> io::Result<()> {
     let mut i: usize = 0;
     while i < bytes.len() {
-        io::print_hex(STDOUT_FILENO, word::bytes::wide(bytes[i]), 2);
+        print!(rt; "{:02x}", word::bytes::wide(bytes[i]))?;
         i += 1;
     }
+    Ok(())
 }
 
 // A buffer after a write: how many bytes of filling are left at its end, and what stands before them.
-fn put_buffer(out: &[u8]) {
+fn put_buffer(rt: &impl Print, out: &[u8]) -> io::Result<()> {
     let n = filled_from(out);
-    io::write_all(STDOUT_FILENO, b" left");
-    put_number((out.len() - n) as u64);
+    rt.write_all(b" left")?;
+    put_number(rt, (out.len() - n) as u64)?;
     if n != 0 {
-        io::write_all(STDOUT_FILENO, b" ");
-        put_hex(&out[..n]);
+        rt.write_all(b" ")?;
+        put_hex(rt, &out[..n])?;
     }
+    Ok(())
 }
 
-fn put_written(written: Written) {
+fn put_written(rt: &impl Print, written: Written) -> io::Result<()> {
     match written {
-        Written::Refused { number, place } => put_refused(number, place),
+        Written::Refused { number, place } => put_refused(rt, number, place)?,
         Written::Bytes(n) => {
-            io::write_all(STDOUT_FILENO, b" wrote");
-            put_number(n as u64);
+            rt.write_all(b" wrote")?;
+            put_number(rt, n as u64)?;
         }
     }
+    Ok(())
 }
 
 // The board at a place.
@@ -157,59 +165,71 @@ fn boards_of(bytes: &[u8; 384]) -> [Board; 16] {
 }
 
 // Reads a file that is to fill the buffer from standard input.
-fn read_to(file: &mut [u8]) {
-    let n = io::read_full(STDIN_FILENO, file);
-    put_read(boards::read_settings(&file[..n]));
+fn read_to<R: Reader>(rt: &impl Print, reader: &mut R, file: &mut [u8]) -> io::Result<()> {
+    let n = read_full(reader, file)?;
+    put_read(rt, boards::read_settings(&file[..n]))
 }
 
 // Reads a file of this length, by way of a lent buffer.
-fn read_case(space: &mut [u8], len: u64) {
+fn read_case<R: Reader>(
+    rt: &impl Print,
+    reader: &mut R,
+    space: &mut [u8],
+    len: u64,
+) -> io::Result<()> {
     let n = lent(len, space);
-    read_to(&mut space[..n]);
+    read_to(rt, reader, &mut space[..n])
 }
 
 // Writes boards to a buffer.
-fn write_to(out: &mut [u8], count: u64, boards: [Board; 16]) {
+fn write_to(rt: &impl Print, out: &mut [u8], count: u64, boards: [Board; 16]) -> io::Result<()> {
     fill(out);
-    put_written(boards::write_settings(count as usize, boards, out));
-    put_buffer(out);
+    put_written(rt, boards::write_settings(count as usize, boards, out))?;
+    put_buffer(rt, out)
 }
 
 // Writes boards of standard input to so many bytes of a lent buffer.
-fn write_case(space: &mut [u8], count: u64, len: u64) {
+fn write_case<R: Reader>(
+    rt: &impl Print,
+    reader: &mut R,
+    space: &mut [u8],
+    count: u64,
+    len: u64,
+) -> io::Result<()> {
     let mut given: [u8; 384] = [0; 384];
-    io::read_full(STDIN_FILENO, &mut given);
+    read_full(reader, &mut given)?;
     let boards = boards_of(&given);
     let n = lent(len, space);
-    write_to(&mut space[..n], count, boards);
+    write_to(rt, &mut space[..n], count, boards)
 }
 
-fn case(item: &[u8; 24], line: u64) {
-    let mut space = io::large_buffer();
-    io::print_decimal(STDOUT_FILENO, line);
+fn case<R: Reader>(rt: &impl Print, reader: &mut R, item: &[u8; 24], line: u64) -> io::Result<()> {
+    let mut space = [0u8; 65536];
+    print!(rt; "{line}")?;
     if number(item, 0) == 0 {
-        read_case(&mut space, number(item, 8));
+        read_case(rt, reader, &mut space, number(item, 8))?;
     } else {
-        write_case(&mut space, number(item, 8), number(item, 16));
+        write_case(rt, reader, &mut space, number(item, 8), number(item, 16))?;
     }
-    io::write_all(STDOUT_FILENO, b"\n");
+    rt.write_all(b"\n")
 }
 
 // Reads the numbers of the next case: how many of their bytes there were.
-fn read(item: &mut [u8; 24]) -> usize
-    ensures { IsPrefixLen result item.new }
+fn read<R: Reader>(reader: &mut R, item: &mut [u8; 24]) -> io::Result<usize>
+    ensures { ReadsAtMost result item.new }
 {
-    io::read_full(STDIN_FILENO, item)
+    read_full(reader, item)
 }
 
-fn main() {
+fn main(rt: HostRuntime) -> io::Result<()> {
     let mut item: [u8; 24] = [0; 24];
     let mut line: u64 = 1;
     while line < 1000000 {
-        if read(&mut item) != 24 {
-            return;
+        if read(&mut rt.stdin(), &mut item)? != 24 {
+            return Ok(());
         }
-        case(&item, line);
+        case(&rt, &mut rt.stdin(), &item, line)?;
         line += 1;
     }
+    Ok(())
 }

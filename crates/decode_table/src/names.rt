@@ -1,106 +1,106 @@
 // The manual's mnemonics.
 use crate::out::text;
 use isa::{AluOp, AmoOp, AtomicOp, BranchOp, LoadOp, StoreOp, Width};
+use std::io;
 
-pub fn branch(op: BranchOp) {
+pub fn branch(rt: &impl Print, op: BranchOp) -> io::Result<()> {
     match op {
-        BranchOp::Eq => text(b"beq"),
-        BranchOp::Ne => text(b"bne"),
-        BranchOp::Lt => text(b"blt"),
-        BranchOp::Ge => text(b"bge"),
-        BranchOp::Ltu => text(b"bltu"),
-        BranchOp::Geu => text(b"bgeu"),
+        BranchOp::Eq => text(rt, b"beq"),
+        BranchOp::Ne => text(rt, b"bne"),
+        BranchOp::Lt => text(rt, b"blt"),
+        BranchOp::Ge => text(rt, b"bge"),
+        BranchOp::Ltu => text(rt, b"bltu"),
+        BranchOp::Geu => text(rt, b"bgeu"),
     }
 }
 
-pub fn load(op: LoadOp) {
+pub fn load(rt: &impl Print, op: LoadOp) -> io::Result<()> {
     match op {
-        LoadOp::Lb => text(b"lb"),
-        LoadOp::Lh => text(b"lh"),
-        LoadOp::Lw => text(b"lw"),
-        LoadOp::Ld => text(b"ld"),
-        LoadOp::Lbu => text(b"lbu"),
-        LoadOp::Lhu => text(b"lhu"),
-        LoadOp::Lwu => text(b"lwu"),
+        LoadOp::Lb => text(rt, b"lb"),
+        LoadOp::Lh => text(rt, b"lh"),
+        LoadOp::Lw => text(rt, b"lw"),
+        LoadOp::Ld => text(rt, b"ld"),
+        LoadOp::Lbu => text(rt, b"lbu"),
+        LoadOp::Lhu => text(rt, b"lhu"),
+        LoadOp::Lwu => text(rt, b"lwu"),
     }
 }
 
-pub fn store(op: StoreOp) {
+pub fn store(rt: &impl Print, op: StoreOp) -> io::Result<()> {
     match op {
-        StoreOp::Sb => text(b"sb"),
-        StoreOp::Sh => text(b"sh"),
-        StoreOp::Sw => text(b"sw"),
-        StoreOp::Sd => text(b"sd"),
+        StoreOp::Sb => text(rt, b"sb"),
+        StoreOp::Sh => text(rt, b"sh"),
+        StoreOp::Sw => text(rt, b"sw"),
+        StoreOp::Sd => text(rt, b"sd"),
     }
 }
 
 // Of an operation on two registers.
-pub fn alu(op: AluOp) {
+pub fn alu(rt: &impl Print, op: AluOp) -> io::Result<()> {
     match op {
-        AluOp::Add => text(b"add"),
-        AluOp::Sub => text(b"sub"),
-        AluOp::Sll => text(b"sll"),
-        AluOp::Slt => text(b"slt"),
-        AluOp::Sltu => text(b"sltu"),
-        AluOp::Xor => text(b"xor"),
-        AluOp::Srl => text(b"srl"),
-        AluOp::Sra => text(b"sra"),
-        AluOp::Or => text(b"or"),
-        AluOp::And => text(b"and"),
+        AluOp::Add => text(rt, b"add"),
+        AluOp::Sub => text(rt, b"sub"),
+        AluOp::Sll => text(rt, b"sll"),
+        AluOp::Slt => text(rt, b"slt"),
+        AluOp::Sltu => text(rt, b"sltu"),
+        AluOp::Xor => text(rt, b"xor"),
+        AluOp::Srl => text(rt, b"srl"),
+        AluOp::Sra => text(rt, b"sra"),
+        AluOp::Or => text(rt, b"or"),
+        AluOp::And => text(rt, b"and"),
     }
 }
 
 // Of an operation on a register and an immediate.
-pub fn alu_imm(op: AluOp) {
+pub fn alu_imm(rt: &impl Print, op: AluOp) -> io::Result<()> {
     match op {
-        AluOp::Sltu => text(b"sltiu"),
+        AluOp::Sltu => text(rt, b"sltiu"),
         _ => {
-            alu(op);
-            text(b"i");
+            alu(rt, op)?;
+            text(rt, b"i")
         }
     }
 }
 
-fn amo(op: AmoOp) {
+fn amo(rt: &impl Print, op: AmoOp) -> io::Result<()> {
     match op {
-        AmoOp::Swap => text(b"amoswap"),
-        AmoOp::Add => text(b"amoadd"),
-        AmoOp::Xor => text(b"amoxor"),
-        AmoOp::And => text(b"amoand"),
-        AmoOp::Or => text(b"amoor"),
-        AmoOp::Min => text(b"amomin"),
-        AmoOp::Max => text(b"amomax"),
-        AmoOp::Minu => text(b"amominu"),
-        AmoOp::Maxu => text(b"amomaxu"),
+        AmoOp::Swap => text(rt, b"amoswap"),
+        AmoOp::Add => text(rt, b"amoadd"),
+        AmoOp::Xor => text(rt, b"amoxor"),
+        AmoOp::And => text(rt, b"amoand"),
+        AmoOp::Or => text(rt, b"amoor"),
+        AmoOp::Min => text(rt, b"amomin"),
+        AmoOp::Max => text(rt, b"amomax"),
+        AmoOp::Minu => text(rt, b"amominu"),
+        AmoOp::Maxu => text(rt, b"amomaxu"),
     }
 }
 
-fn width(w: Width) {
+fn width(rt: &impl Print, w: Width) -> io::Result<()> {
     match w {
-        Width::Word => text(b".w"),
-        Width::Double => text(b".d"),
+        Width::Word => text(rt, b".w"),
+        Width::Double => text(rt, b".d"),
     }
 }
 
 // Of a pair of registers: twice the width of one.
-fn pair_width(w: Width) {
+fn pair_width(rt: &impl Print, w: Width) -> io::Result<()> {
     match w {
-        Width::Word => text(b".d"),
-        Width::Double => text(b".q"),
+        Width::Word => text(rt, b".d"),
+        Width::Double => text(rt, b".q"),
     }
 }
 
-pub fn atomic(op: AtomicOp, w: Width) {
+pub fn atomic(rt: &impl Print, op: AtomicOp, w: Width) -> io::Result<()> {
     match op {
-        AtomicOp::Lr => text(b"lr"),
-        AtomicOp::Sc => text(b"sc"),
-        AtomicOp::Cas => text(b"amocas"),
+        AtomicOp::Lr => text(rt, b"lr")?,
+        AtomicOp::Sc => text(rt, b"sc")?,
+        AtomicOp::Cas => text(rt, b"amocas")?,
         AtomicOp::CasPair => {
-            text(b"amocas");
-            pair_width(w);
-            return;
+            text(rt, b"amocas")?;
+            return pair_width(rt, w);
         }
-        AtomicOp::Rmw(a) => amo(a),
+        AtomicOp::Rmw(a) => amo(rt, a)?,
     }
-    width(w);
+    width(rt, w)
 }

@@ -3,7 +3,7 @@ ghost use Rattle.std.specs.Prelude.{◌≡◌, ◌+◌, ◌≤◌, length};
 ghost use Rattle.word.specs.Bytes.{le};
 ghost use Rattle.word.specs.Memory.{part};
 
-use libc::STDOUT_FILENO;
+use std::io;
 
 // The little-endian word at a place.
 pub fn word_at(words: &[u8], at: usize) -> u32
@@ -13,30 +13,24 @@ pub fn word_at(words: &[u8], at: usize) -> u32
     word::bytes::load_at(words, at, 4) as u32
 }
 
-pub fn text(bytes: &[u8]) {
-    io::write_all(STDOUT_FILENO, bytes);
+pub fn text(rt: &impl Print, bytes: &[u8]) -> io::Result<()> {
+    rt.write_all(bytes)
 }
 
-pub fn word(word: u32) {
-    io::print_hex(STDOUT_FILENO, word as u64, 8);
-    text(b" ");
+pub fn word(rt: &impl Print, word: u32) -> io::Result<()> {
+    print!(rt; "{word:08x} ")
 }
 
-pub fn reg(label: &[u8], n: usize) {
-    text(label);
-    io::print_decimal(STDOUT_FILENO, n as u64);
+pub fn reg(rt: &impl Print, label: &[u8], n: usize) -> io::Result<()> {
+    text(rt, label)?;
+    print!(rt; "{n}")
 }
 
-pub fn imm(n: u64) {
-    text(b" imm=");
-    io::print_hex(STDOUT_FILENO, n, 16);
+pub fn imm(rt: &impl Print, n: u64) -> io::Result<()> {
+    print!(rt; " imm={n:016x}")
 }
 
-pub fn flag(label: &[u8], on: bool) {
-    text(label);
-    if on {
-        text(b"1");
-    } else {
-        text(b"0");
-    }
+pub fn flag(rt: &impl Print, label: &[u8], on: bool) -> io::Result<()> {
+    text(rt, label)?;
+    if on { text(rt, b"1") } else { text(rt, b"0") }
 }

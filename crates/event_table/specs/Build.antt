@@ -1,5 +1,5 @@
 -- The case that items of 24 bytes build (tools/event-table says their layout), and the event that ends it.
-use Rattle.std.specs.Prelude.{ℕ, ◌+◌, ◌*◌, ◌/◌, ◌%◌, ◌^◌, Bool, true, false, cond, ◌&&◌, List, length, set, replicate, ◌==◌, nat_le, nat_lt, slice_index, slice_set}
+use Rattle.std.specs.Prelude.{ℕ, ◌+◌, ◌*◌, ◌/◌, ◌%◌, ◌^◌, Bool, true, false, cond, ◌&&◌, List, length, replicate, ◌==◌, nat_le, nat_lt, slice_index, slice_set}
 use Rattle.word.specs.Bytes.{le, to_le}
 use Rattle.word.specs.Each.{each}
 use Rattle.word.specs.Memory.{part, splice}

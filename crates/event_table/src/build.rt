@@ -209,6 +209,19 @@ pub fn first(number: u64) -> Case
     }
 }
 
+// A state once more, for what has to have it after an event too.
+pub fn again(s: &State) -> State
+    ensures { result ≡ s.now }
+{
+    State {
+        count: s.count,
+        settings: s.settings,
+        x: s.x,
+        pc: s.pc,
+        res: s.res,
+    }
+}
+
 // Setting 0 is the size of a reservation's set, 1 the version of A, 2 the kind of core, and 3 what a misaligned atomic access gives.
 fn set_setting(s: State, n: u64, v: u64) -> State
     ensures { result ≡ with_setting s n v }
@@ -280,25 +293,26 @@ pub fn patch(c: Case, mem: &mut [u8; 8192], item: &[u8; 24]) -> Case
     ensures { (result ≡ patch_of c item.now) × (mem.new ≡ memory_after mem.old item.now) }
 {
     let number = c.number;
-    let s = c.state;
+    let base = c.base;
+    let len = c.len;
     if item[0] == 1 {
         wipe_memory(mem, n(item));
         return Case {
             number,
             base: a(item),
             len: b(item) as usize,
-            state: s,
+            state: c.state,
         };
     }
     if item[0] == 6 {
         set_bytes(mem, a(item) as usize, n(item) as usize, b(item));
         return c;
     }
-    let state = harts(s, c.base, item);
+    let state = harts(c.state, base, item);
     Case {
         number,
-        base: c.base,
-        len: c.len,
+        base,
+        len,
         state,
     }
 }

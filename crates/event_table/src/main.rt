@@ -2,16 +2,18 @@
 // that build a state and name an event; tools/event-table says their layout, makes them and, by another model, the text that is expected.
 #![tactic(auto)]
 
-ghost use Rattle.std.specs.Prelude.{◌≡◌, ◌+◌, ◌%◌, ◌^◌, ◌≤◌, min, length, take, if◌then◌else◌, nat_lt};
-ghost use Rattle.io.specs.Counts.{IsPrefixLen};
+ghost use Rattle.std.specs.Prelude.{◌≡◌, ◌+◌, ◌%◌, ◌^◌, ◌≤◌, min, length, take, if◌then◌else◌, nat_lt, IfOk};
+ghost use Rattle.std.specs.Io.{ReadsAtMost};
 ghost use Rattle.model.specs.Perform.{answer_of};
 ghost use Rattle.event_table.specs.Build.{first_of, item_kind, patch_of, event_in};
 
 use build::Case;
 use events::Event;
-use libc::STDIN_FILENO;
+use input::read_full;
 use machine::State;
 use model::Answer;
+use std::io;
+use std::io::Read;
 
 mod build;
 mod out;
@@ -34,16 +36,16 @@ fn answer(s: State, base: u64, mem: &mut [u8], len: usize, e: Event) -> Answer
 }
 
 // Performs the event of a case, and writes the case's lines.
-fn perform(c: Case, mem: &mut [u8; 8192], e: Event) {
+fn perform(rt: &impl Print, c: Case, mem: &mut [u8; 8192], e: Event) -> io::Result<()> {
     let mut old: [u8; 8192] = [0; 8192];
     build::copy(mem, &mut old);
-    let s = c.state;
-    let a = answer(s, c.base, mem, c.len, e);
+    let s = build::again(&c.state);
+    let a = answer(c.state, c.base, mem, c.len, e);
     let outcome = a.outcome;
     let state = a.state;
-    show::outcome(c.number, outcome, a.broke);
-    show::state(s, state);
-    show::memory(&old, mem, build::within(c.len));
+    show::outcome(rt, c.number, outcome, a.broke)?;
+    show::state(rt, s, state)?;
+    show::memory(rt, &old, mem, build::within(c.len))
 }
 
 // The event that an item is, where its kind is 7, 8 or 9.
@@ -68,35 +70,37 @@ fn event(item: &[u8; 24]) -> Event
 }
 
 // A case after one more item: an event ends it, and the next case begins.
-fn take(c: Case, mem: &mut [u8; 8192], item: &[u8; 24]) -> Case
-    ensures { result ≡ (if nat_lt (item_kind item.now) 7 then patch_of c item.now else first_of ((c.number + 1) % 2 ^ 64)) }
+fn take(rt: &impl Print, c: Case, mem: &mut [u8; 8192], item: &[u8; 24]) -> io::Result<Case>
+    ensures { IfOk result (λ r. r ≡ (if nat_lt (item_kind item.now) 7 then patch_of c item.now else first_of ((c.number + 1) % 2 ^ 64))) }
 {
     if item[0] < 7 {
-        return build::patch(c, mem, item);
+        return Ok(build::patch(c, mem, item));
     }
-    perform(c, mem, event(item));
+    let number = c.number;
+    perform(rt, c, mem, event(item))?;
     build::fill(mem, 8192);
-    build::first(std::num::wrapping_add_u64(c.number, 1))
+    Ok(build::first(std::num::wrapping_add_u64(number, 1)))
 }
 
 // Reads the next item: how many of its bytes there were.
-fn read(item: &mut [u8; 24]) -> usize
-    ensures { IsPrefixLen result item.new }
+fn read<R: Read>(reader: &mut R, item: &mut [u8; 24]) -> io::Result<usize>
+    ensures { ReadsAtMost result item.new }
 {
-    io::read_full(STDIN_FILENO, item)
+    read_full(reader, item)
 }
 
-fn main() {
+fn main(rt: HostRuntime) -> io::Result<()> {
     let mut mem: [u8; 8192] = [0; 8192];
     build::fill(&mut mem, 8192);
     let mut item: [u8; 24] = [0; 24];
     let mut c = build::first(0);
     let mut left: u64 = 1000000;
     while 0 < left {
-        if read(&mut item) != 24 {
-            return;
+        if read(&mut rt.stdin(), &mut item)? != 24 {
+            return Ok(());
         }
-        c = take(c, &mut mem, &item);
+        c = take(&rt, c, &mut mem, &item)?;
         left -= 1;
     }
+    Ok(())
 }

@@ -1,31 +1,31 @@
 // The parts of a line.
-use libc::STDOUT_FILENO;
+use std::io;
 
-pub fn text(bytes: &[u8]) {
-    io::write_all(STDOUT_FILENO, bytes);
+pub fn text(rt: &impl Print, bytes: &[u8]) -> io::Result<()> {
+    rt.write_all(bytes)
 }
 
-pub fn decimal(n: u64) {
-    io::print_decimal(STDOUT_FILENO, n);
+pub fn decimal(rt: &impl Print, n: u64) -> io::Result<()> {
+    print!(rt; "{n}")
 }
 
-pub fn hex(n: u64) {
-    io::print_hex(STDOUT_FILENO, n, 16);
+pub fn hex(rt: &impl Print, n: u64) -> io::Result<()> {
+    print!(rt; "{n:016x}")
 }
 
 // A bit for each of 8 harts.
-pub fn mask(n: u64) {
-    io::print_hex(STDOUT_FILENO, n, 2);
+pub fn mask(rt: &impl Print, n: u64) -> io::Result<()> {
+    print!(rt; "{n:02x}")
 }
 
-pub fn hart(h: usize) {
-    text(b"h");
-    decimal(h as u64);
+pub fn hart(rt: &impl Print, h: usize) -> io::Result<()> {
+    text(rt, b"h")?;
+    decimal(rt, h as u64)
 }
 
 // A label, and a number in hexadecimal that ends the line.
-pub fn value(label: &[u8], n: u64) {
-    text(label);
-    hex(n);
-    text(b"\n");
+pub fn value(rt: &impl Print, label: &[u8], n: u64) -> io::Result<()> {
+    text(rt, label)?;
+    hex(rt, n)?;
+    text(rt, b"\n")
 }

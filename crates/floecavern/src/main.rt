@@ -4,55 +4,55 @@
 
 ghost use Rattle.settings.specs.Boards.{BoardRules};
 
+use arguments::{is_given, tell};
 use board_choice::Choice;
-use libc::{STDERR_FILENO, STDIN_FILENO, STDOUT_FILENO};
 use settings::Board;
 
-fn write_lines(text: &[u8]) {
-    if !io::write_all(STDOUT_FILENO, text) {
-        os::fail(b"floecavern: standard output");
+fn write_lines(rt: &HostRuntime, text: &[u8]) {
+    if let Err(e) = rt.write_all(text) {
+        tell(rt, &mut rt.stderr(), b"floecavern", b"standard output", e);
     }
 }
 
-fn run(board: Board)
+fn run(rt: &HostRuntime, board: Board)
     requires { BoardRules board }
 {
     // one byte more than a case may have, so that a longer file is seen to be longer
     let mut space = [0u8; 65537];
-    let got = input::read_input(STDIN_FILENO, &mut space);
-    if got.failed {
-        os::fail(b"floecavern: standard input");
+    let got = input::read_input(&mut rt.stdin(), &mut space);
+    if let Some(e) = got.why {
+        tell(rt, &mut rt.stderr(), b"floecavern", b"standard input", e);
         return;
     }
     let n = got.length;
     let mut out = [0u8; 262144];
     let r = report::report_on(board, &space[..n], &mut out);
-    write_lines(&out[..r]);
+    write_lines(rt, &out[..r]);
 }
 
 // The line of a settings file that is refused: the case isn't read.
-fn refuse(number: usize, place: usize) {
+fn refuse(rt: &HostRuntime, number: usize, place: usize) {
     let mut out = [0u8; 50];
     let r = report::put_refused(&mut out, 0, number as u64, place as u64);
-    write_lines(&out[..r]);
+    write_lines(rt, &out[..r]);
 }
 
-fn run_on_board() {
-    match board_choice::chosen(b"floecavern", 1, 2) {
+fn run_on_board(rt: &HostRuntime) {
+    match board_choice::chosen(rt, &mut rt.stderr(), b"floecavern", 1, 2) {
         Choice::Told => {}
-        Choice::Refused { number, place } => refuse(number, place),
-        Choice::Chosen(board) => run(board),
+        Choice::Refused { number, place } => refuse(rt, number, place),
+        Choice::Chosen(board) => run(rt, board),
     }
 }
 
-fn main() {
-    if os::arg_count() <= 1 {
-        run(settings::default_board());
+fn main(rt: HostRuntime) {
+    if !is_given(&rt, 1) {
+        run(&rt, settings::default_board());
         return;
     }
-    if os::arg_count() == 3 {
-        run_on_board();
+    if is_given(&rt, 2) && !is_given(&rt, 3) {
+        run_on_board(&rt);
         return;
     }
-    io::write_all(STDERR_FILENO, b"use: floecavern [SETTINGS BOARD] < CASE\n");
+    let _ = eprintln!(rt; "use: floecavern [SETTINGS BOARD] < CASE");
 }

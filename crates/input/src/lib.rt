@@ -1,35 +1,64 @@
-// What a program is given on a file descriptor, with a read that fails told apart from the end of the input.
+// What a program is given by a reader, with a read that fails told apart from the end of the input.
 #![tactic(auto)]
 
-ghost use Rattle.std.specs.Prelude.{◌≡◌, true, ◌<◌, length};
+ghost use Rattle.std.specs.Prelude.{◌≡◌, true, false, ◌<◌, ◌↔◌, IsSome, IfOk, OnErr, length, take};
+ghost use Rattle.std.specs.Io.{ReadsAtMost};
+ghost use Rattle.std.specs.Io.KnownBytes.{Consumes, IsAtEnd};
 ghost use Rattle.io.specs.Counts.{IsPrefixLen};
 
-// How many bytes were read, and whether a read failed before the end: errno then says why.
+use std::io;
+use std::io::{Error, Read};
+
+// How many bytes were read, and whether a read failed before the end, and then why.
 #[derive(Drop)]
 pub struct Input {
     pub length: usize,
     pub failed: bool,
+    pub why: Option<Error>,
 }
 
 // Reads until buf is full, the input ends or a read fails. The bytes are put at the start of buf. Once it is full nothing more is asked for, so
 // that no failure behind it is told.
-pub fn read_input(fd: i32, buf: &mut [u8]) -> Input
+pub fn read_input<R: Read>(reader: &mut R, buf: &mut [u8]) -> Input
     ensures prefix_len { IsPrefixLen result.length buf.new }
     ensures length_in_bounds { result.failed ≡ true → result.length < length buf.new }
+    ensures why { result.failed ≡ true ↔ IsSome result.why }
+    ensures bytes { Consumes (R.remaining reader.old) (R.remaining reader.new) (take result.length buf.new) }
+    ensures end { result.failed ≡ false → result.length < length buf.new → IsAtEnd (R.remaining reader.new) }
 {
     let mut length = 0;
-    let mut failed = false;
     while length < buf.len() {
-        let got = libc::read(fd, &mut buf[length..]);
-        if got < 0 {
-            failed = true;
-            break;
+        match reader.read(&mut buf[length..]) {
+            Ok(0) => break,
+            Ok(more) => {
+                length += more;
+            }
+            Err(e) => {
+                return Input {
+                    length,
+                    failed: true,
+                    why: Some(e),
+                };
+            }
         }
-        let more = io::count(got, &buf[length..]);
-        if more == 0 {
-            break;
-        }
-        length += more;
     }
-    Input { length, failed }
+    Input {
+        length,
+        failed: false,
+        why: None,
+    }
+}
+
+// The same, with a read that fails as an error: how many bytes were read.
+pub fn read_full<R: Read>(reader: &mut R, buf: &mut [u8]) -> io::Result<usize>
+    ensures bound { ReadsAtMost result buf.new }
+    ensures bytes { IfOk result (λ n. Consumes (R.remaining reader.old) (R.remaining reader.new) (take n buf.new)) }
+    ensures end { IfOk result (λ n. n < length buf.new → IsAtEnd (R.remaining reader.new)) }
+    ensures err { OnErr result (0 < length buf.new) }
+{
+    let got = read_input(reader, buf);
+    match got.why {
+        None => Ok(got.length),
+        Some(e) => Err(e),
+    }
 }

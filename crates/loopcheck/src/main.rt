@@ -3,67 +3,67 @@
 // 32: a line `accepted`, `rejected PLACE REASON` or `refused NUMBER`. What can't be read or written is told on standard error.
 #![tactic(auto)]
 
-use arguments::argument;
-use input::Input;
-use libc::{STDERR_FILENO, STDIN_FILENO, STDOUT_FILENO};
+use arguments::{argument, is_given, tell};
+use input::{Input, read_input};
 use settings::Settings;
+use std::io::Error;
 
-// What the length of the whole input leaves when it is divided by 4, and whether a read of it failed.
+// What the length of the whole input leaves when it is divided by 4, and why a read of it failed, if one did.
 #[derive(Drop)]
 struct Whole {
     left: usize,
-    failed: bool,
+    why: Option<Error>,
 }
 
 // The whole input, whose first part has been read. The rest is read and dropped: so long a block is refused, whatever its words. The bound on
 // the turns is beyond any input.
-fn read_rest(first: Input) -> Whole {
-    let mut space = io::large_buffer();
+fn read_rest(rt: &HostRuntime, first: Input) -> Whole {
+    let mut space = [0u8; 65536];
     let mut left = first.length % 4;
-    let mut failed = first.failed;
+    let mut why = first.why;
     let mut turns: u64 = 0;
-    while turns < 1000000000000 && !failed {
-        let more = input::read_input(STDIN_FILENO, &mut space);
-        failed = more.failed;
+    while turns < 1000000000000 && why.is_none() {
+        let more = read_input(&mut rt.stdin(), &mut space);
+        why = more.why;
         if more.length == 0 {
             break;
         }
         left = (left + more.length % 4) % 4;
         turns += 1;
     }
-    Whole { left, failed }
+    Whole { left, why }
 }
 
-fn write_line(line: &[u8]) {
-    if !io::write_all(STDOUT_FILENO, line) {
-        os::fail(b"loopcheck: standard output");
+fn write_line(rt: &HostRuntime, line: &[u8]) {
+    if let Err(e) = rt.write_all(line) {
+        tell(rt, &mut rt.stderr(), b"loopcheck", b"standard output", e);
     }
 }
 
-fn check(settings: Settings) {
-    let mut space = io::large_buffer();
-    let first = input::read_input(STDIN_FILENO, &mut space);
-    let whole = read_rest(first);
-    if whole.failed {
-        os::fail(b"loopcheck: standard input");
+fn check(rt: &HostRuntime, settings: Settings) {
+    let mut space = [0u8; 65536];
+    let first = read_input(&mut rt.stdin(), &mut space);
+    let n = first.length;
+    let whole = read_rest(rt, first);
+    if let Some(e) = whole.why {
+        tell(rt, &mut rt.stderr(), b"loopcheck", b"standard input", e);
         return;
     }
     if whole.left != 0 {
-        write_line(b"bad input: length is not a multiple of 4\n");
+        write_line(rt, b"bad input: length is not a multiple of 4\n");
         return;
     }
-    let n = first.length;
     let mut out = [0u8; 51];
     let r = loop_line::line(retry::check_bytes(settings, &space[..n]), &mut out);
-    write_line(&out[..r]);
+    write_line(rt, &out[..r]);
 }
 
-fn main() {
-    let version = argument(1, 21);
-    let kind = argument(2, 0);
-    if version.said & kind.said & (os::arg_count() <= 3) {
-        check(settings::of_kind(version.value, kind.value));
+fn main(rt: HostRuntime) {
+    let version = argument(&rt, 1, 21);
+    let kind = argument(&rt, 2, 0);
+    if version.said & kind.said & !is_given(&rt, 3) {
+        check(&rt, settings::of_kind(version.value, kind.value));
     } else {
-        io::write_all(STDERR_FILENO, b"use: loopcheck [VERSION [KIND]] < WORDS\n");
+        let _ = eprintln!(rt; "use: loopcheck [VERSION [KIND]] < WORDS");
     }
 }

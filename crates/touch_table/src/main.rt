@@ -6,7 +6,8 @@ ghost use Rattle.std.specs.Prelude.{◌≡◌, ◌+◌, ◌≤◌, length};
 ghost use Rattle.word.specs.Bytes.{le};
 ghost use Rattle.word.specs.Memory.{part};
 
-use libc::{STDIN_FILENO, STDOUT_FILENO};
+use input::read_full;
+use std::io;
 
 // The little-endian number at a place.
 fn number(pairs: &[u8], at: usize) -> u64
@@ -16,39 +17,40 @@ fn number(pairs: &[u8], at: usize) -> u64
     word::bytes::load_at(pairs, at, 8)
 }
 
-fn put(n: u64) {
-    io::print_hex(STDOUT_FILENO, n, 16);
-    io::write_all(STDOUT_FILENO, b" ");
+fn put(rt: &impl Print, n: u64) -> io::Result<()> {
+    print!(rt; "{n:016x} ")
 }
 
-fn line(b: u64, n: u64, c: u64, m: u64) {
-    put(b);
-    put(n);
-    put(c);
-    put(m);
+fn line(rt: &impl Print, b: u64, n: u64, c: u64, m: u64) -> io::Result<()> {
+    put(rt, b)?;
+    put(rt, n)?;
+    put(rt, c)?;
+    put(rt, m)?;
     if reserve::touch(b, n, c, m) {
-        io::write_all(STDOUT_FILENO, b"1\n");
+        println!(rt; "1")
     } else {
-        io::write_all(STDOUT_FILENO, b"0\n");
+        println!(rt; "0")
     }
 }
 
-fn all(pairs: &[u8]) {
+fn all(rt: &impl Print, pairs: &[u8]) -> io::Result<()> {
     let mut i = 0;
     while i < pairs.len() / 32 {
         let at = 32 * i;
         line(
+            rt,
             number(pairs, at),
             number(pairs, at + 8),
             number(pairs, at + 16),
             number(pairs, at + 24),
-        );
+        )?;
         i += 1;
     }
+    Ok(())
 }
 
-fn main() {
-    let mut space = io::large_buffer();
-    let n = io::read_full(STDIN_FILENO, &mut space);
-    all(&space[..n]);
+fn main(rt: HostRuntime) -> io::Result<()> {
+    let mut space = [0u8; 65536];
+    let n = read_full(&mut rt.stdin(), &mut space)?;
+    all(&rt, &space[..n])
 }

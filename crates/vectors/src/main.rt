@@ -1,7 +1,10 @@
 // The report of each case of data/, 0000 to 0883, in order, each after a line with its number.
 #![tactic(auto)]
 
-use libc::STDOUT_FILENO;
+use arguments::{open_file, tell_failure};
+use input::read_full;
+use std::io;
+use std::io::Read;
 
 // The name of case i, four digits.
 fn name_of(i: u64) -> [u8; 4] {
@@ -13,31 +16,32 @@ fn name_of(i: u64) -> [u8; 4] {
     name
 }
 
-fn print_report(fd: i32) {
+fn print_report<R: Read>(rt: &impl Print, file: &mut R) -> io::Result<()> {
     let mut space = [0u8; 65537];
-    let n = io::read_full(fd, &mut space);
+    let n = read_full(file, &mut space)?;
     let mut out = [0u8; 262144];
     let r = report::report(&space[..n], &mut out);
-    io::write_all(STDOUT_FILENO, &out[..r]);
+    rt.write_all(&out[..r])
 }
 
-fn run_case(i: u64) {
+fn run_case(rt: &HostRuntime, i: u64) -> io::Result<()> {
     let name = name_of(i);
-    io::write_all(STDOUT_FILENO, &name);
-    io::write_all(STDOUT_FILENO, b"\n");
-    let fd = os::open_read(&name);
-    if fd < 0 {
-        os::fail(&name);
-        return;
+    rt.write_all(&name)?;
+    rt.write_all(b"\n")?;
+    match open_file(rt, &name) {
+        Ok(mut file) => print_report(rt, &mut file),
+        Err(e) => {
+            tell_failure(rt, &mut rt.stderr(), &name, e);
+            Ok(())
+        }
     }
-    print_report(fd);
-    libc::close(fd);
 }
 
-fn main() {
+fn main(rt: HostRuntime) -> io::Result<()> {
     let mut i: u64 = 0;
     while i < 992 {
-        run_case(i);
+        run_case(&rt, i)?;
         i += 1;
     }
+    Ok(())
 }

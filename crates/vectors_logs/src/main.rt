@@ -3,13 +3,15 @@
 #![tactic(auto)]
 
 ghost use Rattle.std.specs.Prelude.{◌<◌};
-ghost use Rattle.io.specs.Counts.{IsPrefixLen};
+ghost use Rattle.std.specs.Io.{ReadsAtMost};
 
+use arguments::{open_file, tell_failure};
 use casefile::Found;
-use libc::STDOUT_FILENO;
+use input::read_full;
 use machine::State;
 use reserve::{Reservation, packed};
 use rows::Stop;
+use std::io;
 use word::bytes::load_at;
 
 // The three digits of case i.
@@ -31,79 +33,91 @@ fn log_name(i: u64) -> [u8; 7] {
     [d[0], d[1], d[2], b'.', b'l', b'o', b'g']
 }
 
-fn read_file(name: &[u8], buf: &mut [u8]) -> usize
-    ensures { IsPrefixLen result buf.new }
+// The bytes of a file. One that can't be opened is told of, and has none.
+fn read_file(rt: &HostRuntime, name: &[u8], buf: &mut [u8]) -> io::Result<usize>
+    ensures { ReadsAtMost result buf.new }
 {
-    let fd = os::open_read(name);
-    if fd < 0 {
-        os::fail(name);
+    match open_file(rt, name) {
+        Ok(mut file) => read_full(&mut file, buf),
+        Err(e) => {
+            tell_failure(rt, &mut rt.stderr(), name, e);
+            Ok(0)
+        }
     }
-    let n = io::read_full(fd, buf);
-    libc::close(fd);
-    n
 }
 
 // What a line of hart h begins with.
-fn print_hart_name(h: usize) {
-    io::write_all(STDOUT_FILENO, b"h");
-    io::print_decimal(STDOUT_FILENO, h as u64);
+fn print_hart_name(rt: &impl Print, h: usize) -> io::Result<()> {
+    rt.write_all(b"h")?;
+    print!(rt; "{h}")
 }
 
-fn print_pc(h: usize, pc: u64) {
-    print_hart_name(h);
-    io::write_all(STDOUT_FILENO, b" pc ");
-    io::print_hex(STDOUT_FILENO, pc, 16);
-    io::write_all(STDOUT_FILENO, b"\n");
+fn print_pc(rt: &impl Print, h: usize, pc: u64) -> io::Result<()> {
+    print_hart_name(rt, h)?;
+    rt.write_all(b" pc ")?;
+    print!(rt; "{pc:016x}")?;
+    rt.write_all(b"\n")
 }
 
-fn print_register(h: usize, r: usize, v: u64) {
+fn print_register(rt: &impl Print, h: usize, r: usize, v: u64) -> io::Result<()> {
     if v != 0 {
-        print_hart_name(h);
-        io::write_all(STDOUT_FILENO, b" x");
-        io::print_decimal(STDOUT_FILENO, r as u64);
-        io::write_all(STDOUT_FILENO, b" ");
-        io::print_hex(STDOUT_FILENO, v, 16);
-        io::write_all(STDOUT_FILENO, b"\n");
+        print_hart_name(rt, h)?;
+        rt.write_all(b" x")?;
+        print!(rt; "{r}")?;
+        rt.write_all(b" ")?;
+        print!(rt; "{v:016x}")?;
+        rt.write_all(b"\n")?;
     }
+    Ok(())
 }
 
-fn print_registers(x: &[u64; 256], h: usize)
+fn print_registers(rt: &impl Print, x: &[u64; 256], h: usize) -> io::Result<()>
     requires { h < 8 }
 {
     let mut r: usize = 0;
     while r < 32 {
-        print_register(h, r, x[h * 32 + r]);
+        print_register(rt, h, r, x[h * 32 + r])?;
         r += 1;
     }
+    Ok(())
 }
 
-fn print_held(h: usize, addr: u64, width: u64) {
-    print_hart_name(h);
-    io::write_all(STDOUT_FILENO, b" reserved ");
-    io::print_hex(STDOUT_FILENO, addr, 16);
-    io::write_all(STDOUT_FILENO, b" ");
-    io::print_decimal(STDOUT_FILENO, width);
-    io::write_all(STDOUT_FILENO, b"\n");
+fn print_held(rt: &impl Print, h: usize, addr: u64, width: u64) -> io::Result<()> {
+    print_hart_name(rt, h)?;
+    rt.write_all(b" reserved ")?;
+    print!(rt; "{addr:016x}")?;
+    rt.write_all(b" ")?;
+    print!(rt; "{width}")?;
+    rt.write_all(b"\n")
 }
 
-fn print_reservation(h: usize, r: Reservation) {
+fn print_reservation(rt: &impl Print, h: usize, r: Reservation) -> io::Result<()> {
     match r {
         Reservation::None => {}
-        Reservation::Held { addr, width } => print_held(h, addr, width),
+        Reservation::Held { addr, width } => print_held(rt, h, addr, width)?,
     }
+    Ok(())
 }
 
-fn print_hart(h: usize, count: usize, x: &[u64; 256], pc: &[u64; 8], t: &[u64; 24])
+fn print_hart(
+    rt: &impl Print,
+    h: usize,
+    count: usize,
+    x: &[u64; 256],
+    pc: &[u64; 8],
+    t: &[u64; 24],
+) -> io::Result<()>
     requires { h < 8 }
 {
     if h < count {
-        print_pc(h, pc[h]);
-        print_registers(x, h);
-        print_reservation(h, packed::reservation(t, h));
+        print_pc(rt, h, pc[h])?;
+        print_registers(rt, x, h)?;
+        print_reservation(rt, h, packed::reservation(t, h))?;
     }
+    Ok(())
 }
 
-fn print_harts(s: State) {
+fn print_harts(rt: &impl Print, s: State) -> io::Result<()> {
     let count = s.count;
     let x = s.x;
     let pc = s.pc;
@@ -111,74 +125,86 @@ fn print_harts(s: State) {
     let t = packed::pack(res);
     let mut h: usize = 0;
     while h < 8 {
-        print_hart(h, count, &x, &pc, &t);
+        print_hart(rt, h, count, &x, &pc, &t)?;
         h += 1;
     }
+    Ok(())
 }
 
-fn print_word(at: usize, v: u64) {
+fn print_word(rt: &impl Print, at: usize, v: u64) -> io::Result<()> {
     if v != 0 {
-        io::write_all(STDOUT_FILENO, b"m ");
-        io::print_decimal(STDOUT_FILENO, at as u64);
-        io::write_all(STDOUT_FILENO, b" ");
-        io::print_hex(STDOUT_FILENO, v, 16);
-        io::write_all(STDOUT_FILENO, b"\n");
+        rt.write_all(b"m ")?;
+        print!(rt; "{at}")?;
+        rt.write_all(b" ")?;
+        print!(rt; "{v:016x}")?;
+        rt.write_all(b"\n")?;
     }
+    Ok(())
 }
 
-fn print_memory(mem: &[u8]) {
+fn print_memory(rt: &impl Print, mem: &[u8]) -> io::Result<()> {
     let n = mem.len() / 8;
     let mut i: usize = 0;
     while i < n {
-        print_word(i * 8, load_at(mem, i * 8, 8));
+        print_word(rt, i * 8, load_at(mem, i * 8, 8))?;
         i += 1;
     }
+    Ok(())
 }
 
 // The memory that the file holds after the replay.
-fn print_memory_of(file: &[u8]) {
+fn print_memory_of(rt: &impl Print, file: &[u8]) -> io::Result<()> {
     let c = casefile::read_case(file);
     let found = c.found;
     match found {
         Found::Refused { .. } => {}
-        Found::Bodies { memory, events } => print_memory(&file[memory..events]),
+        Found::Bodies { memory, events } => print_memory(rt, &file[memory..events])?,
     }
+    Ok(())
 }
 
-fn print_left(stop: Stop, s: State, file: &[u8]) {
+// Whether a replay leaves something to write: none that is refused does.
+fn leaves(stop: &Stop) -> bool {
     match stop {
-        Stop::Refused { .. } => {}
-        _ => {
-            print_harts(s);
-            print_memory_of(file);
-        }
+        Stop::Refused { .. } => false,
+        _ => true,
     }
 }
 
-fn print_replay(file: &mut [u8], log: &[u8]) {
+fn print_left(rt: &impl Print, left: bool, s: State, file: &[u8]) -> io::Result<()> {
+    if left {
+        print_harts(rt, s)?;
+        print_memory_of(rt, file)?;
+    }
+    Ok(())
+}
+
+fn print_replay(rt: &impl Print, file: &mut [u8], log: &[u8]) -> io::Result<()> {
     let r = case_replay::replay_case(file, log);
     let stop = r.stop;
+    let left = leaves(&stop);
     let mut out = [0u8; 128];
     let n = case_replay::answer_text((log.len() / 48) as u64, r.rows as u64, stop, &mut out);
-    io::write_all(STDOUT_FILENO, &out[..n]);
+    rt.write_all(&out[..n])?;
     let s = r.state;
-    print_left(stop, s, file);
+    print_left(rt, left, s, file)
 }
 
-fn run_case(i: u64) {
-    io::write_all(STDOUT_FILENO, &digits_of(i));
-    io::write_all(STDOUT_FILENO, b"\n");
+fn run_case(rt: &HostRuntime, i: u64) -> io::Result<()> {
+    rt.write_all(&digits_of(i))?;
+    rt.write_all(b"\n")?;
     let mut file = [0u8; 65537];
-    let n = read_file(&case_name(i), &mut file);
+    let n = read_file(rt, &case_name(i), &mut file)?;
     let mut log = [0u8; 131072];
-    let m = read_file(&log_name(i), &mut log);
-    print_replay(&mut file[..n], &log[..m]);
+    let m = read_file(rt, &log_name(i), &mut log)?;
+    print_replay(rt, &mut file[..n], &log[..m])
 }
 
-fn main() {
+fn main(rt: HostRuntime) -> io::Result<()> {
     let mut i: u64 = 0;
     while i < 193 {
-        run_case(i);
+        run_case(&rt, i)?;
         i += 1;
     }
+    Ok(())
 }

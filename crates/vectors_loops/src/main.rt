@@ -3,9 +3,10 @@
 // The lines that are expected were made by an independent model of document 01.
 #![tactic(auto)]
 
-ghost use Rattle.std.specs.Prelude.{◌<◌, length};
+ghost use Rattle.std.specs.Prelude.{◌<◌, IfOk, length};
 
-use libc::{STDIN_FILENO, STDOUT_FILENO};
+use input::read_full;
+use std::io;
 
 fn wide(x: u8) -> usize
     ensures { result < 256 }
@@ -14,35 +15,36 @@ fn wide(x: u8) -> usize
 }
 
 // The block at a place, and where the next one starts. A block that the input cuts short ends it.
-fn one(blocks: &[u8], at: usize) -> usize
+fn one(rt: &impl Print, blocks: &[u8], at: usize) -> io::Result<usize>
     requires { at < length blocks.now }
-    ensures { at < result }
+    ensures { IfOk result (λ next. at < next) }
 {
     if blocks.len() - at < 3 {
-        return blocks.len();
+        return Ok(blocks.len());
     }
     let settings = settings::of_kind(wide(blocks[at]) as u64, wide(blocks[at + 1]) as u64);
     let n = wide(blocks[at + 2]);
     let from = at + 3;
     if blocks.len() - from < 4 * n {
-        return blocks.len();
+        return Ok(blocks.len());
     }
     let to = from + 4 * n;
     let mut out = [0u8; 51];
     let r = loop_line::line(retry::check_bytes(settings, &blocks[from..to]), &mut out);
-    io::write_all(STDOUT_FILENO, &out[..r]);
-    to
+    rt.write_all(&out[..r])?;
+    Ok(to)
 }
 
-fn all(blocks: &[u8]) {
+fn all(rt: &impl Print, blocks: &[u8]) -> io::Result<()> {
     let mut at = 0;
     while at < blocks.len() {
-        at = one(blocks, at);
+        at = one(rt, blocks, at)?;
     }
+    Ok(())
 }
 
-fn main() {
-    let mut space = io::large_buffer();
-    let n = io::read_full(STDIN_FILENO, &mut space);
-    all(&space[..n]);
+fn main(rt: HostRuntime) -> io::Result<()> {
+    let mut space = [0u8; 65536];
+    let n = read_full(&mut rt.stdin(), &mut space)?;
+    all(&rt, &space[..n])
 }
