@@ -2,7 +2,7 @@
 // that build a state and name an event; tools/event-table says their layout, makes them and, by another model, the text that is expected.
 #![tactic(auto)]
 
-ghost use Rattle.std.specs.Prelude.{◌≡◌, ◌+◌, ◌%◌, ◌^◌, ◌≤◌, min, length, take, if◌then◌else◌, nat_lt, IfOk};
+ghost use Rattle.std.specs.Prelude.{◌≡◌, ◌+◌, ◌%◌, ◌^◌, ◌≤◌, min, length, take, if◌then◌else◌, nat_lt, IfOk, OnErr};
 ghost use Rattle.std.specs.Io.{ReadsAtMost};
 ghost use Rattle.model.specs.Perform.{answer_of};
 ghost use Rattle.event_table.specs.Build.{first_of, item_kind, patch_of, event_in};
@@ -69,9 +69,10 @@ fn event(item: &[u8; 24]) -> Event
     }
 }
 
-// A case after one more item: an event ends it, and the next case begins.
+// A case after one more item: an event ends it, and the next case begins. Only an event is written of, which may fail.
 fn take(rt: &impl Print, c: Case, mem: &mut [u8; 8192], item: &[u8; 24]) -> io::Result<Case>
-    ensures { IfOk result (λ r. r ≡ (if nat_lt (item_kind item.now) 7 then patch_of c item.now else first_of ((c.number + 1) % 2 ^ 64))) }
+    ensures value { IfOk result (λ r. r ≡ (if nat_lt (item_kind item.now) 7 then patch_of c item.now else first_of ((c.number + 1) % 2 ^ 64))) }
+    ensures err { OnErr result (7 ≤ item_kind item.now) }
 {
     if item[0] < 7 {
         return Ok(build::patch(c, mem, item));

@@ -2,7 +2,7 @@
 // leaves: pc, registers that aren't zero and the reservation of each used hart, and the 8-byte words of memory that aren't zero.
 #![tactic(auto)]
 
-ghost use Rattle.std.specs.Prelude.{◌<◌};
+ghost use Rattle.std.specs.Prelude.{◌<◌, OnErr, length};
 ghost use Rattle.std.specs.Io.{ReadsAtMost};
 
 use arguments::{open_file, tell_failure};
@@ -35,7 +35,8 @@ fn log_name(i: u64) -> [u8; 7] {
 
 // The bytes of a file. One that can't be opened is told of, and has none.
 fn read_file(rt: &HostRuntime, name: &[u8], buf: &mut [u8]) -> io::Result<usize>
-    ensures { ReadsAtMost result buf.new }
+    ensures bound { ReadsAtMost result buf.new }
+    ensures err { OnErr result (0 < length buf.new) }
 {
     match open_file(rt, name) {
         Ok(mut file) => read_full(&mut file, buf),

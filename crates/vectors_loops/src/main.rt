@@ -3,7 +3,7 @@
 // The lines that are expected were made by an independent model of document 01.
 #![tactic(auto)]
 
-ghost use Rattle.std.specs.Prelude.{◌<◌, IfOk, length};
+ghost use Rattle.std.specs.Prelude.{◌+◌, ◌<◌, ◌≤◌, IfOk, OnErr, length};
 
 use input::read_full;
 use std::io;
@@ -17,7 +17,8 @@ fn wide(x: u8) -> usize
 // The block at a place, and where the next one starts. A block that the input cuts short ends it.
 fn one(rt: &impl Print, blocks: &[u8], at: usize) -> io::Result<usize>
     requires { at < length blocks.now }
-    ensures { IfOk result (λ next. at < next) }
+    ensures next { IfOk result (λ next. at < next) }
+    ensures err { OnErr result (at + 3 ≤ length blocks.now) }
 {
     if blocks.len() - at < 3 {
         return Ok(blocks.len());
