@@ -223,7 +223,7 @@ class Promises(unittest.TestCase):
         run = self.run_tool('HEAD', '--list')
         self.assertIn('definitions: 0 of 2 as before, in 0 files\n  gone    crates/bytes/specs/Fits.antt: fits_of\n'
                       '  gone    crates/bytes/specs/Fits.antt: ◌~◌\n', run.stdout)
-        self.assertIn('every promise as before: 2 files\n', run.stdout)
+        self.assertIn('every promise as before: 3 files\n', run.stdout)
 
     def test_bad_words(self):
         for words, told in [([], 'Usage'), (['--list'], 'Usage'), (['HEAD', 'HEAD'], 'Usage'), (['none'], 'none is no commit of this repository\n')]:
