@@ -1,6 +1,6 @@
 /* Performs events on a machine of two harts, one by one and as a run. From the repository's root:
  *
- *   rt staticlib capi
+ *   tools/build capi
  *   cc -Wall -Wextra -Iinclude examples/events.c target/staticlib/libcapi.a -o target/events
  *   target/events
  */

@@ -1,7 +1,7 @@
 /* Says whether a retry loop is accepted: loop [VERSION [KIND]] < WORDS. VERSION is that of A, 20 for 2.0 or 21 for 2.1;
  * without it 2.1. KIND is that of the core, 0 for 64 bits or 1 for 32; without it 64. From the repository's root:
  *
- *   rt staticlib capi
+ *   tools/build capi
  *   cc -Wall -Wextra -Iinclude examples/loop.c target/staticlib/libcapi.a -o target/loop
  *   target/loop < crates/loopcheck/stdin
  */

@@ -1,7 +1,7 @@
 /* A machine of the 32-bit kind: AMOCAS.D compares and swaps 8 bytes with pairs of its registers. examples/pair32.py does
  * the same from Python. From the repository's root:
  *
- *   rt staticlib capi
+ *   tools/build capi
  *   cc -Wall -Wextra -Iinclude examples/pair32.c target/staticlib/libcapi.a -o target/pair32
  *   target/pair32
  */

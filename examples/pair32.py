@@ -1,5 +1,5 @@
 """A machine of the 32-bit kind: AMOCAS.D compares and swaps 8 bytes with pairs of its registers. examples/pair32.c does the same from C. From the
-repository's root, after `rt staticlib capi`:
+repository's root, after `tools/build capi`:
 
     cc -shared -o target/libfloecavern.so -Wl,--whole-archive target/staticlib/libcapi.a -Wl,--no-whole-archive
     python3 examples/pair32.py

@@ -1,7 +1,7 @@
 /* Replays a board's step log on the machine of a case file: replay CASE LOG. Prints why it ended, in the lines of the
  * program `replay`. From the repository's root:
  *
- *   rt staticlib capi
+ *   tools/build capi
  *   cc -Wall -Wextra -Iinclude examples/replay.c target/staticlib/libcapi.a -o target/replay
  *   target/replay crates/replay/data/case crates/replay/data/log
  */

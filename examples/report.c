@@ -1,6 +1,6 @@
 /* Prints the lines of a case file: report FILE. Says on standard error why a file is refused. From the repository's root:
  *
- *   rt staticlib capi
+ *   tools/build capi
  *   cc -Wall -Wextra -Iinclude examples/report.c target/staticlib/libcapi.a -o target/report
  *   target/report crates/floecavern/stdin
  */

@@ -1,6 +1,6 @@
 /* Floecavern: a proved reference model of RISC-V atomics, as a static library for x86-64 Linux.
  *
- * `rt staticlib capi` proves the crate and writes target/staticlib/libcapi.a. It needs only memcpy and memset, keeps no
+ * `tools/build capi` proves the crate and writes target/staticlib/libcapi.a. It needs only memcpy and memset, keeps no
  * state, allocates nothing, reads and writes nothing but what it is lent, and may be called from several threads at
  * once, each with buffers of its own.
  *

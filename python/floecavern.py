@@ -1,6 +1,6 @@
 """Floecavern, a proved reference model of RISC-V atomics, from Python: ctypes over the static library, made a shared object.
 
-In the repository's root, after `rt staticlib capi`, on x86-64 Linux:
+In the repository's root, after `tools/build capi`, on x86-64 Linux:
 
     cc -shared -o target/libfloecavern.so -Wl,--whole-archive target/staticlib/libcapi.a -Wl,--no-whole-archive
 
@@ -58,7 +58,7 @@ def _library():
     """The shared object, loaded once, at the first call."""
     path = os.environ.get('FLOECAVERN_SO', os.path.join(ROOT, 'target', 'libfloecavern.so'))
     if not os.path.exists(path):
-        raise OSError('%s is missing. In the repository, after `rt staticlib capi`: %s' % (path, BUILD))
+        raise OSError('%s is missing. In the repository, after `tools/build capi`: %s' % (path, BUILD))
     library = ctypes.CDLL(os.path.abspath(path))                # a name without a folder would be looked for among the system's libraries
     lent, read, number, size = ctypes.c_void_p, ctypes.c_char_p, ctypes.c_uint64, ctypes.c_size_t
     machine = [lent, size, number, lent, size]
@@ -84,7 +84,7 @@ def _other_size():
 
 def _other_version(what):
     """The error of a shared object that isn't of this version, as one that wasn't made again."""
-    return OSError('the shared object %s: it is of another version. In the repository, after `rt staticlib capi`: %s' % (what, BUILD))
+    return OSError('the shared object %s: it is of another version. In the repository, after `tools/build capi`: %s' % (what, BUILD))
 
 
 def _number(name, value, bits=64):

@@ -1,4 +1,4 @@
-//! Links libcapi.a, which `rt staticlib capi` writes. FLOECAVERN_LIB names another folder that has it.
+//! Links libcapi.a, which `tools/build capi` writes. FLOECAVERN_LIB names another folder that has it.
 
 use std::path::PathBuf;
 
@@ -9,7 +9,7 @@ fn main() {
         None => PathBuf::from(std::env::var_os("CARGO_MANIFEST_DIR").unwrap()).join("../target/staticlib"),
     };
     let archive = folder.join("libcapi.a");
-    assert!(archive.exists(), "{} is missing: run `rt staticlib capi` first", archive.display());
+    assert!(archive.exists(), "{} is missing: run `tools/build capi` first", archive.display());
     println!("cargo:rerun-if-changed={}", archive.display());
     println!("cargo:rustc-link-search=native={}", folder.display());
     println!("cargo:rustc-link-lib=static=capi");

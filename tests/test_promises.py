@@ -9,8 +9,8 @@ from common import ROOT
 
 SOURCE = '''// Bytes.
 use word::num;
-ghost use mathlib.Core.Path.{_≡_};
-ghost use Rattle·bytes·specs.specs.Fits.{fitsOf, otherOf};
+ghost use Rattle.std.specs.Prelude.{◌≡◌, ◌<◌};
+ghost use Rattle.bytes.specs.Fits.{fits_of, other_of};
 
 // What a byte is.
 #[derive]
@@ -25,17 +25,15 @@ type Byte = u8;
 
 // Whether a number is a byte.
 pub fn fits(n: u64) -> bool
-    requires { ⌜ 0 < n ⌝ }
-    ensures { λ r. ⌜
-        r
-        ≡ fitsOf n
-        ⌝ }
+    requires { 0 < n }
+    ensures { result
+        ≡ fits_of n }
 {
     n <= MOST
 }
 
 #[inline]
-#[no_mangle]
+#[unsafe(no_mangle)]
 pub extern "C" fn plain(n: u64) -> u64 {
     n
 }
@@ -47,30 +45,33 @@ fn tell() {
 }
 '''
 SPECS = '''-- Bytes.
-use Prim.Native.Nat.{ℕ}
-use lib.Dec.{
+use Rattle.std.specs.Prelude.{
+  ◌≡◌,
+  ℕ,
+}
+use Rattle.bytes.specs.Below.{
   ltb,
   leb,
 }
 
 -- a byte
-abbrev pub fitsOf : ℕ → Bool
-fitsOf n = ltb n 256
+abbrev pub fits_of : ℕ → Bool
+fits_of n = ltb n 256
 
-infix 40 _~_
-unfoldable pub _~_ : ℕ → ℕ → Type 0
+infix 40 ◌~◌
+unfoldable pub ◌~◌ : ℕ → ℕ → Type 0
 a ~ b = a ≡ b
 '''
 PROOFS = '''-- Laws.
-use Prim.Native.Nat.{ℕ}
+use Rattle.std.specs.Prelude.{◌≡◌, ◌<◌, ◌≤◌, ℕ}
 
 module _ (n : ℕ) (some : 0 < n) where
   -- in words
-  pub fits-exact : (fitsOf n ≡ true)
+  pub fits_exact : (fits_of n ≡ true)
       -- both ways
       ↔ (n < 256)
-  unfolding fitsOf
-  fits-exact = search needs
+  unfolding fits_of
+  fits_exact = search rules
 
 hidden : (n : ℕ) → n ≡ n
 hidden n = refl
@@ -85,20 +86,35 @@ Twice n = n + n
 abbrev Half : ℕ → ℕ
 Half n = n / 2
 
-infixr 30 _to_
+infixr 30 ◌to◌
 record Pair : Type 0 where
   one : ℕ
 
-pub last-law : (n : ℕ) → n ≤ Half n
-last-law n = omega arith
+pub last_law : (n : ℕ) → n ≤ Half n
+last_law n = omega arith
 '''
-OWN = '''use Rattle·bytes·proofs.proofs.fits.Tie as tie
+INVARIANTS = '''use Prim.Native.Nat.{◌-◌, ◌≤◌}
+use Rattle.bytes.proofs.fits.Given as goal
 
-pub fits-spec : {M : Type 1} → statement M
-fits-spec = tie.close tie.spec
+abbrev pub invariant-loop-i : goal.invariant-loop-i
+invariant-loop-i l = l.i ≤ l.n
+
+abbrev pub decreases-loop-i : goal.decreases-loop-i
+decreases-loop-i l = l.n - l.i
 '''
-FILES = {'src/lib.rt': SOURCE, 'specs/Fits.antt': SPECS, 'proofs/FitsLaws.antt': PROOFS, 'proofs/fits/Proof.antt': OWN}
-STAYED = ['contracts: 3 of 3', 'types: 3 of 3', 'definitions: 2 of 2', 'statements: 7 of 7']
+ANSWERS = '''use Rattle.bytes.proofs.fits.Goals as goal
+
+pub returns : goal.returns
+returns c = search rules
+'''
+OWN = '''use Rattle.bytes.proofs.tell.Tie as tie
+
+pub tell-spec : {M : Type 1} → statement M
+tell-spec = tie.close tie.spec
+'''
+FILES = {'src/lib.rt': SOURCE, 'specs/Fits.antt': SPECS, 'proofs/FitsLaws.antt': PROOFS, 'proofs/fits/Invariants.antt': INVARIANTS,
+         'proofs/fits/Answers.antt': ANSWERS, 'proofs/tell/Proof.antt': OWN, 'proofs/Answers.antt': '-- Laws, too.\npub told : 0 ≡ 0\ntold = refl\n'}
+STAYED = ['contracts: 3 of 3', 'types: 3 of 3', 'definitions: 2 of 2', 'statements: 8 of 8']
 
 
 class Promises(unittest.TestCase):
@@ -137,8 +153,13 @@ class Promises(unittest.TestCase):
     def test_nothing_changed(self):
         run = self.run_tool('HEAD', '--list')
         self.assertEqual([line.split(' as')[0] for line in run.stdout.splitlines()[:4]], STAYED)
-        self.assertEqual(run.stdout.splitlines()[4:], ['every promise as before: 3 files', '  crates/bytes/proofs/FitsLaws.antt',
-                                                       '  crates/bytes/specs/Fits.antt', '  crates/bytes/src/lib.rt'])
+        self.assertEqual(run.stdout.splitlines()[4:], ['every promise as before: 4 files', '  crates/bytes/proofs/Answers.antt',
+                                                       '  crates/bytes/proofs/FitsLaws.antt', '  crates/bytes/specs/Fits.antt', '  crates/bytes/src/lib.rt'])
+
+    def test_what_is_made_of_a_crate(self):
+        self.put('out/fits.antt', 'pub more : 0 ≡ 0\n')
+        self.put('out/src/lib.rt', SOURCE)
+        self.assertEqual([line.split(' as')[0] for line in self.run_tool('HEAD').stdout.splitlines()], STAYED)
 
     def test_what_is_no_promise(self):
         for path, old, new in [
@@ -146,16 +167,19 @@ class Promises(unittest.TestCase):
             ('src/lib.rt', '    n\n}', '    0 + n\n}'),
             ('src/lib.rt', 'fits(1)', 'fits(2)'),
             ('src/lib.rt', '// What a byte is.', '// A byte.'),
-            ('src/lib.rt', '        r\n        ≡ fitsOf n\n', '        r ≡ fitsOf n\n'),
+            ('src/lib.rt', '{ result\n        ≡ fits_of n }', '{ result ≡ fits_of n }'),
             ('src/lib.rt', 'Low,\n', 'Low, // the low ones\n'),
             ('src/lib.rt', 'use word::num;', 'use bits::num;'),
-            ('src/lib.rt', 'otherOf', 'thirdOf'),
+            ('src/lib.rt', 'other_of', 'third_of'),
             ('specs/Fits.antt', '  leb,\n', ''),
             ('specs/Fits.antt', '-- a byte', '-- bytes'),
-            ('proofs/FitsLaws.antt', 'fits-exact = search needs', 'fits-exact = omega arith'),
-            ('proofs/FitsLaws.antt', 'last-law n = omega arith', 'last-law n = search needs'),
+            ('proofs/FitsLaws.antt', 'fits_exact = search rules', 'fits_exact = omega arith'),
+            ('proofs/FitsLaws.antt', 'last_law n = omega arith', 'last_law n = search rules'),
             ('proofs/FitsLaws.antt', 'hidden : (n : ℕ) → n ≡ n', 'hidden : (n : ℕ) → n ≤ n'),
-            ('proofs/fits/Proof.antt', 'tie.close tie.spec', 'tie.close (tie.spec returns)'),
+            ('proofs/tell/Proof.antt', 'tie.close tie.spec', 'tie.close (tie.spec returns)'),
+            ('proofs/fits/Answers.antt', 'returns c = search rules', 'returns c = rw (c.ensures) refl'),
+            ('proofs/fits/Answers.antt', 'pub returns :', 'pub returns-2 :'),
+            ('proofs/fits/Invariants.antt', 'l.n - l.i', '2 * l.n - l.i'),
         ]:
             with self.subTest(new=new):
                 self.assertEqual(self.told(path, old, new), [])
@@ -163,31 +187,31 @@ class Promises(unittest.TestCase):
     def test_what_is_one(self):
         for path, old, new, name in [
             ('src/lib.rt', '0 < n', '1 < n', 'fits'),
-            ('src/lib.rt', '≡ fitsOf n', '≡ fitsOf (1 + n)', 'fits'),
-            ('src/lib.rt', '    requires { ⌜ 0 < n ⌝ }\n', '', 'fits'),
+            ('src/lib.rt', '≡ fits_of n', '≡ fits_of (1 + n)', 'fits'),
+            ('src/lib.rt', '    requires { 0 < n }\n', '', 'fits'),
             ('src/lib.rt', 'fits(n: u64) -> bool', 'fits(n: u32) -> bool', 'fits'),
-            ('src/lib.rt', 'plain(n: u64) -> u64 {', 'plain(n: u64) -> u64\n    requires { ⌜ n < 9 ⌝ }\n{', 'plain'),
-            ('src/lib.rt', '#[no_mangle]\n', '', 'plain'),
+            ('src/lib.rt', 'plain(n: u64) -> u64 {', 'plain(n: u64) -> u64\n    requires { n < 9 }\n{', 'plain'),
+            ('src/lib.rt', '#[unsafe(no_mangle)]\n', '', 'plain'),
             ('src/lib.rt', '#[inline]\n', '', 'plain'),
             ('src/lib.rt', '#[derive]\n', '', 'enum Kind'),
             ('src/lib.rt', 'Byte = u8', 'Byte = u16', 'type Byte'),
-            ('src/lib.rt', 'specs.specs.Fits', 'specs.specs.Other', 'fits'),
-            ('src/lib.rt', 'mathlib.Core.Path', 'mathlib.Core.Same', 'fits'),
-            ('specs/Fits.antt', 'lib.Dec', 'lib.Other', 'fitsOf'),
+            ('src/lib.rt', 'Rattle.bytes.specs.Fits', 'Rattle.bytes.specs.Other', 'fits'),
+            ('src/lib.rt', 'Rattle.std.specs.Prelude', 'Rattle.other.specs.Prelude', 'fits'),
+            ('specs/Fits.antt', 'specs.Below', 'specs.Other', 'fits_of'),
             ('src/lib.rt', 'fn tell() {', 'pub fn tell() {', 'tell'),
             ('src/lib.rt', 'by: u8', 'by: u16', 'enum Kind'),
             ('src/lib.rt', 'u64 = 255', 'u64 = 256', 'const MOST'),
-            ('specs/Fits.antt', 'ltb n 256', 'ltb n 255', 'fitsOf'),
-            ('specs/Fits.antt', 'infix 40', 'infix 41', '_~_'),
-            ('specs/Fits.antt', 'a ~ b = a ≡ b', 'a ~ b = b ≡ a', '_~_'),
-            ('proofs/FitsLaws.antt', '↔ (n < 256)', '→ (n < 256)', 'fits-exact'),
-            ('proofs/FitsLaws.antt', ' (some : 0 < n)', '', 'fits-exact'),
+            ('specs/Fits.antt', 'ltb n 256', 'ltb n 255', 'fits_of'),
+            ('specs/Fits.antt', 'infix 40', 'infix 41', '◌~◌'),
+            ('specs/Fits.antt', 'a ~ b = a ≡ b', 'a ~ b = b ≡ a', '◌~◌'),
+            ('proofs/FitsLaws.antt', '↔ (n < 256)', '→ (n < 256)', 'fits_exact'),
+            ('proofs/FitsLaws.antt', ' (some : 0 < n)', '', 'fits_exact'),
             ('proofs/FitsLaws.antt', '  pub high : ℕ', '  pub high : Bool', 'Held'),
             ('proofs/FitsLaws.antt', 'Twice n = n + n', 'Twice n = 2 * n', 'Twice'),
             ('proofs/FitsLaws.antt', 'Half n = n / 2', 'Half n = n / 3', 'Half'),
-            ('proofs/FitsLaws.antt', 'infixr 30', 'infixr 31', '_to_'),
+            ('proofs/FitsLaws.antt', 'infixr 30', 'infixr 31', '◌to◌'),
             ('proofs/FitsLaws.antt', '  one : ℕ', '  one : Bool', 'Pair'),
-            ('proofs/FitsLaws.antt', '→ n ≤ Half n', '→ n ≤ n', 'last-law'),
+            ('proofs/FitsLaws.antt', '→ n ≤ Half n', '→ n ≤ n', 'last_law'),
         ]:
             with self.subTest(new=new):
                 self.assertEqual(self.told(path, old, new), ['changed crates/bytes/%s: %s' % (path, name)])
@@ -197,8 +221,9 @@ class Promises(unittest.TestCase):
                          ['gone    crates/bytes/src/lib.rt: fits', 'new     crates/bytes/src/lib.rt: is_byte'])
         os.remove(self.top + '/crates/bytes/specs/Fits.antt')
         run = self.run_tool('HEAD', '--list')
-        self.assertIn('definitions: 0 of 2 as before, in 0 files\n  gone    crates/bytes/specs/Fits.antt: _~_\n', run.stdout)
-        self.assertIn('every promise as before: 2 files\n', run.stdout)
+        self.assertIn('definitions: 0 of 2 as before, in 0 files\n  gone    crates/bytes/specs/Fits.antt: fits_of\n'
+                      '  gone    crates/bytes/specs/Fits.antt: ◌~◌\n', run.stdout)
+        self.assertIn('every promise as before: 3 files\n', run.stdout)
 
     def test_bad_words(self):
         for words, told in [([], 'Usage'), (['--list'], 'Usage'), (['HEAD', 'HEAD'], 'Usage'), (['none'], 'none is no commit of this repository\n')]:

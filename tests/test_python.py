@@ -942,7 +942,7 @@ class Interface(unittest.TestCase):
             for call in ['report_text(b"")', 'check_loop([])', 'Machine(1, 0, 64)']:
                 done = subprocess.run([sys.executable, '-c', 'import floecavern; floecavern.' + call], env=env, capture_output=True, text=True)
                 self.assertEqual(done.stderr.splitlines()[-1], 'OSError: the shared object has no floecavern_check_loop_for: it is of another version. '
-                                 'In the repository, after `rt staticlib capi`: ' + floecavern.BUILD)
+                                 'In the repository, after `tools/build capi`: ' + floecavern.BUILD)
 
     def test_version_without_a_kind(self):
         """A shared object whose states have another size, and one of whose functions may have other arguments, as 0.7.0 had: told at the first call too,
@@ -956,7 +956,7 @@ class Interface(unittest.TestCase):
             for call in ['report_text(b"")', 'check_loop([])', 'Machine(1, 0, 64)']:
                 done = subprocess.run([sys.executable, '-c', 'import floecavern; floecavern.' + call], env=env, capture_output=True, text=True)
                 self.assertEqual(done.stderr.splitlines()[-1], 'OSError: the shared object takes no state of 2344 bytes: it is of another version. '
-                                 'In the repository, after `rt staticlib capi`: ' + floecavern.BUILD)
+                                 'In the repository, after `tools/build capi`: ' + floecavern.BUILD)
 
     def test_pairs(self):
         """examples/pair32.py; and where standard output is full, or closed."""
@@ -973,4 +973,4 @@ class Interface(unittest.TestCase):
         env = dict(os.environ, FLOECAVERN_SO='/nowhere/libfloecavern.so', PYTHONPATH=os.path.join(ROOT, 'python'))
         done = subprocess.run([sys.executable, '-c', 'import floecavern; floecavern.report(b"")'], env=env, capture_output=True, text=True)
         self.assertEqual(done.returncode, 1)
-        self.assertIn('/nowhere/libfloecavern.so is missing. In the repository, after `rt staticlib capi`: ' + floecavern.BUILD, done.stderr)
+        self.assertIn('/nowhere/libfloecavern.so is missing. In the repository, after `tools/build capi`: ' + floecavern.BUILD, done.stderr)

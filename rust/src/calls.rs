@@ -18,7 +18,7 @@ pub(crate) const REFUSED: u64 = 512;
 
 /// The sizes are right by type. So the library is of another version, in which a state has another size.
 pub(crate) fn bad_size() -> ! {
-    panic!("libcapi.a takes no state of {STATE_SIZE} bytes: it is of another version; run `rt staticlib capi`")
+    panic!("libcapi.a takes no state of {STATE_SIZE} bytes: it is of another version; run `tools/build capi`")
 }
 
 /// A library of another version may take other arguments, which a function without a state doesn't tell: this asks by one that

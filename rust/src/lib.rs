@@ -1,7 +1,7 @@
 //! Safe calls of Floecavern's static library, a proved reference model of RISC-V atomics. `include/floecavern.h` says what
 //! each function does.
 //!
-//! From the repository's root: `rt staticlib capi`, then `cargo test --offline` in `rust/`. x86-64 Linux only.
+//! From the repository's root: `tools/build capi`, then `cargo test --offline` in `rust/`. x86-64 Linux only.
 //!
 //! A [`Machine`] owns a state and a memory. An event gives an [`Answer`], its [`Outcome`] and the [`Harts`] whose reservation
 //! it broke; or it is refused: an `Err` of a [`Refusal`], and state and memory are as they were.

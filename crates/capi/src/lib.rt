@@ -1,9 +1,9 @@
-// The functions that C and Rust call: include/floecavern.h says how. None has a precondition.
+// The functions that C and Rust call, as `capi_c` exports them: include/floecavern.h says how. None of those has a precondition.
 #![tactic(auto)]
 
-mod replay;
-mod settings_files;
-mod steps;
+pub mod replay;
+pub mod settings_files;
+pub mod steps;
 
 ghost use Rattle.std.specs.Prelude.{◌≡◌, ◌/◌, length};
 ghost use Rattle.settings.specs.Settings.{defaults, of_kind};
@@ -18,8 +18,7 @@ pub const BAD_SIZE: u64 = 18446744073709551615;
 
 // The text of any bytes: the first r bytes of out are all that the program writes for them where no board is given. 2^64 - 1 if out has
 // fewer than 262,144 bytes.
-#[unsafe(no_mangle)]
-pub extern "C" fn floecavern_report(file: &[u8], out: &mut [u8]) -> u64
+pub fn floecavern_report(file: &[u8], out: &mut [u8]) -> u64
     ensures { Reported file.now out.old out.new result }
 {
     if out.len() < 262144 {
@@ -50,16 +49,14 @@ fn check_words(settings: Settings, words: &[u8]) -> u64
 }
 
 // The same under A 2.1, for the 64-bit core.
-#[unsafe(no_mangle)]
-pub extern "C" fn floecavern_check_loop(words: &[u8]) -> u64
+pub fn floecavern_check_loop(words: &[u8]) -> u64
     ensures { result ≡ loop_answer defaults words.now }
 {
     check_words(settings::defaults(), words)
 }
 
 // The same under a version of A, for a kind of core.
-#[unsafe(no_mangle)]
-pub extern "C" fn floecavern_check_loop_for(version: u64, kind: u64, words: &[u8]) -> u64
+pub fn floecavern_check_loop_for(version: u64, kind: u64, words: &[u8]) -> u64
     ensures { result ≡ loop_answer (of_kind version kind) words.now }
 {
     check_words(settings::of_kind(version, kind), words)

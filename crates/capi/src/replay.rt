@@ -84,8 +84,7 @@ fn tell_three(told: &mut [u8], first: u64, second: u64, third: u64)
 }
 
 // A log of rows of 48 bytes, up to the first row that does not agree with the model.
-#[unsafe(no_mangle)]
-pub extern "C" fn floecavern_replay(
+pub fn floecavern_replay(
     state: &mut [u8],
     base: u64,
     mem: &mut [u8],

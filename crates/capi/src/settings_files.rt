@@ -30,8 +30,7 @@ fn read_first(r: Read) -> u64
 }
 
 // A settings file read: sixteen boards, those that it has and zeros behind them.
-#[unsafe(no_mangle)]
-pub extern "C" fn floecavern_read_settings(file: &[u8], boards: &mut [u8], told: &mut [u8]) -> u64
+pub fn floecavern_read_settings(file: &[u8], boards: &mut [u8], told: &mut [u8]) -> u64
     ensures { SettingsRead file.now boards.old told.old result boards.new told.new }
 {
     if boards.len() != 384 {
@@ -70,8 +69,7 @@ fn written_told(w: Written) -> u64
 }
 
 // The settings file of boards, 24 bytes each.
-#[unsafe(no_mangle)]
-pub extern "C" fn floecavern_write_settings(boards: &[u8], out: &mut [u8], told: &mut [u8]) -> u64
+pub fn floecavern_write_settings(boards: &[u8], out: &mut [u8], told: &mut [u8]) -> u64
     ensures { SettingsWritten boards.now out.old told.old result out.new told.new }
 {
     if boards.len() % 24 != 0 {

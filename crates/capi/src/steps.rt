@@ -82,8 +82,7 @@ fn perform(state: &mut [u8], base: u64, mem: &mut [u8], e: Event, value: &mut [u
 }
 
 // A step of a hart.
-#[unsafe(no_mangle)]
-pub extern "C" fn floecavern_step(
+pub fn floecavern_step(
     state: &mut [u8],
     base: u64,
     mem: &mut [u8],
@@ -97,8 +96,7 @@ pub extern "C" fn floecavern_step(
 }
 
 // A device write of the size lowest bytes of data, the first byte lowest.
-#[unsafe(no_mangle)]
-pub extern "C" fn floecavern_device_write(
+pub fn floecavern_device_write(
     state: &mut [u8],
     base: u64,
     mem: &mut [u8],
@@ -114,8 +112,7 @@ pub extern "C" fn floecavern_device_write(
 }
 
 // A yield: drops a hart's reservation.
-#[unsafe(no_mangle)]
-pub extern "C" fn floecavern_yield(
+pub fn floecavern_yield(
     state: &mut [u8],
     base: u64,
     mem: &mut [u8],
@@ -169,8 +166,7 @@ pub fn tell(told: &mut [u8], first: u64, second: u64)
 }
 
 // A run of at most budget events of an events body.
-#[unsafe(no_mangle)]
-pub extern "C" fn floecavern_run(
+pub fn floecavern_run(
     state: &mut [u8],
     base: u64,
     mem: &mut [u8],

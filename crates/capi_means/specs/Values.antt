@@ -1,4 +1,4 @@
--- What a caller reads from the 8 bytes beside the answer to a retired event (a trap's and a refusal's: capi/specs/Events: valueOf).
+-- What a caller reads from the 8 bytes beside the answer to a retired event (a trap's and a refusal's: capi/specs/Events: value_of).
 use Rattle.std.specs.Prelude.{◌↔◌, List, ℕ, ◌<◌}
 use Rattle.word.specs.Bytes.{le}
 use Rattle.layout.specs.Layout.{state_in}

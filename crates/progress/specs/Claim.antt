@@ -1,5 +1,5 @@
 -- Demand 3, "an accepted retry loop left alone finishes within as many steps of its hart as it has words, without a refusal, a trap or a failed SC
--- of that hart", in the words of 01 ("The words of demand 3"). The events are those of `perform`: answerOf and next_of are what it computes.
+-- of that hart", in the words of 01 ("The words of demand 3"). The events are those of `perform`: answer_of and next_of are what it computes.
 -- RULES 6.2, 11.3.
 use Rattle.std.specs.Prelude.{◌≡◌, ◌≢◌, ◌⊎◌, Bool, true, false, cond, List, [], ◌∷◌, ℕ, suc, ◌+◌, ◌*◌, ◌-◌, ◌%◌, ◌<◌, eqb, length, get_or}
 use Rattle.word.specs.Bytes.{to_le}
