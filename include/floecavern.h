@@ -8,7 +8,7 @@
  * say: a pointer is not NULL, also where its length is 0; its length in bytes follows it, and that many bytes are the
  * caller's; a buffer that is written overlaps no other argument. A call needs up to 16 KiB of stack.
  *
- * The contracts are in crates/capi/src/lib.rt, steps.rt, replay.rt and settings_files.rt, the numbers in
+ * The contracts are in crates/capi_c/src/lib.rt (those of crates/capi/src, whose functions it exports), the numbers in
  * crates/capi/specs/Answers.antt, Events.antt, Replay.antt and Boards.antt.
  *
  * The machine is performed in two ways: floecavern_report takes a whole case file; floecavern_step,
