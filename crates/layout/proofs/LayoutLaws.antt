@@ -3,10 +3,9 @@ use mathlib.Core.Path.{◌≡◌, refl, sym, ap, ap₂, ◌∙◌}
 use mathlib.Core.Logic.{◌⊎◌, inl, inr}
 use mathlib.Core.List.{List, [], ◌∷◌, ◌++◌, append_assoc, append-nil}
 use Prim.Native.Nat.{ℕ, zero, suc, ◌+◌, ◌*◌, ◌≤◌, ◌<◌, min}
-use native.Mathlib.Nat.{add-zero}
 use native.Mathlib.Omega.{arith}
-use lib.ListN.{length, get_or, take, drop, length-append, take-append-drop, drop_of_length-le}
-use lib.Seq.{length-take-le, take-append-add, take-append_seam, take-suc, take_all}
+use lib.ListN.{length, get_or, take, length-append}
+use lib.Seq.{length-take-le, take-suc, take_all}
 use Rattle.word.specs.Bytes.{to_le}
 use Rattle.word.specs.Memory.{splice}
 use Rattle.word.specs.Each.{each}

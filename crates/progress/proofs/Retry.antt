@@ -14,7 +14,6 @@ use Rattle.word.specs.Bytes.{to_le}
 use Rattle.word.specs.Memory.{part}
 use Rattle.word.proofs.BytesLaws.{length-to_le}
 use Rattle.word.proofs.MemoryLaws.{part-splice}
-use Rattle.word.specs.Word.{Xlen}
 use Rattle.word.proofs.WordLaws.{split_lt, xlen_bounds}
 use Rattle.settings.specs.Settings.{at_version, xlen_of}
 use Rattle.settings.proofs.SettingsLaws.{xlen_is, at_version-xlen}

@@ -17,14 +17,12 @@ use Rattle.isa.specs.declared.Instr.TheVariants.{Illegal, Lui, Auipc, Jal, Jalr,
 use Rattle.isa.proofs.NarrowLaws.{regs_at}
 use Rattle.effect.specs.Effect.{Exec, trap, done_of, memory_by}
 use Rattle.effect.specs.Execute.{reg_at, execute, execute_word}
-use Rattle.effect.specs.declared.Done.TheVariants.{Trap}
 use Rattle.events.specs.declared.Event.TheVariants.{Step}
 use Rattle.model.specs.Act.{set_reg, outcome_of, registers_after, pcs_after, leaves, apply}
 use Rattle.model.specs.Perform.{Machine, xlen, misaligned, reservation_of, fetch_of, step_of, of_exec, act_on, act_of, answer_of, memory_of, next_of, outcome_at}
 use Rattle.model.specs.Valid.{Valid}
 use Rattle.model.specs.Advance.{registers_by, pcs_by, outcome_by}
 use Rattle.model.specs.declared.Outcome.{Outcome}
-use Rattle.model.specs.declared.Outcome.TheVariants as O
 use Rattle.model.proofs.Valid.{act_valid, fetch_sound}
 use Rattle.model.proofs.AdvanceLaws.{registers_done, pcs_done, outcome_done, leaves_done}
 use Rattle.steplog.specs.declared.Row.{Row}

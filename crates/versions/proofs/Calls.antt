@@ -1,5 +1,5 @@
 -- Runs and replays under 2.0 and under 2.1. Assumes nothing.
-use mathlib.Core.Path.{◌≡◌, refl, ◌∙◌, ap, subst}
+use mathlib.Core.Path.{◌≡◌, refl, ◌∙◌, ap}
 use mathlib.Core.Bool.{Bool, true, false, cond}
 use mathlib.Core.List.{List, [], ◌∷◌}
 use Prim.Native.Nat.{ℕ, suc, ◌/◌, ◌%◌}
@@ -11,7 +11,7 @@ use Rattle.events.specs.Events.{checked_of, events_of}
 use Rattle.events.specs.declared.Checked.{Checked}
 use Rattle.events.specs.declared.Checked.TheVariants.{Good, Bad}
 use Rattle.events.specs.declared.Event.TheVariants.{Step}
-use Rattle.model.specs.Perform.{Machine, next_of}
+use Rattle.model.specs.Perform.{Machine}
 use Rattle.model.specs.declared.Verdict.TheVariants.{Performed}
 use Rattle.model.specs.Run.{Result, performed_count, refused_run, performed_run, run_checked, result_of}
 use Rattle.steplog.specs.declared.Reading.{Reading}

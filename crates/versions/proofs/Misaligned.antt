@@ -1,7 +1,7 @@
 -- The setting misaligned decides the cause of a misaligned LR, SC, AMO or AMOCAS, and nothing else. Assumes nothing.
-use mathlib.Core.Path.{◌≡◌, refl, sym, ◌∙◌, ap, subst, fun_ext}
+use mathlib.Core.Path.{◌≡◌, refl, sym, ◌∙◌, ap, fun_ext}
 use mathlib.Core.Logic.{◌≢◌}
-use mathlib.Core.Bool.{Bool, true, false, cond}
+use mathlib.Core.Bool.{Bool, true, false}
 use mathlib.Core.List.{List, [], ◌∷◌}
 use Prim.Native.Nat.{ℕ, zero, suc, ◌%◌, ◌<◌}
 use native.Mathlib.Omega.{arith}
@@ -36,9 +36,9 @@ use Rattle.effect.proofs.TrapLaws.{misaligned_traps}
 use Rattle.events.specs.declared.Event.{Event}
 use Rattle.events.specs.declared.Event.TheVariants.{Step, Device, Yield}
 use Rattle.model.specs.Act.{Act, refuse, fault, change, put, release, outcome_of, slots_after, broken_after, apply, leaves}
-use Rattle.model.specs.Perform.{Machine, xlen, reservation_of, fetch_of, step_of, of_exec, act_on, act_of, outcome_at, broke_at, answer_of, memory_of, next_of, run_of}
+use Rattle.model.specs.Perform.{Machine, xlen, reservation_of, fetch_of, of_exec, act_on, act_of, outcome_at, broke_at, answer_of, memory_of, next_of, run_of}
 use Rattle.model.proofs.Frame.{settings_next}
-use Rattle.versions.specs.Misaligned.{giving, reach_bytes, MisalignedStep, SameButCause, same, lr, amo, OnlyCauses}
+use Rattle.versions.specs.Misaligned.{giving, reach_bytes, MisalignedStep, same, lr, amo, OnlyCauses}
 
 -- ---- an instruction under 0 and under 1
 

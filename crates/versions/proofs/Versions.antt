@@ -1,18 +1,17 @@
 -- Under A 2.0 a device write breaks no reservation, and all else is as under 2.1. Assumes nothing.
 use mathlib.Core.Path.{◌≡◌, refl, sym, ◌∙◌, ap, ap₂, subst, fun_ext}
-use mathlib.Core.Logic.{◌≢◌}
-use mathlib.Core.Bool.{Bool, true, false, cond, ◌&&◌}
+use mathlib.Core.Bool.{cond}
 use mathlib.Core.List.{List, [], ◌∷◌}
-use Prim.Native.Nat.{ℕ, zero, suc, ◌/◌, ◌%◌, ◌^◌, ◌<◌, ◌≤◌}
+use Prim.Native.Nat.{ℕ, zero, suc, ◌/◌, ◌%◌, ◌^◌, ◌<◌}
 use native.Mathlib.Omega.{arith}
-use lib.Dec.{eqb, ltb}
+use lib.Dec.{ltb}
 use lib.ListN.{length, get_or}
 use borrow.Author.Tests.{ne_eqb}
 use native.Mathlib.Nat.{zero-div}
 use Rattle.word.proofs.TestLaws.{bool_cases}
 use Rattle.word.specs.Each.{each}
 use Rattle.word.specs.Bytes.{to_le}
-use Rattle.settings.specs.Settings.{devices_break, size_ok, version_ok, kind_ok, reading_ok, misaligned_ok, at_version}
+use Rattle.settings.specs.Settings.{size_ok, version_ok, kind_ok, reading_ok, misaligned_ok, at_version}
 use Rattle.settings.proofs.SettingsLaws.{at_version-xlen}
 use Rattle.settings.specs.declared.Settings.{Settings}
 use Rattle.reserve.specs.Reserve.{slot, covers_of, breaks_of, own_of, observe_of, observe_slot, broken_of, Observed, observe_all_of}
@@ -26,12 +25,12 @@ use Rattle.reserve.proofs.NoticeLaws.{BreaksNone, each_none, spared_broken}
 use Rattle.machine.specs.State.{lent_ok, memory_ok, state_ok, refusal_of}
 use Rattle.machine.specs.declared.State.{State}
 use Rattle.machine.proofs.StateLaws.{top_same, harts_same}
-use Rattle.effect.specs.Effect.{Writes, Access, nothing, reserve, store, sc_stored, sc_failed, Exec, notice_of}
+use Rattle.effect.specs.Effect.{Access, nothing, reserve, store, sc_stored, sc_failed, Exec, notice_of}
 use Rattle.events.specs.declared.Event.{Event}
 use Rattle.events.specs.declared.Event.TheVariants.{Step, Device, Yield}
-use Rattle.model.specs.Act.{Act, refuse, fault, change, put, release, outcome_of, registers_after, pcs_after, slots_after, broken_after, apply, leaves}
-use Rattle.model.specs.Perform.{Machine, set_size, version, xlen, reservation_of, step_of, of_exec, act_on, act_of}
-use Rattle.model.specs.Perform.{outcome_at, broke_at, answer_of, memory_of, next_of, run_of}
+use Rattle.model.specs.Act.{Act, refuse, outcome_of, registers_after, pcs_after, slots_after, broken_after, apply, leaves}
+use Rattle.model.specs.Perform.{Machine, version, xlen, reservation_of, step_of, of_exec, act_on, act_of}
+use Rattle.model.specs.Perform.{broke_at, answer_of, memory_of, next_of, run_of}
 use Rattle.model.proofs.Frame.{acts}
 use Rattle.versions.specs.Versions.{under, IsDevice, DeviceSpares, DevicesSpare, LeavesState, SameAnswer, SameReservations}
 

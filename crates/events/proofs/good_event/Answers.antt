@@ -1,9 +1,5 @@
-use mathlib.Core.Path.{◌≡◌, sym, ◌∙◌}
-use mathlib.Core.Bool.{true}
-use lib.Dec.{eqb}
+use mathlib.Core.Path.{sym, ◌∙◌}
 use borrow.Author.Tests.{eq-eqb, ne_eqb}
-use Rattle.word.specs.Bytes.{le}
-use Rattle.word.specs.Memory.{part}
 use Rattle.events.specs.Events.{good_event}
 use Rattle.events.proofs.good_event.Goals as goal
 

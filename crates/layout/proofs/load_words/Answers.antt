@@ -1,10 +1,9 @@
 use borrow.Author.Rules.{rules}
 use mathlib.Core.Path.{◌≡◌, sym, ◌∙◌}
-use Prim.Native.Nat.{◌+◌, ◌*◌, ◌-◌}
+use Prim.Native.Nat.{◌+◌, ◌*◌}
 use native.Mathlib.Omega.{arith}
 use native.Mathlib.Numerals.{add-one}
 use lib.ListN.{length}
-use Rattle.word.specs.Each.{each}
 use Rattle.word.proofs.EachLaws.{each_suc}
 use Rattle.layout.specs.Layout.{word_at}
 use Rattle.layout.proofs.LayoutLaws.{each-table}

@@ -2,7 +2,6 @@ use mathlib.Core.Path.{◌≡◌}
 use Prim.Native.Nat.{◌-◌, ◌≤◌}
 use lib.ListN.{length, take}
 use Rattle.word.specs.Memory.{splice}
-use Rattle.reserve.specs.Reserve.{slot}
 use Rattle.layout.specs.Layout.{word_bytes, slot_words}
 use Rattle.layout.proofs.store_slots.Given as goal
 

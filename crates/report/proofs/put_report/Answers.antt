@@ -1,7 +1,6 @@
 use mathlib.Core.Path.{sym, subst}
 use Rattle.settings.specs.Boards.{BoardRules}
 use Rattle.settings.proofs.SettingsLaws.{default_board_allowed}
-use borrow.Author.Rules.{rules}
 use Rattle.report.proofs.put_report.Goals as goal
 
 pub put_report_on-requires : goal.put_report_on-requires

@@ -2,7 +2,7 @@ use mathlib.Core.Bool.{Bool, true}
 use mathlib.Core.Logic.{◌⊎◌, ◌↔◌, inl, inr}
 use mathlib.Core.Path.{◌≡◌, refl}
 use native.Mathlib.Omega.{arith}
-use borrow.Author.Tests.{eqb-true, eqb-false, leb-true, le-leb}
+use borrow.Author.Tests.{leb-true, le-leb}
 use Rattle.word.proofs.TestLaws.{contrary, not_zero}
 use Prim.Native.Nat.{ℕ, ◌^◌, ◌≤◌}
 use Rattle.reserve.specs.Range.{Touch, touches}

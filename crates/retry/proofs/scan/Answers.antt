@@ -1,5 +1,5 @@
 use Rattle.retry.specs.declared.LoopAnswer.TheVariants.{Rejected}
-use Rattle.std.proofs.Common.{◌≡◌, ℕ, ◌-◌, length, sym, refl, ap, ◌∙◌, add-one, arith}
+use Rattle.std.proofs.Common.{◌≡◌, ℕ, length, sym, refl, ap, ◌∙◌, add-one, arith}
 use native.Mathlib.Nat.{sub-zero}
 use Rattle.retry.specs.Loop.{view_at, past_sc, lowest_of, scan_of}
 use Rattle.retry.proofs.ScanLaws.{scan_on, scan_stop, scan_end}

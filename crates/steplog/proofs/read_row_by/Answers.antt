@@ -1,8 +1,5 @@
-use mathlib.Core.Path.{◌≡◌, sym}
-use mathlib.Core.List.{List}
-use Prim.Native.Nat.{ℕ}
+use mathlib.Core.Path.{sym}
 use native.Mathlib.Omega.{arith}
-use lib.ListN.{length}
 use Rattle.word.specs.Memory.{part}
 use Rattle.steplog.proofs.ReadLaws.{reading_form, form_length, Seen, word_below, row_read, row_refused}
 use borrow.Author.Rules.{rules}

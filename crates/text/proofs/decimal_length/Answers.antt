@@ -1,6 +1,4 @@
 use native.Mathlib.Omega.{arith}
-use lib.ListN.{length}
-use Rattle.text.specs.Number.{decimal_of}
 use Rattle.text.proofs.NumberLaws.{decimal_of-le, length_last, length_two, length_three, length_four, length_four_more}
 use Rattle.text.proofs.decimal_length.Goals as goal
 

@@ -2,7 +2,7 @@ use mathlib.Core.Path.{refl, sym, ap, ◌∙◌}
 use mathlib.Core.List.{[], ◌∷◌, ◌++◌}
 use Prim.Native.Nat.{ℕ, ◌+◌, ◌/◌}
 use native.Mathlib.Omega.{arith}
-use lib.ListN.{length, length-set}
+use lib.ListN.{length-set}
 use Rattle.text.specs.Number.{decimal_of}
 use Rattle.text.proofs.PutLaws.{back_none, back_le, back_more, back_all}
 use Rattle.text.proofs.NumberLaws.{decimal_of-le, decimal_last, decimal_more, length_last, length_more}

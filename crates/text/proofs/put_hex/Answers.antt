@@ -2,7 +2,7 @@ use mathlib.Core.Path.{◌≡◌, refl, sym, ap, ◌∙◌, subst}
 use mathlib.Core.List.{List, [], ◌∷◌, ◌++◌}
 use Prim.Native.Nat.{ℕ, suc, ◌+◌, ◌-◌, ◌/◌, ◌%◌}
 use native.Mathlib.Omega.{arith}
-use lib.ListN.{length, get_or, length-set}
+use lib.ListN.{get_or, length-set}
 use Rattle.text.specs.Number.{hex_from}
 use Rattle.text.proofs.PutLaws.{Back, back_none, back_more, back_all}
 use Rattle.text.proofs.NumberLaws.{length-hex_from, hex_table, hex_glyph, hex_from_none, hex_from_more}

@@ -1,6 +1,5 @@
 use mathlib.Core.Path.{refl, sym, ◌∙◌}
 use native.Mathlib.Omega.{arith}
-use Prim.Native.Nat.{◌-◌}
 use Rattle.settings.proofs.SettingsLaws.{xlen_is}
 use Rattle.effect.proofs.Fits.{value_lt}
 use Rattle.reserve.proofs.RangeLaws.{inside_of_lem}

@@ -2,7 +2,7 @@ use mathlib.Core.Path.{◌≡◌, refl, sym, ◌∙◌, subst}
 use Prim.Native.Nat.{◌-◌}
 use native.Mathlib.Nat.{sub-zero}
 use native.Mathlib.Omega.{arith}
-use lib.ListN.{length, drop, length-take, length-drop}
+use lib.ListN.{length-take, length-drop}
 use Rattle.events.specs.Events.{first_events}
 use Rattle.model.specs.Perform.{run_of}
 use Rattle.model.specs.Valid.{Valid}

@@ -1,7 +1,7 @@
 use mathlib.Core.Path.{◌≡◌}
 use Prim.Native.Nat.{◌-◌, ◌≤◌, ◌<◌, ◌^◌}
 use Rattle.word.specs.Each.{each}
-use Rattle.reserve.specs.Reserve.{slot, broken_of}
+use Rattle.reserve.specs.Reserve.{broken_of}
 use Rattle.reserve.specs.Packed.{slots_in, write_notice, break_slot}
 use Rattle.reserve.proofs.packed.break_all.Given as goal
 

@@ -1,11 +1,10 @@
 use mathlib.Core.Path.{◌≡◌, sym, ◌∙◌}
-use Prim.Native.Nat.{ℕ, ◌-◌, ◌<◌}
+use Prim.Native.Nat.{ℕ, ◌<◌}
 use native.Mathlib.Numerals.{add-one}
 use native.Mathlib.Omega.{arith}
 use borrow.Author.Tests.{lt-ltb}
 use mathlib.Core.List.{List}
 use lib.ListN.{get_or, replicate}
-use Rattle.word.specs.Each.{each}
 use Rattle.word.proofs.EachLaws.{each_suc}
 use Rattle.reserve.specs.declared.Reservation.TheVariants.{None}
 use Rattle.reserve.specs.Reserve.{slot}

@@ -1,4 +1,4 @@
-use Rattle.std.proofs.Common.{◌≡◌, ◌-◌, length, take, refl, ◌∙◌, add-one, arith, length-set, take-suc-set}
+use Rattle.std.proofs.Common.{◌≡◌, refl, ◌∙◌, add-one, arith, length-set, take-suc-set}
 use Rattle.retry.specs.Loop.{words_of}
 use Rattle.retry.proofs.bytes.words.Goals as goal
 

@@ -3,7 +3,7 @@ use mathlib.Core.List.{List, [], ◌∷◌, ◌++◌}
 use Prim.Native.Nat.{ℕ, suc, ◌+◌, ◌-◌, ◌<◌, ◌/◌, ◌%◌}
 use native.Mathlib.Nat.{mod-lt}
 use native.Mathlib.Omega.{arith}
-use lib.ListN.{length, get_or, length-set}
+use lib.ListN.{get_or, length-set}
 use Rattle.text.proofs.PutLaws.{Back, back_none, back_more, back_all}
 use Rattle.text.proofs.NumberLaws.{hex_table, hex_glyph}
 use Rattle.steplog.specs.Digits.{digits_from}
