@@ -16,8 +16,8 @@ Small body = λ i. ltb (number_of body i) (2 ^ 32)
 
 pub returns-then-kind-ne1 : goal.returns-then-kind-ne1
 returns-then-kind-ne1 c =
-    let wide : eqb c.args.kind 1 ≡ false = ne_eqb _ _ c.if-kind-ne1.true in
-    rw wide
+    let other : c.args.kind ≡ 1 → ⊥ = λ e. omega (arith, e, c.if-kind-ne1.true) in
+    rw (ne_eqb _ _ other)
 
 pub loop-i-init : goal.loop-i-init
 loop-i-init c = (search rules, all_none _)
@@ -28,7 +28,8 @@ returns-then-load_at-gt4294967295 c =
     let a = asked.args in
     let i = c.loop-i.i in
     let big : 2 ^ 32 ≤ number_of a.body.now i = omega (arith, c.if-load_at-gt4294967295.true, c.load_at.ensures) in
-    rw (eq-eqb _ _ c.if-kind-ne1.false)
+    let narrow : a.kind ≡ 1 = omega arith in
+    rw (eq-eqb _ _ narrow)
     (sym (all_fails (Small a.body.now) i (32 * a.count) (omega arith) (le-ltb _ _ big)))
 
 pub loop-i-preserved : goal.loop-i-preserved
@@ -41,4 +42,5 @@ loop-i-preserved c =
 pub returns : goal.returns
 returns c =
     let e : c.loop-i.i ≡ 32 * c.args.count = omega arith in
-    rw (eq-eqb _ _ c.if-kind-ne1.false) (sym (rw e at c.loop-i.invariant.1))
+    let narrow : c.args.kind ≡ 1 = omega arith in
+    rw (eq-eqb _ _ narrow) (sym (rw e at c.loop-i.invariant.1))

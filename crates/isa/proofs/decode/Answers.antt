@@ -24,7 +24,7 @@ unfolding by_tables
 returns-then-word-ne3 c =
     let w = c.args.word in
     let low : w / 1 ≡ w = omega arith in
-    let apart : w % 4 ≡ 3 → ⊥ = c.if-word-ne3.true in
+    let apart : w % 4 ≡ 3 → ⊥ = λ e. omega (arith, e, c.if-word-ne3.true) in
     rw (by_tables_lem w, low, ne_eqb _ _ apart)
 
 pub returns-then-e-eq-AMO : goal.returns-then-e-eq-AMO
@@ -32,7 +32,7 @@ unfolding decide_of
 returns-then-e-eq-AMO c =
     let o = c.opcode_entry-e in
     let w = c.args.word in
-    let both = c.if-word-ne3.false in
+    let both : w % 4 ≡ 3 = omega arith in
     rw (entered w o.result both o.ensures, eq-eqb _ _ c.if-e-eq-AMO.true) c.atomic.ensures
 
 pub returns-in-1 : goal.returns-in-1
@@ -40,7 +40,7 @@ unfolding decide_of
 returns-in-1 c =
     let o = c.opcode_entry-e in
     let w = c.args.word in
-    let both = c.if-word-ne3.false in
+    let both : w % 4 ≡ 3 = omega arith in
     rw (entered w o.result both o.ensures, c.in-1.is) c.load.ensures
 
 pub returns-in-2 : goal.returns-in-2
@@ -48,7 +48,7 @@ unfolding decide_of
 returns-in-2 c =
     let o = c.opcode_entry-e in
     let w = c.args.word in
-    let both = c.if-word-ne3.false in
+    let both : w % 4 ≡ 3 = omega arith in
     rw (entered w o.result both o.ensures, c.in-2.is) c.fence.ensures
 
 pub returns-in-3 : goal.returns-in-3
@@ -56,7 +56,7 @@ unfolding decide_of
 returns-in-3 c =
     let o = c.opcode_entry-e in
     let w = c.args.word in
-    let both = c.if-word-ne3.false in
+    let both : w % 4 ≡ 3 = omega arith in
     rw (entered w o.result both o.ensures, c.in-3.is) c.op_imm.ensures
 
 pub returns-in-4 : goal.returns-in-4
@@ -64,7 +64,7 @@ unfolding decide_of
 returns-in-4 c =
     let o = c.opcode_entry-e in
     let w = c.args.word in
-    let both = c.if-word-ne3.false in
+    let both : w % 4 ≡ 3 = omega arith in
     rw (entered w o.result both o.ensures, c.in-4.is) c.auipc.ensures
 
 pub returns-in-5 : goal.returns-in-5
@@ -72,7 +72,7 @@ unfolding decide_of
 returns-in-5 c =
     let o = c.opcode_entry-e in
     let w = c.args.word in
-    let both = c.if-word-ne3.false in
+    let both : w % 4 ≡ 3 = omega arith in
     rw (entered w o.result both o.ensures, c.in-5.is) c.op_imm_32.ensures
 
 pub returns-in-6 : goal.returns-in-6
@@ -80,7 +80,7 @@ unfolding decide_of
 returns-in-6 c =
     let o = c.opcode_entry-e in
     let w = c.args.word in
-    let both = c.if-word-ne3.false in
+    let both : w % 4 ≡ 3 = omega arith in
     rw (entered w o.result both o.ensures, c.in-6.is) c.store.ensures
 
 pub returns-in-8 : goal.returns-in-8
@@ -88,7 +88,7 @@ unfolding decide_of
 returns-in-8 c =
     let o = c.opcode_entry-e in
     let w = c.args.word in
-    let both = c.if-word-ne3.false in
+    let both : w % 4 ≡ 3 = omega arith in
     rw (entered w o.result both o.ensures, c.in-8.is) c.op.ensures
 
 pub returns-in-9 : goal.returns-in-9
@@ -96,7 +96,7 @@ unfolding decide_of
 returns-in-9 c =
     let o = c.opcode_entry-e in
     let w = c.args.word in
-    let both = c.if-word-ne3.false in
+    let both : w % 4 ≡ 3 = omega arith in
     rw (entered w o.result both o.ensures, c.in-9.is) c.lui.ensures
 
 pub returns-in-10 : goal.returns-in-10
@@ -104,7 +104,7 @@ unfolding decide_of
 returns-in-10 c =
     let o = c.opcode_entry-e in
     let w = c.args.word in
-    let both = c.if-word-ne3.false in
+    let both : w % 4 ≡ 3 = omega arith in
     rw (entered w o.result both o.ensures, c.in-10.is) c.op_32.ensures
 
 pub returns-in-11 : goal.returns-in-11
@@ -112,7 +112,7 @@ unfolding decide_of
 returns-in-11 c =
     let o = c.opcode_entry-e in
     let w = c.args.word in
-    let both = c.if-word-ne3.false in
+    let both : w % 4 ≡ 3 = omega arith in
     rw (entered w o.result both o.ensures, c.in-11.is) c.branch-e.ensures
 
 pub returns-in-12 : goal.returns-in-12
@@ -120,7 +120,7 @@ unfolding decide_of
 returns-in-12 c =
     let o = c.opcode_entry-e in
     let w = c.args.word in
-    let both = c.if-word-ne3.false in
+    let both : w % 4 ≡ 3 = omega arith in
     rw (entered w o.result both o.ensures, c.in-12.is) c.jalr.ensures
 
 pub returns-in-13 : goal.returns-in-13
@@ -128,7 +128,7 @@ unfolding decide_of
 returns-in-13 c =
     let o = c.opcode_entry-e in
     let w = c.args.word in
-    let both = c.if-word-ne3.false in
+    let both : w % 4 ≡ 3 = omega arith in
     rw (entered w o.result both o.ensures, c.in-13.is) c.jal.ensures
 
 pub returns-in-14 : goal.returns-in-14
@@ -136,7 +136,7 @@ unfolding decide_of
 returns-in-14 c =
     let o = c.opcode_entry-e in
     let w = c.args.word in
-    let both = c.if-word-ne3.false in
+    let both : w % 4 ≡ 3 = omega arith in
     rw (entered w o.result both o.ensures, c.in-14.is) c.system.ensures
 
 pub returns-in_default : goal.returns-in_default
@@ -144,5 +144,6 @@ unfolding decide_of
 returns-in_default c =
     let w = c.args.word in
     let o = c.opcode_entry-e in
-    rw (entered w o.result c.if-word-ne3.false o.ensures, ne_eqb _ _ c.if-e-eq-AMO.false)
+    let both : w % 4 ≡ 3 = omega arith in
+    rw (entered w o.result both o.ensures, ne_eqb _ _ c.if-e-eq-AMO.false)
     (sym (select_none (o.result / 16) deciders (of_both (o.result % 16) w) Illegal c.in_default.in_default-own.rest))

@@ -14,12 +14,13 @@ told b n c m r always only = ((only, always), touches_only b n c m r (only, alwa
 
 pub last-requires-2 : goal.last-requires-2
 last-requires-2 c =
-    not_zero c.args.m c.if-m-eq0.false
+    let some : c.args.m ≡ 0 → ⊥ = λ e. omega (arith, e, c.if-m-eq0.false) in
+    not_zero c.args.m some
 
 pub returns-then-n-eq0 : goal.returns-then-n-eq0
 returns-then-n-eq0 c =
     let a = c.args in
-    let none : (a.n ≡ 0) ⊎ (a.m ≡ 0) = elim c.then-n-eq0.branch [ goal.then-n-eq0-via-then-n-eq0 w ↦ inl w.if-n-eq0.true | goal.then-n-eq0-via-else-n-eq0+then-m-eq0 w ↦ inr w.if-m-eq0.true ] in
+    let none : (a.n ≡ 0) ⊎ (a.m ≡ 0) = elim c.then-n-eq0.branch [ goal.then-n-eq0-via-then-n-eq0 w ↦ let e : a.n ≡ 0 = omega arith in inl e | goal.then-n-eq0-via-else-n-eq0+then-m-eq0 w ↦ let e : a.m ≡ 0 = omega arith in inr e ] in
     let t = told a.b a.n a.c a.m _ (λ s. absurd (empty_apart a.b a.n a.c a.m none s)) (λ e. contrary e refl) in
     record { variant = t.0; value = t.1 }
 
@@ -28,8 +29,8 @@ returns c =
     let ends = c in
     let tried = ends in
     let a = tried.args in
-    let some-n = not_zero a.n tried.if-n-eq0.false in
-    let some-m = not_zero a.m tried.if-m-eq0.false in
+    let some-n = not_zero a.n (λ (e : a.n ≡ 0). omega (arith, e, tried.if-n-eq0.false)) in
+    let some-m = not_zero a.m (λ (e : a.m ≡ 0). omega (arith, e, tried.if-m-eq0.false)) in
     let exact : (ends.higher.result ≤ c.lower.result) ↔ Touch a.b a.n a.c a.m =
     rw (ends.higher.ensures, c.lower.ensures, ends.last.ensures, c.last-2.ensures)
     (ends_exact a.b a.n a.c a.m (2 ^ 64) (omega arith) (omega arith) some-n some-m) in

@@ -1,4 +1,4 @@
-use Rattle.std.proofs.Common.{◌≡◌, sym, refl, ◌∙◌, eq-eqb, ne_eqb}
+use Rattle.std.proofs.Common.{◌≡◌, refl, arith, eq-eqb, ne_eqb}
 use Rattle.word.specs.Bytes.{le}
 use Rattle.alu.proofs.swap.compare_swap.Goals as goal
 
@@ -6,7 +6,7 @@ pub returns-then-old-want : goal.returns-then-old-want
 returns-then-old-want c =
     let x = c.args in
     let old = c.load_le-old.ensures in
-    let equal : le x.bytes.now ≡ x.want = sym old ∙ c.if-old-want.true in record {
+    let equal : le x.bytes.now ≡ x.want = omega (arith, old, c.if-old-want.true) in record {
       value = old;
       bytes_after = rw (eq-eqb _ _ equal) c.store_le.ensures;
     }
@@ -15,7 +15,7 @@ pub returns-else-old-want : goal.returns-else-old-want
 returns-else-old-want c =
     let x = c.args in
     let old = c.load_le-old.ensures in
-    let unequal : le x.bytes.now ≡ x.want → ⊥ = λ e. c.if-old-want.false (old ∙ e) in record {
+    let unequal : le x.bytes.now ≡ x.want → ⊥ = λ e. omega (arith, old, e, c.if-old-want.false) in record {
       value = old;
       bytes_after = rw (ne_eqb _ _ unequal) refl;
     }
