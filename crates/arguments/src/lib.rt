@@ -20,7 +20,7 @@ const EINVAL: i32 = 22;
 const ENAMETOOLONG: i32 = 36;
 
 // A number, if digits say one. The value is zero where they don't.
-#[derive(Drop)]
+#[derive(Clone, Copy)]
 pub struct Number {
     pub said: bool,
     pub value: u64,

@@ -13,7 +13,7 @@ use std::io::Write;
 use std::rt::{Env, Files};
 
 // What the arguments say: nothing that can be followed, which is told on standard error; a settings file that is refused; or a board.
-#[derive(Drop)]
+#[derive(Clone, Copy)]
 pub enum Choice {
     Told,
     Refused { number: usize, place: usize },

@@ -21,7 +21,7 @@ pub enum Read {
 }
 
 // A file read. The boards from count on are zeros, and all of them where it is refused.
-#[derive(Drop)]
+#[derive(Clone, Copy)]
 pub struct SettingsFile {
     pub read: Read,
     pub count: usize,

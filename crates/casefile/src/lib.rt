@@ -16,14 +16,14 @@ use settings::{Board, Settings, remainder};
 use word::bytes::{field, load_at};
 
 // What a file is found to be: refused, at a place counted from its first byte, or a case, whose memory and events start at these places.
-#[derive(Drop)]
+#[derive(Clone, Copy)]
 pub enum Found {
     Refused { number: usize, place: usize },
     Bodies { memory: usize, events: usize },
 }
 
 // A file read. Base and state are zero where it is refused.
-#[derive(Drop)]
+#[derive(Clone, Copy)]
 pub struct Case {
     pub found: Found,
     pub base: u64,
@@ -31,7 +31,7 @@ pub struct Case {
 }
 
 // An entry of the table of contents: the place of its first wrong field, or where its body ends.
-#[derive(Drop)]
+#[derive(Clone, Copy)]
 enum Entry {
     Wrong(usize),
     Ends(usize),

@@ -18,7 +18,7 @@ use steplog::Row;
 use word::bytes::load_at;
 
 // The row of a step, or why there is none.
-#[derive(Drop)]
+#[derive(Clone, Copy)]
 pub enum Made {
     Logged(Row),
     Trap { cause: u64, value: u64 },
@@ -26,7 +26,7 @@ pub enum Made {
 }
 
 // With the state after the step.
-#[derive(Drop)]
+#[derive(Clone, Copy)]
 pub struct MadeStep {
     pub made: Made,
     pub state: State,

@@ -11,7 +11,7 @@ use reserve::{Reservation, Slot};
 use settings::{Settings, remainder};
 
 // count harts are used, all with the same settings. x of hart h stands at 32 * h to 32 * h + 31, its pc and its reservation at h.
-#[derive(Drop)]
+#[derive(Clone, Copy)]
 pub struct State {
     pub count: usize,
     pub settings: Settings,

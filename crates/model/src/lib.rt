@@ -30,7 +30,7 @@ pub struct Reply {
 }
 
 // The same with the state afterwards.
-#[derive(Drop)]
+#[derive(Clone, Copy)]
 pub struct Answer {
     pub outcome: Outcome,
     pub broke: u64,
@@ -45,7 +45,7 @@ pub enum Verdict {
 }
 
 // performed counts the events that were.
-#[derive(Drop)]
+#[derive(Clone, Copy)]
 pub struct Ran {
     pub verdict: Verdict,
     pub performed: usize,

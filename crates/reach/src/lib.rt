@@ -16,14 +16,14 @@ use model::advance::set_reg;
 use word::bytes::{load_at, store_at};
 
 // The register that a row shows, and the address from which on the step may write.
-#[derive(Drop)]
+#[derive(Clone, Copy)]
 pub struct Reach {
     pub rd: usize,
     pub at: u64,
 }
 
 // 16 bytes of memory, from at on, as two numbers.
-#[derive(Drop)]
+#[derive(Clone, Copy)]
 pub struct Saved {
     pub at: usize,
     pub low: u64,

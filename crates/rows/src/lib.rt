@@ -35,7 +35,7 @@ pub enum Told {
 }
 
 // rows counts those before the stop, and the state is the one after exactly those.
-#[derive(Drop)]
+#[derive(Clone, Copy)]
 pub struct Replayed {
     pub stop: Stop,
     pub rows: usize,
