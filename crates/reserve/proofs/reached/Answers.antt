@@ -14,4 +14,4 @@ returns-then-w-h c =
 pub returns-else-w-h : goal.returns-else-w-h
 returns-else-w-h c =
     let own : c.args.w.writer ≡ c.args.h = omega arith in
-    rw (c.if-w.false, eq-eqb _ _ own)
+    simp (c.if-w.false, eq-eqb _ _ own, eq-eqb _ _ c.if-w-h.false)
