@@ -1,5 +1,6 @@
 -- Two numbers of n bytes as one of twice as many, each law over n. Assumes nothing.
-use Rattle.std.proofs.Common.{◌≡◌, ℕ, zero, suc, ◌+◌, ◌*◌, ◌/◌, ◌%◌, ◌^◌, ◌<◌, ◌≤◌, List, ◌∷◌, ◌++◌, length, take, drop, sym, refl, ap, ◌∙◌, subst, ap₂, append-nil, mul_assoc, mul_comm, add_comm, arith, length-drop, take-append-drop, length-take-le, take_all, take_at}
+use Rattle.std.proofs.Common.{◌≡◌, ℕ, zero, suc, ◌+◌, ◌*◌, ◌/◌, ◌%◌, ◌^◌, ◌<◌, ◌≤◌, List, ◌∷◌, ◌++◌, length, take}
+use Rattle.std.proofs.Common.{drop, sym, refl, ap, ◌∙◌, subst, ap₂, append-nil, mul_assoc, mul_comm, add_comm, arith, length-drop, take-append-drop, length-take-le, take_all, take_at}
 use native.Mathlib.Nat.{pow-succ'}
 use lib.Arith.{digits_div, digits_mod}
 use lib.Seq.{drop-length}

@@ -3,6 +3,8 @@
 
 ghost use Rattle.std.specs.Prelude.{◌≡◌, cond, ◌⊎◌, ◌+◌, ◌*◌, ◌≤◌, ◌<◌, min};
 ghost use Rattle.std.specs.Io.{ReadsAtMost};
+ghost use Rattle.std.specs.Str.{IsUtf8};
+ghost use Rattle.std.specs.Result.{IsErr};
 ghost use Rattle.io.specs.Counts.{IsPrefixLen};
 ghost use Rattle.text.specs.Number.{digit_of};
 ghost use Rattle.steplog.specs.Digits.{is_digit};
@@ -149,7 +151,9 @@ pub fn tell<R: Alloc, W: Write>(rt: &R, err: &mut W, program: &[u8], what: &[u8]
 }
 
 // Opens a file by its path. std's paths are UTF-8 text, and no other is tried.
-pub fn open_file<R: Files>(rt: &R, path: &[u8]) -> io::Result<R::File> {
+pub fn open_file<R: Files>(rt: &R, path: &[u8]) -> io::Result<R::File>
+    ensures { ¬ (IsUtf8 path.now) → IsErr result }
+{
     match str::from_utf8(path) {
         Ok(text) => fs::open(rt, text),
         Err(_) => Err(Error::from(ErrorKind::InvalidFilename)),

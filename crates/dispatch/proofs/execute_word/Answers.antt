@@ -25,7 +25,10 @@ execute-requires c =
     let read = c in
     let pre = read.requires in
     let has : (eqb read.args.xlen 32 && lacks read.decode-i.result) ≡ false
-    = elim c.if-xlen-eq32.branch [ goal.then-xlen-eq32+else-lacks w ↦ rw (eq-eqb _ _ w.if-xlen-eq32.true) (sym w.lacks.ensures ∙ w.if-lacks.false) | goal.else-xlen-eq32 w ↦ rw (ne_eqb _ _ w.if-xlen-eq32.false) ] in
+    = elim c.if-xlen-eq32.branch [
+      | goal.then-xlen-eq32+else-lacks w ↦ rw (eq-eqb _ _ w.if-xlen-eq32.true) (sym w.lacks.ensures ∙ w.if-lacks.false)
+      | goal.else-xlen-eq32 w ↦ rw (ne_eqb _ _ w.if-xlen-eq32.false)
+    ] in
     (pre.0, pre.1, pre.2, had_fits _ _ _ read.decode-i.ensures has pre.2)
 
 pub returns : goal.returns
@@ -34,7 +37,10 @@ returns c =
     let read = joined in
     let a = read.args in
     let has : (eqb a.xlen 32 && lacks read.decode-i.result) ≡ false
-    = elim c.if-xlen-eq32.branch [ goal.then-xlen-eq32+else-lacks w ↦ rw (eq-eqb _ _ w.if-xlen-eq32.true) (sym w.lacks.ensures ∙ w.if-lacks.false) | goal.else-xlen-eq32 w ↦ rw (ne_eqb _ _ w.if-xlen-eq32.false) ] in
+    = elim c.if-xlen-eq32.branch [
+      | goal.then-xlen-eq32+else-lacks w ↦ rw (eq-eqb _ _ w.if-xlen-eq32.true) (sym w.lacks.ensures ∙ w.if-lacks.false)
+      | goal.else-xlen-eq32 w ↦ rw (ne_eqb _ _ w.if-xlen-eq32.false)
+    ] in
     met_as
     (had_word a.xlen a.word _ read.decode-i.ensures has a.settings.misaligned (reg_at a.x.now a.h) a.pc a.base a.mem.now
     (covers_of a.settings a.res))

@@ -79,4 +79,5 @@ returns-in-Amo c = rw c.in-Amo.is refl
 
 pub returns-in_default : goal.returns-in_default
 returns-in_default c =
-    none c.args.i c.in_default.not-Lui c.in_default.not-Auipc c.in_default.not-Jal c.in_default.not-Jalr c.in_default.not-Load c.in_default.not-OpImm c.in_default.not-OpImm32 c.in_default.not-Op c.in_default.not-Op32 c.in_default.not-Amo
+    let other = c.in_default in
+    none c.args.i other.not-Lui other.not-Auipc other.not-Jal other.not-Jalr other.not-Load other.not-OpImm other.not-OpImm32 other.not-Op other.not-Op32 other.not-Amo

@@ -20,7 +20,10 @@ last-requires-2 c =
 pub returns-then-n-eq0 : goal.returns-then-n-eq0
 returns-then-n-eq0 c =
     let a = c.args in
-    let none : (a.n ≡ 0) ⊎ (a.m ≡ 0) = elim c.then-n-eq0.branch [ goal.then-n-eq0-via-then-n-eq0 w ↦ let e : a.n ≡ 0 = omega arith in inl e | goal.then-n-eq0-via-else-n-eq0+then-m-eq0 w ↦ let e : a.m ≡ 0 = omega arith in inr e ] in
+    let none : (a.n ≡ 0) ⊎ (a.m ≡ 0) = elim c.then-n-eq0.branch [
+      | goal.then-n-eq0-via-then-n-eq0 w ↦ let e : a.n ≡ 0 = omega arith in inl e
+      | goal.then-n-eq0-via-else-n-eq0+then-m-eq0 w ↦ let e : a.m ≡ 0 = omega arith in inr e
+    ] in
     let t = told a.b a.n a.c a.m _ (λ s. absurd (empty_apart a.b a.n a.c a.m none s)) (λ e. contrary e refl) in
     record { variant = t.0; value = t.1 }
 

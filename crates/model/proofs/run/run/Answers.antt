@@ -52,6 +52,7 @@ returns-in-Good c =
     let same = lent_same a.base a.s _ a.mem.now packed.pack-t.ensures in
     let p = done.ensures ∙ ap (λ (m : Machine). run_of a.base m (first_events n a.body.now)) same in
     let none = sym left.refusal-number.ensures ∙ left.if-number-ne0.false in record {
-      value = rw (none, sym checked.check.ensures.value ∙ good.in-Good.is, ← chosen.smaller-n.ensures, t, c.unpack-after.ensures) (ap (λ (m : Machine). record { verdict = Performed; performed = n; state = m.state }) p);
+      value = rw (none, sym checked.check.ensures.value ∙ good.in-Good.is, ← chosen.smaller-n.ensures, t, c.unpack-after.ensures)
+          (ap (λ (m : Machine). record { verdict = Performed; performed = n; state = m.state }) p);
       mem_after = rw (none, sym checked.check.ensures.value ∙ good.in-Good.is, ← chosen.smaller-n.ensures, t) (ap (λ (m : Machine). m.mem) p);
     }

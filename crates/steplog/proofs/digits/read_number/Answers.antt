@@ -35,8 +35,10 @@ returns-then-base-d c =
     let turn = c.loop-i in
     let x = c.args in
     let s = x.s.now in
+    let told = found c.args.digits.now (get_or c.args.s.now c.loop-i.i 0) c.wide-d.result c.requires.digit_table
+    (c.shared_slice_known-in-loop-i-1.given c.loop-i.i).fits c.wide-d.ensures in
     let bad : is_digit x.base (get_or s turn.i 0) ≡ false =
-    not_looked_up x.base (get_or s turn.i 0) c.wide-d.result (omega arith) (found c.args.digits.now (get_or c.args.s.now c.loop-i.i 0) c.wide-d.result c.requires.digit_table (c.shared_slice_known-in-loop-i-1.given c.loop-i.i).fits c.wide-d.ensures) (omega arith) in
+    not_looked_up x.base (get_or s turn.i 0) c.wide-d.result (omega arith) told (omega arith) in
     sym
     (number_bad x.base s
     (turn.invariant.2 ∙ digits_turn x.base turn.i s (omega arith)
@@ -54,7 +56,9 @@ loop-i-preserved c =
     let x = c.args in
     let s = x.s.now in
     let d = c.wide-d.result in
-    let good = looked_up x.base (get_or s turn.i 0) d (omega arith) (found c.args.digits.now (get_or c.args.s.now c.loop-i.i 0) c.wide-d.result c.requires.digit_table (c.shared_slice_known-in-loop-i-1.given c.loop-i.i).fits c.wide-d.ensures) (omega arith) in (
+    let told = found c.args.digits.now (get_or c.args.s.now c.loop-i.i 0) c.wide-d.result c.requires.digit_table
+    (c.shared_slice_known-in-loop-i-1.given c.loop-i.i).fits c.wide-d.ensures in
+    let good = looked_up x.base (get_or s turn.i 0) d (omega arith) told (omega arith) in (
       omega arith,
       rw (add-one turn.i) (next_below x.base turn.i turn.value d turn.invariant.1 (omega arith)),
       turn.invariant.2 ∙ digits_turn x.base turn.i s (omega arith) ∙ ap (λ (b : Bool). b && all_digits x.base (drop (turn.i + 1) s)) good.0,
