@@ -1,66 +1,51 @@
 // The read-modify-write operations of the atomic instructions.
-ghost use Rattle.std.specs.Prelude.{◌≡◌, ◌+◌, ◌^◌, ◌<◌, ◌≤◌, min, max, length, int_lt};
+ghost use Rattle.std.specs.Prelude.{◌≡◌, ◌+◌, ◌^◌, ◌<◌, ◌≤◌, length, int_lt};
 ghost use Rattle.word.specs.Word.{to_int};
 ghost use Rattle.word.specs.Bytes.{le, to_le};
 ghost use Rattle.word.specs.Memory.{part, splice};
 ghost use Rattle.isa.specs.Width.{bits_of, bytes_of};
-ghost use Rattle.alu.specs.Amo.{amo_of, min_of, max_of};
+ghost use Rattle.alu.specs.Amo.{amo_of};
 
+use crate::integer::add;
 use isa::{AmoOp, Width};
-use word::num::{to_i32, to_i64};
+use word::bytes::{load_le, store_le};
 
 // Whether a is less than b as the i32 or i64 that their bits mean.
+#[tactic(auto, unfolding(word::specs::Word::to_int))]
 fn less_at(w: Width, a: u64, b: u64) -> bool
     requires { (a < 2 ^ bits_of w) × (b < 2 ^ bits_of w) }
     ensures { result ≡ int_lt (to_int (bits_of w) a) (to_int (bits_of w) b) }
 {
     match w {
-        Width::Word => to_i32(a as u32) < to_i32(b as u32),
-        Width::Double => to_i64(a) < to_i64(b),
+        Width::Word => (a as u32).cast_signed() < (b as u32).cast_signed(),
+        Width::Double => a.cast_signed() < b.cast_signed(),
     }
 }
 
-fn min_signed(w: Width, a: u64, b: u64) -> u64
-    requires { (a < 2 ^ bits_of w) × (b < 2 ^ bits_of w) }
-    ensures { result ≡ min_of (bits_of w) a b }
-{
-    if less_at(w, a, b) { a } else { b }
-}
-
-fn max_signed(w: Width, a: u64, b: u64) -> u64
-    requires { (a < 2 ^ bits_of w) × (b < 2 ^ bits_of w) }
-    ensures { result ≡ max_of (bits_of w) a b }
-{
-    if less_at(w, a, b) { b } else { a }
-}
-
-fn min_unsigned(a: u64, b: u64) -> u64
-    ensures { result ≡ min a b }
-{
-    if a < b { a } else { b }
-}
-
-fn max_unsigned(a: u64, b: u64) -> u64
-    ensures { result ≡ max a b }
-{
-    if a < b { b } else { a }
-}
-
 // What the operation leaves in memory.
+#[tactic(auto, unfolding(crate::specs::Amo::amo_of, crate::specs::Amo::min_of, crate::specs::Amo::max_of))]
 fn amo(op: AmoOp, w: Width, old: u64, operand: u64) -> u64
     requires { (old < 2 ^ bits_of w) × (operand < 2 ^ bits_of w) }
     ensures { result ≡ amo_of op (bits_of w) old operand }
 {
     match op {
         AmoOp::Swap => operand,
-        AmoOp::Add => crate::integer::add(old, operand, isa::bits_of(w)),
+        AmoOp::Add => add(old, operand, isa::bits_of(w)),
         AmoOp::Xor => old ^ operand,
         AmoOp::And => old & operand,
         AmoOp::Or => old | operand,
-        AmoOp::Min => min_signed(w, old, operand),
-        AmoOp::Max => max_signed(w, old, operand),
-        AmoOp::Minu => min_unsigned(old, operand),
-        AmoOp::Maxu => max_unsigned(old, operand),
+        AmoOp::Min => if less_at(w, old, operand) {
+            old
+        } else {
+            operand
+        },
+        AmoOp::Max => if less_at(w, old, operand) {
+            operand
+        } else {
+            old
+        },
+        AmoOp::Minu => old.min(operand),
+        AmoOp::Maxu => old.max(operand),
     }
 }
 
@@ -71,8 +56,8 @@ fn modify(bytes: &mut [u8], op: AmoOp, w: Width, operand: u64) -> u64
     ensures value { result ≡ le bytes.old }
     ensures bytes_after { bytes.new ≡ to_le (bytes_of w) (amo_of op (bits_of w) (le bytes.old) operand) }
 {
-    let old = word::bytes::load_le(&bytes[..]);
-    word::bytes::store_le(&mut bytes[..], amo(op, w, old, operand));
+    let old = load_le(bytes);
+    store_le(bytes, amo(op, w, old, operand));
     old
 }
 

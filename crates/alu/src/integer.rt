@@ -12,7 +12,7 @@ pub fn add(a: u64, b: u64, bits: u32) -> u64
     requires { bits ≤ 64 }
     ensures { result ≡ (a + b) % 2 ^ bits }
 {
-    wrap(std::num::wrapping_add_u64(a, b), bits)
+    wrap(a.wrapping_add(b), bits)
 }
 
 fn subtract(a: u64, b: u64, bits: u32) -> u64
@@ -20,7 +20,7 @@ fn subtract(a: u64, b: u64, bits: u32) -> u64
     requires b_bound { b < 2 ^ bits }
     ensures { result ≡ (a + (2 ^ bits - b)) % 2 ^ bits }
 {
-    wrap(std::num::wrapping_sub_u64(a, b), bits)
+    wrap(a.wrapping_sub(b), bits)
 }
 
 // How far a shift by b goes: at 32 and 64 bits, the 5 and 6 lowest bits of b. A mask each, and no division by a number that the compiler may not know.
@@ -57,6 +57,7 @@ pub fn less(a: u64, b: u64, bits: u32) -> bool
 }
 
 // The operation on two numbers of so many bits.
+#[tactic(auto, using(word::proofs::WordLaws::xlen_bounds), unfolding(crate::specs::Alu::alu_of))]
 pub fn operate(op: AluOp, bits: u32, a: u64, b: u64) -> u64
     requires xlen { Xlen bits }
     requires a_bound { (a < 2 ^ bits) × (b < 2 ^ bits) }
@@ -66,8 +67,8 @@ pub fn operate(op: AluOp, bits: u32, a: u64, b: u64) -> u64
         AluOp::Add => add(a, b, bits),
         AluOp::Sub => subtract(a, b, bits),
         AluOp::Sll => shift_left(a, amount(b, bits), bits),
-        AluOp::Slt => less(a, b, bits) as u64,
-        AluOp::Sltu => (a < b) as u64,
+        AluOp::Slt => u64::from(less(a, b, bits)),
+        AluOp::Sltu => u64::from(a < b),
         AluOp::Xor => a ^ b,
         AluOp::Srl => a >> amount(b, bits),
         AluOp::Sra => shift_signed(a, amount(b, bits), bits),

@@ -9,7 +9,7 @@ use isa::Width;
 use word::bytes::{load_at, load_le, store_at, store_le};
 
 // A number as a pair of registers holds it, each half of them of a width.
-#[derive(Clone, Copy)]
+#[derive(Clone, Copy, PartialEq, Eq)]
 pub struct Pair {
     pub low: u64,
     pub high: u64,
@@ -21,9 +21,9 @@ fn compare_swap(bytes: &mut [u8], want: u64, new: u64) -> u64
     ensures value { result ≡ le bytes.old }
     ensures bytes_after { bytes.new ≡ (if nat_eq (le bytes.old) want then to_le (length bytes.old) new else bytes.old) }
 {
-    let old = load_le(&bytes[..]);
+    let old = load_le(bytes);
     if old == want {
-        store_le(&mut bytes[..], new);
+        store_le(bytes, new);
     }
     old
 }
@@ -43,13 +43,7 @@ pub fn same(w: Width, p: Pair, q: Pair) -> bool
     requires { (p.low < 2 ^ bits_of w) × (q.low < 2 ^ bits_of w) }
     ensures { result ≡ (joined w p == joined w q) }
 {
-    if p.low == q.low {
-        if p.high == q.high {
-            return true;
-        }
-        return false;
-    }
-    false
+    p == q
 }
 
 // Sets the lent bytes of a pair to new if their number is the wanted one: their old number.
@@ -62,21 +56,12 @@ fn compare_swap_pair(bytes: &mut [u8], w: Width, want: Pair, new: Pair) -> Pair
     let n = isa::bytes_of(w);
     let low = load_at(bytes, 0, n);
     let high = load_at(bytes, n, n);
-    if same(
-        w,
-        Pair {
-            low: low,
-            high: high,
-        },
-        want,
-    ) {
+    let old = Pair { low, high };
+    if same(w, old, want) {
         store_at(bytes, 0, n, new.low);
         store_at(bytes, n, n, new.high);
     }
-    Pair {
-        low: low,
-        high: high,
-    }
+    old
 }
 
 // The same in a memory: only the bytes of the pair from at on are lent.

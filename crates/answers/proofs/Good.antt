@@ -17,7 +17,7 @@ use Rattle.events.specs.Events.{kind_of, hart_of, size_of, address_of, data_of, 
 use Rattle.events.specs.Rules.{WellFormed, EventRules, EachEvent}
 use Rattle.events.specs.declared.Event.{Event}
 use Rattle.events.specs.declared.Event.TheVariants.{Step, Device, Yield}
-use Rattle.events.specs.declared.Checked.TheVariants.{Good}
+use Rattle.std.specs.Prelude.{Ok}
 use Rattle.events.proofs.RuleLaws.{good_exact, none_wrong_exact}
 use Rattle.machine.proofs.StateLaws.{wrong_exact}
 use Rattle.model.specs.Perform.{Machine, next_of, outcome_at}
@@ -151,14 +151,14 @@ module _ (count base len : ℕ) where
     fit_at (suc n) p f (suc j) place e l = fit_at n (p + 24) (rw (← drop-drop 24 p body) f.1) j place (omega arith) (omega arith)
 
     -- a body that 11 doesn't refuse has no event that 3, 4 or 5 refuses
-    pub good_fits : checked_of count base len body ≡ Good → AllFit count base len (events_of body)
+    pub good_fits : checked_of count base len body ≡ Ok tt → AllFit count base len (events_of body)
     good_fits g =
         let each = ((none_wrong_exact count base len body).0 ((good_exact count base len body).0 g)).1 in
         all_from (length body / 24) 0 0 refl (omega arith) each
 
     -- and the other way, of a body of whole and well formed events
     pub fits_good : length body % 24 ≡ 0 → EachEvent WellFormed body → AllFit count base len (events_of body)
-        → checked_of count base len body ≡ Good
+        → checked_of count base len body ≡ Ok tt
     fits_good whole w f =
         let each : EachEvent (EventRules count base len) body =
         λ i l. fit_rules (part body (24 * i) 24) (w i l) (fit_at (length body / 24) 0 f i (24 * i) (omega arith) (omega arith)) in
@@ -168,10 +168,10 @@ module _ (count base len : ℕ) where
 
 module _ (base : ℕ) (m : Machine) (v : Valid base m) (body : List ℕ) where
   -- a run of a body that 11 doesn't refuse refuses no event on the way
-  pub good_run : checked_of m.state.count base (length m.mem) body ≡ Good → NoneRefused base m (events_of body)
+  pub good_run : checked_of m.state.count base (length m.mem) body ≡ Ok tt → NoneRefused base m (events_of body)
   good_run g = fits_run base m v (events_of body) (good_fits m.state.count base (length m.mem) body g)
 
   -- and the other way, of a body of whole and well formed events: if its run refuses none, 11 doesn't refuse it
   pub run_good : length body % 24 ≡ 0 → EachEvent WellFormed body → NoneRefused base m (events_of body)
-      → checked_of m.state.count base (length m.mem) body ≡ Good
+      → checked_of m.state.count base (length m.mem) body ≡ Ok tt
   run_good z w r = fits_good m.state.count base (length m.mem) body z w (run_fits base m v (events_of body) r)

@@ -1,5 +1,7 @@
 -- A run is refused exactly by the rows of 01, the first that applies, at the lowest place where it does. Assumes nothing.
 use Prim.Native.Nat.{ℕ, ◌≤◌, ◌<◌}
+use Rattle.std.specs.Prelude as Std
+use Rattle.std.specs.Prelude.{Ok, Err}
 use mathlib.Core.Path.{◌≡◌, refl, ap, subst}
 use mathlib.Core.Logic.{◌↔◌}
 use mathlib.Core.List.{List}
@@ -11,31 +13,31 @@ use Rattle.machine.specs.State.{memory_ok, state_ok, refusal_of}
 use Rattle.machine.specs.Rules.{MemoryRules, StateRules}
 use Rattle.machine.specs.declared.State.{State}
 use Rattle.machine.proofs.StateLaws.{memory_exact, wrong_exact, state_exact, refusal_0, refusal_1, refusal_2}
-use Rattle.events.specs.Events.{checked_of, events_of}
+use Rattle.events.specs.Events.{Checked, checked_of, events_of}
 use Rattle.events.specs.Rules.{WrongEvents, NoneWrong}
-use Rattle.events.specs.declared.Checked.{Checked}
-use Rattle.events.specs.declared.Checked.TheVariants.{Good, Bad}
 use Rattle.events.proofs.RuleLaws as E
 use Rattle.events.proofs.RowLaws as R
 use Rattle.model.specs.Perform.{run_of}
 use Rattle.model.specs.Run.{Result, refused_run, performed_run, performed_count, result_of}
-use Rattle.model.specs.declared.Verdict.{Verdict}
-use Rattle.model.specs.declared.Verdict.TheVariants.{Performed, Refused}
+use Rattle.refusal.specs.declared.Refusal.{Refusal}
 use Rattle.answers.specs.Runs.{RunRow, wrong_memory, wrong_state, wrong_body, RunRefused, RunUnrefused}
 
 -- ---- the verdicts apart
 
+abbrev Verdict : Type 0
+Verdict = Std.Result (Unit {0}) Refusal
+
 abbrev refusals : Verdict → ℕ
-refusals Performed = 0
-refusals (Refused number place) = 1
+refusals (Ok x) = 0
+refusals (Err r) = 1
 
 abbrev number_in : Verdict → ℕ
-number_in Performed = 0
-number_in (Refused number place) = number
+number_in (Ok x) = 0
+number_in (Err r) = r.number
 
 abbrev place_in : Verdict → ℕ
-place_in Performed = 0
-place_in (Refused number place) = place
+place_in (Ok x) = 0
+place_in (Err r) = r.place
 
 abbrev verdict_in : Result → Verdict
 verdict_in r = r.ran.verdict
@@ -84,7 +86,7 @@ module _ (base : ℕ) (mem : List ℕ) (s : State) (body : List ℕ) where
     by_body : MemoryRules s.settings base (length mem) → StateRules base (length mem) s → (c : Checked)
         → checked_of s.count base (length mem) body ≡ c → Decided
     unfolding result_of
-    by_body m r (Bad p) e =
+    by_body m r (Err p) e =
         let w = (E.bad_exact s.count base (length mem) body p).0 e in
         R.refuses 11 p (rw ((refusal_0 base (length mem) s).1 (m, r), e))
         (record {
@@ -92,7 +94,7 @@ module _ (base : ℕ) (mem : List ℕ) (s : State) (body : List ℕ) where
           first = none_below 11 (λ l. m) (λ l. r) (never refl);
           lowest = λ q l v. w.lowest q l (of_body q v);
         })
-    by_body m r Good e =
+    by_body m r (Ok x) e =
         let w = (E.good_exact s.count base (length mem) body).0 e in
         R.accepts (rw ((refusal_0 base (length mem) s).1 (m, r), e))
         (λ k p v. none_below 12 (λ l. m) (λ l. r) (λ l. w) k p (omega (arith, most k p v)) v)
@@ -145,7 +147,7 @@ module _ (base : ℕ) (mem : List ℕ) (s : State) (body : List ℕ) where
 
     -- 01: a run is refused by this number at this place exactly if its row is the first that applies, and this the lowest place where it does
     pub run_refused_exact : (number place : ℕ)
-        → ((result_of base mem s body budget).ran.verdict ≡ Refused number place) ↔ RunRefused base mem s body number place
+        → ((result_of base mem s body budget).ran.verdict ≡ Err (record { number = number; place = place })) ↔ RunRefused base mem s body number place
     run_refused_exact n p = (
       λ o.
           subst (RunRefused base mem s body n) (ap place_in o)
@@ -154,5 +156,5 @@ module _ (base : ℕ) (mem : List ℕ) (s : State) (body : List ℕ) where
     )
 
     -- and is performed exactly if none applies
-    pub run_performed_exact : ((result_of base mem s body budget).ran.verdict ≡ Performed) ↔ RunUnrefused base mem s body
+    pub run_performed_exact : ((result_of base mem s body budget).ran.verdict ≡ Ok tt) ↔ RunUnrefused base mem s body
     run_performed_exact = (λ o. no_row_of (ap refusals o), λ u. ap verdict_in (run_performed_gives u))

@@ -1,9 +1,10 @@
 -- Digits read one after another, where all numbers from 1,000 on count as 1,000. Assumes nothing.
-use mathlib.Core.Path.{◌≡◌, refl, ap}
-use mathlib.Core.Bool.{true, false, not, cond}
+use Rattle.std.specs.Prelude.{Some, None, IfSome}
+use mathlib.Core.Path.{◌≡◌, ap}
+use mathlib.Core.Bool.{true, false, cond, ◌&&◌}
 use mathlib.Core.List.{List, [], ◌∷◌}
-use mathlib.Core.Logic.{⊎_elim}
-use Prim.Native.Nat.{ℕ, suc, ◌+◌, ◌*◌, ◌-◌, ◌≤◌, ◌<◌, min}
+use mathlib.Core.Logic.{◌⊎◌, inl, ⊎_elim}
+use Prim.Native.Nat.{ℕ, ◌+◌, ◌*◌, ◌-◌, ◌≤◌, ◌<◌, min}
 use native.Mathlib.Nat.{le_trans}
 use native.Mathlib.Omega.{arith}
 use lib.Dec.{ltb, eqb}
@@ -41,23 +42,19 @@ digit_below : (c : ℕ) → is_digit 10 c ≡ true → digit_of c < 10
 unfolding is_digit
 digit_below c e = ltb-true (digit_of c) 10 (and_both (ltb (digit_of c) 10) (eqb c (glyph (digit_of c))) e).0
 
--- what a digit's value, or 10, says of a byte
-module _ (c d : ℕ) (e : d ≡ cond (is_digit 10 c) (digit_of c) 10) where
-  pub known_digit : (d ≡ 10 → ⊥) → (is_digit 10 c ≡ true) × (d ≡ digit_of c) × (d < 10)
-  known_digit h =
+-- what a digit's value, if it has one, says of a byte
+module _ (c : ℕ) where
+  pub known_digit : (d : ℕ) → cond (is_digit 10 c) (Some (digit_of c)) None ≡ Some d → (is_digit 10 c ≡ true) × (d ≡ digit_of c) × (d < 10)
+  known_digit d e =
       bool_cases (is_digit 10 c)
       (λ t.
-      let same : d ≡ digit_of c = rw t at e in
-      (t, same, omega (arith, same, digit_below c t)))
-      (λ f. absurd (h (rw f at e)))
+      let same : Some (digit_of c) ≡ Some d = rw t at e in
+      let value : d ≡ digit_of c = cc in
+      (t, value, omega (arith, value, digit_below c t)))
+      (λ f. absurd (let same : None ≡ Some d = rw f at e in cc))
 
-  pub no_digit : d ≡ 10 → is_digit 10 c ≡ false
-  no_digit h =
-      bool_cases (is_digit 10 c)
-      (λ t.
-      let same : d ≡ digit_of c = rw t at e in
-      absurd (omega (arith, same, digit_below c t)))
-      (λ f. f)
+  pub no_digit : cond (is_digit 10 c) (Some (digit_of c)) None ≡ None → is_digit 10 c ≡ false
+  no_digit e = bool_cases (is_digit 10 c) (λ t. absurd (let same : Some (digit_of c) ≡ None = rw t at e in cc)) (λ f. f)
 
 -- digits make no number smaller
 read_grows : (m : ℕ) (cs : List ℕ) → m ≤ read_from 10 m cs
@@ -76,21 +73,19 @@ read_capped m cs =
     omega (arith, read_grows m cs, read_grows (min 1000 m) cs, most))
     (split_lt m 1000)
 
--- the cases of a text: digits, of which there may be none, and others
-pub said_digits : (text : List ℕ) → all_digits 10 text ≡ true
-    → number_said text ≡ record { said = not (eqb (length text) 0); value = min 1000 (read_from 10 0 text) }
+-- the cases of a text: none, digits, and others
+pub said_empty : (text : List ℕ) → length text ≡ 0 → number_said text ≡ None
 unfolding number_said
-said_digits [] e = refl
-said_digits (c ∷ cs) e =
-    let some : 0 < suc (length cs) = omega arith in
-    rw (e, lt-ltb 0 (length (c ∷ cs)) some, ne_eqb (length (c ∷ cs)) 0 (λ z. omega (arith, z, some)))
+said_empty text e = rw (le-ltb 0 (length text) (omega (arith, e)))
 
-pub said_none : (text : List ℕ) → all_digits 10 text ≡ false → number_said text ≡ record { said = false; value = 0 }
+pub said_digits : (text : List ℕ) → 0 < length text → all_digits 10 text ≡ true → number_said text ≡ Some (min 1000 (read_from 10 0 text))
+unfolding number_said
+said_digits text n e = rw (lt-ltb 0 (length text) n, e)
+
+pub said_none : (text : List ℕ) → all_digits 10 text ≡ false → number_said text ≡ None
 unfolding number_said
 said_none text e = bool_cases (ltb 0 (length text)) (λ t. rw (t, e)) (λ f. rw f)
 
-pub said_most : (text : List ℕ) → (number_said text).value ≤ 1000
-said_most text =
-    bool_cases (all_digits 10 text)
-    (λ t. rw (said_digits text t) (omega arith))
-    (λ f. rw (said_none text f) (omega arith))
+pub said_most : (text : List ℕ) (other : ℕ) → IfSome (number_said text) (λ n. (n ≤ 1000) ⊎ (n ≡ other))
+unfolding number_said
+said_most text other = bool_cases (ltb 0 (length text) && all_digits 10 text) (λ t. rw t (inl (omega arith))) (λ f. rw f tt)

@@ -1,7 +1,7 @@
 // What a program is given as arguments: a number, or a file by its path.
 #![tactic(auto)]
 
-ghost use Rattle.std.specs.Prelude.{◌≡◌, cond, ◌⊎◌, ◌+◌, ◌*◌, ◌≤◌, ◌<◌, min};
+ghost use Rattle.std.specs.Prelude.{◌≡◌, cond, ◌⊎◌, ◌≤◌, IfSome};
 ghost use Rattle.std.specs.Io.{ReadsAtMost};
 ghost use Rattle.std.specs.Str.{IsUtf8};
 ghost use Rattle.std.specs.Result.{IsErr};
@@ -10,75 +10,47 @@ ghost use Rattle.text.specs.Number.{digit_of};
 ghost use Rattle.steplog.specs.Digits.{is_digit};
 ghost use Rattle.arguments.specs.Numbers.{number_said};
 
-use input::Input;
+use input::read_full;
 use std::env::FillError;
 use std::io::{Error, ErrorKind, Write};
 use std::rt::{Env, Files};
 use std::{fs, io, str};
 
-// The system's numbers of the errors that an argument is told of with.
+// The system's numbers of the errors that an argument is told of with. Numbers and no kinds of std's, since those have other words for programs to write.
 const EINVAL: i32 = 22;
 
 const ENAMETOOLONG: i32 = 36;
 
-// A number, if digits say one. The value is zero where they don't.
-#[derive(Clone, Copy)]
-pub struct Number {
-    pub said: bool,
-    pub value: u64,
-}
-
-// A decimal digit's value, or 10.
-fn digit(c: u8) -> u64
-    ensures { result ≡ cond (is_digit 10 c) (digit_of c) 10 }
+// A decimal digit's value.
+fn digit(c: u8) -> Option<u64>
+    ensures { result ≡ cond (is_digit 10 c) (Some (digit_of c)) None }
 {
-    if c < b'0' {
-        return 10;
+    if c.is_ascii_digit() {
+        Some(u64::from(c - b'0'))
+    } else {
+        None
     }
-    let d = (c - b'0') as u64;
-    if d < 10 { d } else { 10 }
 }
 
-// A number with one more digit. All numbers from 1,000 on count as 1,000: none of them is a version, a kind or a board.
-fn longer(value: u64, d: u64) -> u64
-    requires { (value ≤ 1000) × (d < 10) }
-    ensures { result ≡ min 1000 (value * 10 + d) }
-{
-    let v = value * 10 + d;
-    if v < 1000 { v } else { 1000 }
-}
-
-// The number that a text says.
-pub fn number_in(text: &[u8]) -> Number
+// The number that a text says, if digits say one. All numbers from 1,000 on count as 1,000: none of them is a version, a kind or a board.
+pub fn number_in(text: &[u8]) -> Option<u64>
     ensures { result ≡ number_said text.now }
 {
+    if text.is_empty() {
+        return None;
+    }
     let mut value: u64 = 0;
-    let mut i: usize = 0;
-    while i < text.len() {
-        let d = digit(text[i]);
-        if d == 10 {
-            return Number {
-                said: false,
-                value: 0,
-            };
-        }
-        value = longer(value, d);
-        i += 1;
+    for &c in text {
+        let d = digit(c)?;
+        value = (value * 10 + d).min(1000);
     }
-    Number {
-        said: text.len() != 0,
-        value,
-    }
+    Some(value)
 }
 
 // Whether there is an argument with this number. The program's own name has number 0.
 pub fn is_given<R: Env>(rt: &R, i: usize) -> bool {
     let mut first = [0u8; 1];
-    match rt.arg(i, &mut first) {
-        Ok(_) => true,
-        Err(FillError::TooLong) => true,
-        Err(FillError::NotPresent) => false,
-    }
+    !matches!(rt.arg(i, &mut first), Err(FillError::NotPresent))
 }
 
 // Puts an argument at the start of buf: how many bytes it has. Where there is none, and where buf hasn't the room, that is an error.
@@ -93,20 +65,14 @@ pub fn text_of<R: Env>(rt: &R, i: usize, buf: &mut [u8]) -> io::Result<usize>
 }
 
 // The number that an argument says, or the other where there is no such argument.
-pub fn argument<R: Env>(rt: &R, i: usize, other: u64) -> Number
-    ensures { (result.value ≤ 1000) ⊎ (result.value ≡ other) }
+pub fn argument<R: Env>(rt: &R, i: usize, other: u64) -> Option<u64>
+    ensures { IfSome result (λ n. (n ≤ 1000) ⊎ (n ≡ other)) }
 {
     let mut text = [0u8; 4096];
     match rt.arg(i, &mut text) {
         Ok(n) => number_in(&text[..n]),
-        Err(FillError::NotPresent) => Number {
-            said: true,
-            value: other,
-        },
-        Err(FillError::TooLong) => Number {
-            said: false,
-            value: 0,
-        },
+        Err(FillError::NotPresent) => Some(other),
+        Err(FillError::TooLong) => None,
     }
 }
 
@@ -160,31 +126,29 @@ pub fn open_file<R: Files>(rt: &R, path: &[u8]) -> io::Result<R::File>
     }
 }
 
-// The bytes of a file, at the start of buf, which may have room for some of them only. A file that can't be read is told of.
+// Reads a file by its path to the start of buf, which may have room for some of its bytes only: how many were read.
+fn read_path<R: Files>(rt: &R, path: &[u8], buf: &mut [u8]) -> io::Result<usize>
+    ensures { ReadsAtMost result buf.new }
+{
+    let mut file = open_file(rt, path)?;
+    read_full(&mut file, buf)
+}
+
+// The same, with a file that can't be read told of.
 pub fn read_file<R: Files + Alloc, W: Write>(
     rt: &R,
     err: &mut W,
     program: &[u8],
     path: &[u8],
     buf: &mut [u8],
-) -> Input
-    ensures { IsPrefixLen result.length buf.new }
+) -> Option<usize>
+    ensures { IfSome result (λ n. IsPrefixLen n buf.new) }
 {
-    match open_file(rt, path) {
-        Ok(mut file) => {
-            let got = input::read_input(&mut file, buf);
-            if let Some(e) = got.why {
-                tell(rt, err, program, path, e);
-            }
-            got
-        }
+    match read_path(rt, path, buf) {
+        Ok(n) => Some(n),
         Err(e) => {
             tell(rt, err, program, path, e);
-            Input {
-                length: 0,
-                failed: true,
-                why: Some(e),
-            }
+            None
         }
     }
 }

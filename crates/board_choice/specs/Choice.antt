@@ -1,26 +1,30 @@
 -- The board that a program's arguments choose, by the settings file that is read and the number that is said. (What a system gives as a file and as an
 -- argument no definition says.)
-use Rattle.std.specs.Prelude.{ℕ, ◌≤◌, cond, ◌&&◌, List, ltb, get_or}
+use Rattle.std.specs.Prelude.{ℕ, ◌≤◌, cond, ltb, get_or, Option, Some, None, Result, Ok, Err}
+use Rattle.refusal.specs.declared.Refusal.{Refusal}
 use Rattle.settings.specs.Boards.{BoardRules}
 use Rattle.settings.specs.declared.Board.{Board}
-use Rattle.arguments.specs.declared.Number.{Number}
 use Rattle.boards.specs.File.{no_board}
-use Rattle.boards.specs.declared.Read.{Read}
-use Rattle.boards.specs.declared.Read.TheVariants as R
 use Rattle.boards.specs.declared.SettingsFile.{SettingsFile}
-use Rattle.board_choice.specs.declared.Choice.{Choice}
-use Rattle.board_choice.specs.declared.Choice.TheVariants.{Told, Refused, Chosen}
+use Rattle.board_choice.specs.declared.NoBoard.{NoBoard}
+use Rattle.board_choice.specs.declared.NoBoard.TheVariants.{Told, Refused}
 
--- boards count from 0. A file that is refused is refused whatever number is said
-abbrev pub choice_by : Number → ℕ → List Board → Read → Choice
-choice_by said count boards (R.Refused number place) = Refused number place
-choice_by said count boards (R.Boards format) = cond (said.said && ltb said.value count) (Chosen (get_or boards said.value no_board)) Told
+-- boards count from 0
+abbrev pub choice_by : SettingsFile → Option ℕ → Result Board NoBoard
+choice_by file None = Err Told
+choice_by file (Some said) = cond (ltb said file.count) (Ok (get_or file.boards said no_board)) (Err Told)
 
-abbrev pub choice_of : SettingsFile → Number → Choice
-choice_of file said = choice_by said file.count file.boards file.read
+-- a file that is refused is refused whatever number is said
+abbrev pub choice_of : Result SettingsFile Refusal → Option ℕ → Result Board NoBoard
+choice_of (Err r) said = Err (Refused r)
+choice_of (Ok file) said = choice_by file said
 
--- a board that is chosen may be set so, and a settings file is refused by 21, 22 or 23
-abbrev pub Allowed : Choice → Type 0
-Allowed Told = Unit {0}
-Allowed (Refused number place) = (21 ≤ number) × (number ≤ 23)
-Allowed (Chosen board) = BoardRules board
+-- a settings file is refused by 21, 22 or 23
+abbrev pub AllowedNone : NoBoard → Type 0
+AllowedNone Told = Unit {0}
+AllowedNone (Refused r) = (21 ≤ r.number) × (r.number ≤ 23)
+
+-- and a board that is chosen may be set so
+abbrev pub Allowed : Result Board NoBoard → Type 0
+Allowed (Err e) = AllowedNone e
+Allowed (Ok board) = BoardRules board

@@ -4,20 +4,29 @@
 ghost use Rattle.std.specs.Prelude.{◌≡◌};
 ghost use Rattle.boards.specs.File.{Kept};
 ghost use Rattle.board_choice.specs.Choice.{choice_of, Allowed};
+ghost use Rattle.board_choice.specs.declared.NoBoard.TheVariants.{Refused};
 
-use arguments::{Number, argument, read_file, tell, text_of};
-use boards::{Read, SettingsFile};
+use arguments::{argument, read_file, tell, text_of};
+use boards::SettingsFile;
+use refusal::Refusal;
 use settings::Board;
 use std::io;
 use std::io::Write;
 use std::rt::{Env, Files};
 
-// What the arguments say: nothing that can be followed, which is told on standard error; a settings file that is refused; or a board.
-#[derive(Clone, Copy)]
-pub enum Choice {
+// Why there is no board: the arguments say nothing that can be followed, which is told on standard error, or the settings file is refused.
+#[derive(Clone, Copy, PartialEq, Eq)]
+pub enum NoBoard {
     Told,
-    Refused { number: usize, place: usize },
-    Chosen(Board),
+    Refused(Refusal),
+}
+
+impl From<Refusal> for NoBoard {
+    ghost from_gives = { λ refusal e. e ≡ Refused refusal };
+
+    fn from(refusal: Refusal) -> NoBoard {
+        NoBoard::Refused(refusal)
+    }
 }
 
 fn write_board<W: Write>(err: &mut W, program: &[u8], count: usize) -> io::Result<()> {
@@ -33,40 +42,25 @@ fn tell_board<W: Write>(err: &mut W, program: &[u8], count: usize) {
     let _ = write_board(err, program, count);
 }
 
-// The board of a file that has been read, by the number that is said.
-fn pick(file: SettingsFile, said: Number) -> Choice
-    requires { Kept file }
-    ensures value { result ≡ choice_of file said }
+// The board of a settings file, by the number that is said. A number that isn't a board's is told of.
+fn pick<W: Write>(
+    err: &mut W,
+    program: &[u8],
+    read: Result<SettingsFile, Refusal>,
+    said: Option<u64>,
+) -> Result<Board, NoBoard>
+    requires { Kept read }
+    ensures value { result ≡ choice_of read said }
     ensures allowed { Allowed result }
 {
-    let read = file.read;
-    let count = file.count;
-    let boards = file.boards;
-    match read {
-        Read::Refused { number, place } => Choice::Refused { number, place },
-        Read::Boards { format } => {
-            if said.said & (said.value < count as u64) {
-                let k = said.value as usize;
-                return Choice::Chosen(boards[k]);
-            }
-            Choice::Told
+    let file = read?;
+    match said {
+        Some(k) if k < file.count as u64 => Ok(file.boards[k as usize]),
+        _ => {
+            tell_board(err, program, file.count);
+            Err(NoBoard::Told)
         }
     }
-}
-
-// The same, with a number that isn't a board's told of.
-fn pick_or_tell<W: Write>(err: &mut W, program: &[u8], file: SettingsFile, said: Number) -> Choice
-    requires { Kept file }
-    ensures value { result ≡ choice_of file said }
-    ensures allowed { Allowed result }
-{
-    let count = file.count;
-    let choice = pick(file, said);
-    match choice {
-        Choice::Told => tell_board(err, program, count),
-        _ => {}
-    }
-    choice
 }
 
 // What the arguments with these numbers say. The file is read first: of a long one 4,096 bytes, which get the answer of the whole (cut-same of
@@ -77,7 +71,7 @@ pub fn chosen<R: Env + Files + Alloc, W: Write>(
     program: &[u8],
     settings: usize,
     board: usize,
-) -> Choice
+) -> Result<Board, NoBoard>
     ensures { Allowed result }
 {
     let mut path = [0u8; 4096];
@@ -85,15 +79,13 @@ pub fn chosen<R: Env + Files + Alloc, W: Write>(
         Ok(n) => n,
         Err(e) => {
             tell(rt, err, program, b"SETTINGS", e);
-            return Choice::Told;
+            return Err(NoBoard::Told);
         }
     };
     let mut space = [0u8; 4096];
-    let got = read_file(rt, err, program, &path[..n], &mut space);
-    if got.failed {
-        return Choice::Told;
-    }
-    let m = got.length;
-    let file = boards::read_settings(&space[..m]);
-    pick_or_tell(err, program, file, argument(rt, board, 0))
+    let Some(m) = read_file(rt, err, program, &path[..n], &mut space) else {
+        return Err(NoBoard::Told);
+    };
+    let read = boards::read_settings(&space[..m]);
+    pick(err, program, read, argument(rt, board, 0))
 }

@@ -1,9 +1,10 @@
 -- What is written reads back, and no two lists of boards have one file (02 [11]): "Both versions are read; only version 2 is written. A version 1 file means 4
 -- and 6, and rewriting it means the same." Assumes nothing.
+use Rattle.std.specs.Prelude.{None, Result, Ok, Err}
 use mathlib.Core.Path.{◌≡◌, refl, sym, ap, ap₂, ◌∙◌, subst}
 use mathlib.Core.Logic.{◌↔◌, ⊎_elim}
 use mathlib.Core.Bool.{true}
-use mathlib.Core.List.{List, ◌++◌}
+use mathlib.Core.List.{List, [], ◌++◌}
 use Prim.Native.Nat.{ℕ, ◌+◌, ◌*◌, ◌-◌, ◌^◌, ◌≤◌, ◌<◌}
 use native.Mathlib.Nat.{mod-eq_of_lt}
 use native.Mathlib.Omega.{arith}
@@ -18,19 +19,17 @@ use Rattle.word.specs.Each.{each}
 use Rattle.word.proofs.EachLaws.{all_intro, length-each, each_at, each_past}
 use Rattle.word.proofs.MemoryLaws.{part_front, length_part, bytes_part, part-splice}
 use Rattle.word.proofs.TestLaws.{bool_cases, contrary}
+use Rattle.refusal.specs.declared.Refusal.{Refusal}
 use Rattle.settings.specs.Boards.{BoardRules, board_ok}
 use Rattle.settings.specs.declared.Board.{Board}
 use Rattle.settings.proofs.SettingsLaws.{board_exact}
 use Rattle.boards.specs.File.{format_of, board_count, offset_at, length_at, format_ok, body_size, start_of, board_at, board_in, entry_ok, table_ok, no_board}
-use Rattle.boards.specs.File.{boards_in, read_of, read_as, AllKept, KeptAs}
+use Rattle.boards.specs.File.{boards_in, read_of, read_as, AllKept, KeptFile}
 use Rattle.boards.specs.Write.{blocks, entry_bytes, body_bytes, file_of, written_of, left_of}
 use Rattle.boards.specs.Rules.{SaysBoards, UnrefusedFile}
 use Rattle.boards.specs.WriteRules.{CountRules, bad_count, no_room, bad_board, UnrefusedWrite}
-use Rattle.boards.specs.declared.Read.{Read}
-use Rattle.boards.specs.declared.Read.TheVariants.{Boards}
 use Rattle.boards.specs.declared.SettingsFile.{SettingsFile}
-use Rattle.boards.specs.declared.Written.TheVariants.{Bytes}
-use Rattle.boards.proofs.FileLaws.{first_none, body_else, start_else, start_most, table_whole, whole_table, read_good, read_kept}
+use Rattle.boards.proofs.FileLaws.{first_none, body_else, start_else, start_most, table_whole, whole_table, read_by, read_kept}
 use Rattle.boards.proofs.RuleLaws.{same_boards, zeros_at, entry_said, table_of, accepted_exact}
 use Rattle.boards.proofs.WriteLaws.{length-blocks, length-entry, length_body, length_file}
 use Rattle.boards.proofs.BlockLaws.{part-behind, part_all, part-part, part_split, part_block, blocks_same, blocks_of}
@@ -227,8 +226,8 @@ module _ (n : ℕ) (boards : List Board) (count : CountRules n) (kept : AllKept 
       let table : table_ok file (format_of file) (board_count file) ≡ true = rw (f, c) (table_back n boards most some) in
       let good : (k : ℕ) → k < n → board_ok (board_in file 2 n k) ≡ true = λ k h. rw (board_back n boards k h (kept k h)) ((board_exact _).1 (kept k h)) in
       let first = first_none (λ k. board_ok (board_in file 2 n k)) n good in
-      read_good file (omega (arith, length_file n boards)) known table 2 n n (sym f) (sym c) (sym first) (omega arith)
-      ∙ ap (λ (l : List Board). record { read = Boards 2; count = n; boards = l }) boards_back
+      read_by file (omega (arith, length_file n boards)) known table 2 n None (sym f) (sym c) (sym first)
+      ∙ ap (λ (l : List Board). Ok (record { format = 2; count = n; boards = l })) boards_back
 
 -- ---- what a write leaves
 
@@ -257,7 +256,7 @@ unrefused n boards room count kept fit i q (no_room z w r) = omega (arith, r, fi
 unrefused n boards room count kept fit i q (bad_board z k h w r) = r (kept k h)
 
 -- The same of the buffer: where a write answers m bytes, the first m of the buffer are then read as the boards that were given.
-pub written_back : (n : ℕ) (boards : List Board) (before : List ℕ) (m : ℕ) → written_of n boards (length before) ≡ Bytes m
+pub written_back : (n : ℕ) (boards : List Board) (before : List ℕ) (m : ℕ) → written_of n boards (length before) ≡ Ok m
     → read_of (take m (left_of n boards before)) ≡ read_as 2 n boards
 unfolding part
 written_back n boards before m e =
@@ -271,46 +270,51 @@ written_back n boards before m e =
 
 -- ---- one file for one list of boards
 
+abbrev count_in : Result SettingsFile Refusal → ℕ
+count_in (Err r) = 0
+count_in (Ok f) = f.count
+
+abbrev list_in : Result SettingsFile Refusal → List Board
+list_in (Err r) = []
+list_in (Ok f) = f.boards
+
 -- No two lists of boards that keep the rules have the same file.
 pub same_file : (n m : ℕ) (l k : List Board) → CountRules n → AllKept n l → CountRules m → AllKept m k → file_of n l ≡ file_of m k
     → (n ≡ m) × (take n l ≡ take m k)
 same_file n m l k cn kn cm km e =
     let same : read_as 2 n l ≡ read_as 2 m k = sym (back n l cn kn) ∙ ap read_of e ∙ back m k cm km in
-    let count : n ≡ m = ap (λ (r : SettingsFile). r.count) same in
+    let count : n ≡ m = ap count_in same in
     let ln : length (take n l) ≡ n = length-take-le n l (there n l kn) in
     let lm : length (take m k) ≡ m = length-take-le m k (there m k km) in (
       count,
       sym (take_at (take n l) (replicate (16 - n) no_board) n ln)
-          ∙ ap (λ (r : SettingsFile). take n r.boards) same
+          ∙ ap (λ r. take n (list_in r)) same
           ∙ take_at (take m k) (replicate (16 - m) no_board) n (omega (arith, lm, count)),
     )
 
 -- ---- a file that is read, and written again
 
-module _ (file : List ℕ) (format : ℕ) (e : (read_of file).read ≡ Boards format) where
+module _ (file : List ℕ) (f : SettingsFile) (e : read_of file ≡ Ok f) where
   abbrev n : ℕ
-  n = (read_of file).count
+  n = f.count
 
   abbrev boards : List Board
-  boards = (read_of file).boards
+  boards = f.boards
 
-  read_whole : read_of file ≡ record { read = Boards format; count = (read_of file).count; boards = (read_of file).boards }
-  read_whole = ap (λ (r : Read). record { read = r; count = n; boards = boards }) e
+  kept_read : KeptFile f
+  kept_read = rw e at (read_kept file)
 
-  kept_read : KeptAs (read_of file).count (read_of file).boards (Boards format)
-  kept_read = subst (KeptAs n boards) e (read_kept file)
+  said : UnrefusedFile file × (f.format ≡ format_of file) × SaysBoards file f.count f.boards
+  said = (accepted_exact file f.format n boards).0 e
 
-  said : UnrefusedFile file × (format ≡ format_of file) × SaysBoards file (read_of file).count (read_of file).boards
-  said = (accepted_exact file format n boards).0 read_whole
-
-  pub read_count : CountRules (read_of file).count
+  pub read_count : CountRules f.count
   read_count = (kept_read.2, kept_read.3)
 
-  pub read_all_kept : AllKept (read_of file).count (read_of file).boards
+  pub read_all_kept : AllKept f.count f.boards
   read_all_kept = kept_read.4
 
   -- what is read has zeros behind its boards
-  read_front : take (read_of file).count (read_of file).boards ++ replicate (16 - (read_of file).count) no_board ≡ (read_of file).boards
+  read_front : take f.count f.boards ++ replicate (16 - f.count) no_board ≡ f.boards
   read_front =
       let s = said.2 in
       let enough : n ≤ length boards = omega (arith, s.sixteen, read_count.1) in
@@ -320,34 +324,34 @@ module _ (file : List ℕ) (format : ℕ) (e : (read_of file).read ≡ Boards fo
       (λ t. let l = ltb-false i n t in front_past n boards enough i l ∙ sym (s.rest i l)))
 
   -- Its boards written again are read as the same boards.
-  pub read_again : read_of (file_of (read_of file).count (read_of file).boards)
-      ≡ record { read = Boards 2; count = (read_of file).count; boards = (read_of file).boards }
-  read_again = back n boards read_count read_all_kept ∙ ap (λ (l : List Board). record { read = Boards 2; count = n; boards = l }) read_front
+  pub read_again : read_of (file_of f.count f.boards)
+      ≡ Ok (record { format = 2; count = f.count; boards = f.boards })
+  read_again = back n boards read_count read_all_kept ∙ ap (λ (l : List Board). Ok (record { format = 2; count = n; boards = l })) read_front
 
   -- And they are written wherever there is room.
-  pub written-room : (room : ℕ) → length (file_of (read_of file).count (read_of file).boards) ≤ room
-      → written_of (read_of file).count (read_of file).boards room ≡ Bytes (length (file_of (read_of file).count (read_of file).boards))
+  pub written-room : (room : ℕ) → length (file_of f.count f.boards) ≤ room
+      → written_of f.count f.boards room ≡ Ok (length (file_of f.count f.boards))
   written-room room fit = W.accepted_write n boards room (unrefused n boards room read_count read_all_kept fit)
 
   -- The first bytes of the buffer are then read as them too.
-  pub rewritten : (before : List ℕ) → length (file_of (read_of file).count (read_of file).boards) ≤ length before
-      → read_of (take (length (file_of (read_of file).count (read_of file).boards)) (left_of (read_of file).count (read_of file).boards before))
-      ≡ record { read = Boards 2; count = (read_of file).count; boards = (read_of file).boards }
+  pub rewritten : (before : List ℕ) → length (file_of f.count f.boards) ≤ length before
+      → read_of (take (length (file_of f.count f.boards)) (left_of f.count f.boards before))
+      ≡ Ok (record { format = 2; count = f.count; boards = f.boards })
   rewritten before fit =
       written_back n boards before (length (file_of n boards)) (written-room (length before) fit)
-      ∙ ap (λ (l : List Board). record { read = Boards 2; count = n; boards = l }) read_front
+      ∙ ap (λ (l : List Board). Ok (record { format = 2; count = n; boards = l })) read_front
 
 -- "A version 1 file means 4 and 6, and rewriting it means the same."
-pub format_1_means : (file : List ℕ) → (read_of file).read ≡ Boards 1
-    → ((k : ℕ) → (get_or (read_of file).boards k no_board).misaligned ≡ 0)
-    × (read_of (file_of (read_of file).count (read_of file).boards) ≡ record { read = Boards 2; count = (read_of file).count; boards = (read_of file).boards })
-format_1_means file e = (means, read_again file 1 e)
+pub format_1_means : (file : List ℕ) (f : SettingsFile) → read_of file ≡ Ok f → f.format ≡ 1
+    → ((k : ℕ) → (get_or f.boards k no_board).misaligned ≡ 0)
+    × (read_of (file_of f.count f.boards) ≡ Ok (record { format = 2; count = f.count; boards = f.boards }))
+format_1_means file f e one = (means, read_again file f e)
   where
-    means : (k : ℕ) → (get_or (read_of file).boards k no_board).misaligned ≡ 0
+    means : (k : ℕ) → (get_or f.boards k no_board).misaligned ≡ 0
     means k =
-        let s = said file 1 e in
-        bool_cases (ltb k (read_of file).count) (λ t. (s.2.each k (ltb-true k (read_of file).count t)).format1 (sym s.1))
-        (λ t. ap (λ (b : Board). b.misaligned) (s.2.rest k (ltb-false k (read_of file).count t)))
+        let s = said file f e in
+        bool_cases (ltb k f.count) (λ t. (s.2.each k (ltb-true k f.count t)).format1 (sym s.1 ∙ one))
+        (λ t. ap (λ (b : Board). b.misaligned) (s.2.rest k (ltb-false k f.count t)))
 
 -- ---- the files of format 2 that are read are those that are written
 
@@ -357,28 +361,28 @@ module _ (file : List ℕ) (bytes : IsBytes file) where
   part_number p m v fit e =
       sym (ap₂ to_le (sym (length_part file p m fit)) (sym e) ∙ to_le-le (part file p m) (bytes_part file p m bytes))
 
-  module _ (e : (read_of file).read ≡ Boards 2) where
+  module _ (f : SettingsFile) (e : read_of file ≡ Ok f) (two : f.format ≡ 2) where
     abbrev m : ℕ
-    m = (read_of file).count
+    m = f.count
 
     is_2 : format_of file ≡ 2
-    is_2 = sym (said file 2 e).1
+    is_2 = sym (said file f e).1 ∙ two
 
-    many : board_count file ≡ (read_of file).count
-    many = sym (said file 2 e).2.many
+    many : board_count file ≡ f.count
+    many = sym (said file f e).2.many
 
-    entry : (k : ℕ) → k < (read_of file).count → (offset_at file k ≡ start_of 2 (read_of file).count k) × (length_at file k ≡ body_size 2)
+    entry : (k : ℕ) → k < f.count → (offset_at file k ≡ start_of 2 f.count k) × (length_at file k ≡ body_size 2)
     entry k h =
-        let s = entry_said file (table_of file (said file 2 e).0) k (omega (arith, h, many)) in
+        let s = entry_said file (table_of file (said file f e).0) k (omega (arith, h, many)) in
         (s.0 ∙ ap₂ (λ (f n : ℕ). start_of f n k) is_2 many, s.1 ∙ ap body_size is_2)
 
-    long : length file ≡ 8 + 12 * (read_of file).count
+    long : length file ≡ 8 + 12 * f.count
     long =
-        let w = table_whole file (format_of file) (board_count file) (table_of file (said file 2 e).0) in
+        let w = table_whole file (format_of file) (board_count file) (table_of file (said file f e).0) in
         w.ends ∙ ap₂ (λ (f n : ℕ). start_of f n n) is_2 many ∙ start_else 2 m m two_not_one ∙ (let s : 8 + 8 * m + 4 * m ≡ 8 + 12 * m = omega arith in s)
 
-    module _ (k : ℕ) (h : k < (read_of file).count) where
-      entry_same : part file (8 + 8 * k) 8 ≡ entry_bytes (read_of file).count k
+    module _ (k : ℕ) (h : k < f.count) where
+      entry_same : part file (8 + 8 * k) 8 ≡ entry_bytes f.count k
       entry_same =
           let q : 8 + 8 * k + 4 ≡ 12 + 8 * k = omega arith in
           part_split file (8 + 8 * k) 4 4
@@ -388,9 +392,9 @@ module _ (file : List ℕ) (bytes : IsBytes file) where
       abbrev at_body : ℕ
       at_body = 8 + 8 * m + 4 * k
 
-      body_same : part file (8 + 8 * (read_of file).count + 4 * k) 4 ≡ body_bytes (get_or (read_of file).boards k no_board)
+      body_same : part file (8 + 8 * f.count + 4 * k) 4 ≡ body_bytes (get_or f.boards k no_board)
       body_same =
-          let s = (said file 2 e).2.each k h in
+          let s = (said file f e).2.each k h in
           let o : offset_at file k ≡ at_body = (entry k h).0 ∙ start_else 2 m k two_not_one in
           let q : at_body + 2 + 1 ≡ at_body + 3 = omega arith in
           part_split file at_body 2 2
@@ -401,7 +405,7 @@ module _ (file : List ℕ) (bytes : IsBytes file) where
           ∙ part_number (at_body + 3) 1 _ (omega (arith, long)) (sym (s.format2 is_2 ∙ ap (λ (p : ℕ). le (part file (p + 3) 1)) o))))
 
     -- A file of format 2 that is read is the one that is written from its boards.
-    pub written_again : file_of (read_of file).count (read_of file).boards ≡ file
+    pub written_again : file_of f.count f.boards ≡ file
     unfolding file_of
     written_again =
         let rest = 8 * m + 4 * m in
@@ -416,8 +420,9 @@ module _ (file : List ℕ) (bytes : IsBytes file) where
 
 -- So the files of format 2 that are read are exactly the files of 1 to 16 boards that keep the rules.
 pub format_2_exact : (file : List ℕ) → IsBytes file
-    → ((read_of file).read ≡ Boards 2) ↔ ((n : ℕ) × (boards : List Board) × CountRules n × AllKept n boards × (file_of n boards ≡ file))
+    → ((f : SettingsFile) × (read_of file ≡ Ok f) × (f.format ≡ 2)) ↔ ((n : ℕ) × (boards : List Board) × CountRules n × AllKept n boards × (file_of n boards ≡ file))
 format_2_exact file bytes = (
-  λ e. ((read_of file).count, (read_of file).boards, read_count file 2 e, read_all_kept file 2 e, written_again file bytes e),
-  λ (n, boards, count, kept, e). ap (λ (r : SettingsFile). r.read) (ap read_of (sym e) ∙ back n boards count kept),
+  λ (f, e, two). (f.count, f.boards, read_count file f e, read_all_kept file f e, written_again file bytes f e two),
+  λ (n, boards, count, kept, e).
+      (record { format = 2; count = n; boards = take n boards ++ replicate (16 - n) no_board }, ap read_of (sym e) ∙ back n boards count kept, refl),
 )

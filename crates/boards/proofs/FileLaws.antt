@@ -1,4 +1,5 @@
 -- The laws of `first_not`, of where bodies start, and of a file read. Assumes nothing.
+use Rattle.std.specs.Prelude.{Option, Some, None, Result}
 use mathlib.Core.Path.{◌≡◌, refl, ap, ap₂, ◌∙◌}
 use mathlib.Core.Bool.{Bool, true, false, ◌&&◌}
 use mathlib.Core.List.{List}
@@ -11,54 +12,59 @@ use lib.ListN.{length, get_or, replicate, length-replicate}
 use borrow.Author.Tests.{ltb-true, ltb-false, leb-true, eqb-true, eqb-false, eq-eqb, ne_eqb, lt-ltb, le-ltb, le-leb, lt-leb}
 use Rattle.word.specs.Each.{all_below}
 use Rattle.word.proofs.EachLaws.{each_at}
-use Rattle.word.proofs.TestLaws.{bool_cases, and_both, and_false, or_either}
+use Rattle.word.proofs.TestLaws.{bool_cases, contrary, and_both, and_false, or_either}
 use Rattle.word.proofs.ChooseLaws.{cond_all, cond_cases}
+use Rattle.refusal.specs.declared.Refusal.{Refusal}
 use Rattle.settings.specs.Boards.{board_ok}
 use Rattle.settings.proofs.SettingsLaws.{board_exact}
-use Rattle.boards.specs.First.{first_not}
+use Rattle.boards.specs.First.{or_next, first_not}
 use Rattle.boards.specs.File.{format_of, board_count, format_ok, body_size, start_of, board_in, entry_ok, table_ok}
 use Rattle.boards.specs.File.{no_board, refused_file, boards_in, by_bodies, read_of, Kept}
-use Rattle.boards.specs.declared.Read.TheVariants.{Boards}
 use Rattle.boards.specs.declared.SettingsFile.{SettingsFile}
 
 -- ---- the first number at which a test fails
 
--- it passes at every number before, and there it fails
-pub first_at : (p : ℕ → Bool) (n k : ℕ) → k < n → ((j : ℕ) → j < k → p j ≡ true) → p k ≡ false → first_not p n ≡ k
-unfolding first_not
-first_at p zero k h f e = absurd (omega arith)
-first_at p (suc n) zero h f e = rw e
-first_at p (suc n) (suc k) h f e =
-    rw (f 0 (omega arith)) (ap suc (first_at (λ j. p (suc j)) n k (omega arith) (λ j l. f (suc j) (omega arith)) e))
+module _ (p : ℕ → Bool) where
+  -- what it is, without a search
+  abbrev pub FirstIs : ℕ → Option ℕ → Type 0
+  FirstIs n (Some k) = (k < n) × (p k ≡ false) × ((j : ℕ) → j < k → p j ≡ true)
+  FirstIs n None = (j : ℕ) → j < n → p j ≡ true
 
-pub first_none : (p : ℕ → Bool) (n : ℕ) → ((j : ℕ) → j < n → p j ≡ true) → first_not p n ≡ n
-unfolding first_not
-first_none p zero f = refl
-first_none p (suc n) f = rw (f 0 (omega arith)) (ap suc (first_none (λ j. p (suc j)) n (λ j l. f (suc j) (omega arith))))
+  next_is : (n : ℕ) (o : Option ℕ) → FirstIs n o → FirstIs (suc n) (or_next p n o)
+  next_is n (Some k) f = (omega (arith, f.0), f.1, f.2)
+  next_is n None f =
+      bool_cases (p n)
+      (λ t.
+      rw t (λ j h. bool_cases (ltb j n) (λ u. f j (ltb-true j n u)) (λ u. let e : j ≡ n = omega (arith, h, ltb-false j n u) in rw e t)))
+      (λ t. rw t (omega arith, t, f))
 
-pub first_within : (p : ℕ → Bool) (n : ℕ) → first_not p n ≤ n
-unfolding first_not
-first_within p zero = omega arith
-first_within p (suc n) =
-    cond_all (λ k. k ≤ suc n) (p 0) _ 0 (let l = first_within (λ k. p (suc k)) n in omega (arith, l)) (omega arith)
+  pub first_is : (n : ℕ) → FirstIs n (first_not p n)
+  unfolding first_not
+  first_is zero = λ j h. absurd (omega (arith, h))
+  first_is (suc n) = next_is n (first_not p n) (first_is n)
 
-pub first_passes : (p : ℕ → Bool) (n j : ℕ) → j < first_not p n → p j ≡ true
-unfolding first_not
-first_passes p zero j h = absurd (omega arith)
-first_passes p (suc n) zero h =
-    bool_cases (p 0) (λ t. t) (λ t. absurd (let l : 0 < 0 = rw t at h in omega (arith, l)))
-first_passes p (suc n) (suc j) h =
-    bool_cases (p 0)
-    (λ t. let l : suc j < suc (first_not (λ k. p (suc k)) n) = rw t at h in first_passes (λ k. p (suc k)) n j (omega (arith, l)))
-    (λ t. absurd (let l : suc j < 0 = rw t at h in omega (arith, l)))
+  pub first_one : (n : ℕ) (a b : Option ℕ) → FirstIs n a → FirstIs n b → a ≡ b
+  first_one n (Some i) (Some k) f g =
+      bool_cases (ltb i k) (λ t. absurd (contrary (g.2 i (ltb-true i k t)) f.1))
+      (λ t.
+      bool_cases (ltb k i) (λ u. absurd (contrary (f.2 k (ltb-true k i u)) g.1))
+      (λ u. let e : i ≡ k = omega (arith, ltb-false i k t, ltb-false k i u) in rw e))
+  first_one n (Some i) None f g = absurd (contrary (g i f.0) f.1)
+  first_one n None (Some k) f g = absurd (contrary (f k g.0) g.1)
+  first_one n None None f g = refl
 
-pub first_fails : (p : ℕ → Bool) (n : ℕ) → first_not p n < n → p (first_not p n) ≡ false
-unfolding first_not
-first_fails p zero h = absurd (omega arith)
-first_fails p (suc n) h =
-    bool_cases (p 0)
-    (λ t. let l : suc (first_not (λ k. p (suc k)) n) < suc n = rw t at h in rw t (first_fails (λ k. p (suc k)) n (omega (arith, l))))
-    (λ t. rw t t)
+  -- so what a search finds, and finds nowhere
+  pub first_at : (n k : ℕ) → k < n → ((j : ℕ) → j < k → p j ≡ true) → p k ≡ false → first_not p n ≡ Some k
+  first_at n k h f e = first_one n (first_not p n) (Some k) (first_is n) (h, e, f)
+
+  pub first_none : (n : ℕ) → ((j : ℕ) → j < n → p j ≡ true) → first_not p n ≡ None
+  first_none n f = first_one n (first_not p n) None (first_is n) f
+
+  pub first_found : (n k : ℕ) → first_not p n ≡ Some k → (k < n) × (p k ≡ false) × ((j : ℕ) → j < k → p j ≡ true)
+  first_found n k e = rw e at (first_is n)
+
+  pub first_all : (n : ℕ) → first_not p n ≡ None → (j : ℕ) → j < n → p j ≡ true
+  first_all n e = rw e at (first_is n)
 
 -- ---- where bodies start
 
@@ -147,7 +153,7 @@ module _ (file : List ℕ) (format n : ℕ) where
 
 module _ (file : List ℕ) where
   -- the first body whose content is bad
-  abbrev pub first_bad : ℕ
+  abbrev pub first_bad : Option ℕ
   first_bad = first_not (λ k. board_ok (board_in file (format_of file) (board_count file) k)) (board_count file)
 
   pub read_short : length file < 8 → read_of file ≡ refused_file 21 0
@@ -168,25 +174,13 @@ module _ (file : List ℕ) where
       unfolding read_of
       read_bodies t = rw (le-ltb _ _ long, known, t)
 
-      module _ (table : table_ok file (format_of file) (board_count file) ≡ true) (f n bad : ℕ) (format : f ≡ format_of file) (count : n ≡ board_count file)
-          (first : bad ≡ first_not (λ k. board_ok (board_in file f n k)) n) where
-        is_first : bad ≡ first_bad
-        is_first = first ∙ ap₂ (λ (f n : ℕ). first_not (λ k. board_ok (board_in file f n k)) n) format count
-
-        pub read_bad : bad < n → read_of file ≡ refused_file 23 (start_of f n bad)
-        read_bad h =
-            let l : first_bad < board_count file = omega (arith, h, is_first, count) in
-            read_bodies table ∙ rw (format, count, is_first, lt-ltb _ _ l)
-
-        pub read_good : n ≤ bad → read_of file ≡ record { read = Boards f; count = n; boards = boards_in file f n }
-        read_good h =
-            let l : board_count file ≤ first_bad = omega (arith, h, is_first, count) in
-            read_bodies table ∙ rw (format, count, le-ltb _ _ l)
+      pub read_by : table_ok file (format_of file) (board_count file) ≡ true → (f n : ℕ) (o : Option ℕ) → f ≡ format_of file → n ≡ board_count file
+          → o ≡ first_not (λ k. board_ok (board_in file f n k)) n → read_of file ≡ by_bodies file f n o
+      read_by table f n o format count first =
+          let is_first : o ≡ first_bad = first ∙ ap₂ (λ (f n : ℕ). first_not (λ k. board_ok (board_in file f n k)) n) format count in
+          read_bodies table ∙ rw (format, count, is_first)
 
   -- ---- what was read keeps the rules
-
-  refused_kept : (number place : ℕ) → 21 ≤ number → number ≤ 23 → Kept (refused_file number place)
-  refused_kept number place l h = (l, h, refl)
 
   module _ (known : format_ok (format_of file) ≡ true) (table : table_ok file (format_of file) (board_count file) ≡ true) where
     board_at_lem : (k : ℕ) → k < board_count file
@@ -197,36 +191,27 @@ module _ (file : List ℕ) where
         each_at (λ k _. board_in file (format_of file) (board_count file) k) (board_count file) k (replicate 16 no_board) no_board h
         (omega (arith, w.most, h, length-replicate 16 no_board))
 
-    bodies_kept : Kept (by_bodies file (format_of file) (board_count file) first_bad)
-    bodies_kept =
-        cond_cases Kept (ltb first_bad (board_count file)) _ _
-        (λ b. refused_kept 23 (start_of (format_of file) (board_count file) first_bad) (omega arith) (omega arith))
-        (λ b.
+    bodies_kept : (o : Option ℕ) → first_bad ≡ o → Kept (by_bodies file (format_of file) (board_count file) o)
+    bodies_kept (Some bad) e = (omega arith, omega arith)
+    bodies_kept None e =
         let w = table_whole file (format_of file) (board_count file) table in
-        let all = ltb-false first_bad (board_count file) b in
+        let all = first_all (λ k. board_ok (board_in file (format_of file) (board_count file) k)) (board_count file) e in
         let f : (1 ≤ format_of file) × (format_of file ≤ 2) =
         ⊎_elim (λ (e : eqb (format_of file) 1 ≡ true). let q = eqb-true (format_of file) 1 e in (omega arith, omega arith))
         (λ (e : eqb (format_of file) 2 ≡ true). let q = eqb-true (format_of file) 2 e in (omega arith, omega arith))
-        (or_either (eqb (format_of file) 1) (eqb (format_of file) 2) known) in (
-          f.0,
-          f.1,
-          w.some,
-          w.most,
-          λ k h.
-              rw (board_at_lem k h)
-              ((board_exact _).0 (first_passes (λ k. board_ok (board_in file (format_of file) (board_count file) k)) (board_count file) k (omega (arith, all, h)))),
-        ))
+        (or_either (eqb (format_of file) 1) (eqb (format_of file) 2) known) in
+        (f.0, f.1, w.some, w.most, λ k h. rw (board_at_lem k h) ((board_exact _).0 (all k h)))
 
   pub read_kept : Kept (read_of file)
   unfolding read_of
   read_kept =
-      cond_cases Kept (ltb (length file) 8) _ _ (λ s. refused_kept 21 0 (omega arith) (omega arith))
+      cond_cases Kept (ltb (length file) 8) _ _ (λ s. (omega arith, omega arith))
       (λ s.
       cond_cases Kept (format_ok (format_of file)) _ _
       (λ f.
-      cond_cases Kept (table_ok file (format_of file) (board_count file)) _ _ (λ t. bodies_kept f t) (λ t. refused_kept 21 0 (omega arith) (omega arith)))
-      (λ f. refused_kept 22 0 (omega arith) (omega arith)))
+      cond_cases Kept (table_ok file (format_of file) (board_count file)) _ _ (λ t. bodies_kept f t first_bad refl) (λ t. (omega arith, omega arith)))
+      (λ f. (omega arith, omega arith)))
 
   -- so the second promise of the reader follows from the first
-  pub read_sound : (r : SettingsFile) → r ≡ read_of file → (r ≡ read_of file) × Kept r
+  pub read_sound : (r : Result SettingsFile Refusal) → r ≡ read_of file → (r ≡ read_of file) × Kept r
   read_sound r e = (e, rw e read_kept)

@@ -1,4 +1,5 @@
 -- A settings file is refused exactly by the rows of 02 [11], the first that applies, at the lowest place where it does. Assumes nothing.
+use Rattle.std.specs.Prelude.{Option, Some, None, Result, Ok, Err}
 use mathlib.Core.Path.{◌≡◌, refl, sym, ap, ap₂, ◌∙◌, subst}
 use mathlib.Core.Logic.{◌↔◌, inl, inr, ⊎_elim}
 use mathlib.Core.Bool.{true, false}
@@ -13,6 +14,7 @@ use Rattle.word.specs.Bytes.{le}
 use Rattle.word.specs.Memory.{part}
 use Rattle.word.proofs.EachLaws.{all_at, all_intro, length-each, each_at, each_past}
 use Rattle.word.proofs.TestLaws.{bool_cases, contrary, never, and_both, or_either}
+use Rattle.refusal.specs.declared.Refusal.{Refusal}
 use Rattle.settings.specs.Boards.{BoardRules, board_ok}
 use Rattle.settings.specs.declared.Board.{Board}
 use Rattle.settings.proofs.SettingsLaws.{board_exact}
@@ -22,11 +24,9 @@ use Rattle.boards.specs.File.{format_of, board_count, offset_at, length_at, form
 use Rattle.boards.specs.File.{refused_file, boards_in, read_of}
 use Rattle.boards.specs.Rules.{FormatRules, BodyLength, TableRules, BodySays, SettingsRow, shorter, bad_format, bad_table, bad_body, number_at}
 use Rattle.boards.specs.Rules.{RefusedBy, UnrefusedFile, SaysBoards}
-use Rattle.boards.specs.declared.Read.{Read}
-use Rattle.boards.specs.declared.Read.TheVariants.{Refused, Boards}
 use Rattle.boards.specs.declared.SettingsFile.{SettingsFile}
-use Rattle.boards.proofs.FileLaws.{first_passes, first_fails, body_1, body_else, start_next, start_first, start_within, start-table}
-use Rattle.boards.proofs.FileLaws.{table_whole, whole_table, first_bad, read_short, read_format, read_table, read_bad, read_good}
+use Rattle.boards.proofs.FileLaws.{first_found, first_all, body_1, body_else, start_next, start_first, start_within, start-table}
+use Rattle.boards.proofs.FileLaws.{table_whole, whole_table, first_bad, read_short, read_format, read_table, read_by}
 
 -- ---- formats and boards
 
@@ -154,8 +154,8 @@ module _ (file : List ℕ) where
   ordered i q (bad_body z k h w y s r) = omega arith
 
   -- the file that is read where no row applies
-  abbrev file_in : SettingsFile
-  file_in = record { read = Boards (format_of file); count = board_count file; boards = boards_in file (format_of file) (board_count file) }
+  abbrev file_in : Result SettingsFile Refusal
+  file_in = Ok (record { format = format_of file; count = board_count file; boards = boards_in file (format_of file) (board_count file) })
 
   -- refused by the first row that applies, at the lowest place, or read
   abbrev Decided : Type 0
@@ -180,45 +180,52 @@ module _ (file : List ℕ) where
           → BoardRules b
       rules_of k h e b s = rw (body_one rules t k h b (board_in file f n k) s (body_says rules t k h)) ((board_exact (board_in file f n k)).0 e)
 
-      not_before : (q : ℕ) → q < offset_at file (first_bad file) → first_bad file < board_count file → SettingsRow file 4 q → ⊥
-      not_before q l b (shorter z w r) = omega arith
-      not_before q l b (bad_format z w r) = omega arith
-      not_before q l b (bad_table z w r) = omega arith
-      not_before q l b (bad_body z k h w y s r) =
-          bool_cases (ltb k (first_bad file))
-          (λ u. r (rules_of k h (first_passes (λ k. board_ok (board_in file f n k)) n k (ltb-true k (first_bad file) u)) y s))
-          (λ u. later (ltb-false k (first_bad file) u))
-        where
-          later : first_bad file ≤ k → ⊥
-          later g =
-              bool_cases (eqb k (first_bad file))
-              (λ e. let same : offset_at file k ≡ offset_at file (first_bad file) = ap (offset_at file) (eqb-true k (first_bad file) e) in omega (arith, l, w, same))
-              (λ e.
-              let up : first_bad file < k = above (first_bad file) k g (eqb-false k (first_bad file) e) in
-              omega (arith, l, w, (entry_said t k h).0, (entry_said t (first_bad file) b).0, start_within f n (first_bad file) k up))
-            where
-              above : (i j : ℕ) → i ≤ j → (j ≡ i → ⊥) → i < j
-              above i j g e = bool_cases (ltb i j) (λ u. ltb-true i j u) (λ u. absurd (e (omega (arith, ltb-false i j u))))
+      module _ (bad : ℕ) (e : first_bad file ≡ Some bad) where
+        found : (bad < board_count file) × (board_ok (board_in file (format_of file) (board_count file) bad) ≡ false)
+            × ((j : ℕ) → j < bad → board_ok (board_in file (format_of file) (board_count file) j) ≡ true)
+        found = first_found (λ k. board_ok (board_in file f n k)) n bad e
 
-      refused_body : first_bad file < board_count file → Decided
-      refused_body b =
-          let bad = board_in file f n (first_bad file) in
-          R.refuses 4 (offset_at file (first_bad file))
-          (read_bad file long known t f n (first_bad file) refl refl refl b ∙ ap (refused_file 23) (sym (entry_said t (first_bad file) b).0))
-          (record {
-            applies =
-                bad_body refl (first_bad file) b refl bad (body_says rules t (first_bad file) b)
-                (λ r. contrary ((board_exact bad).1 r) (first_fails (λ k. board_ok (board_in file f n k)) n b));
-            first = none_below 4 (λ l. long) (λ l. rules) (λ l. (table_exact rules).0 t) (never refl);
-            lowest = λ q l r. not_before q l b r;
-          })
+        not_before : (q : ℕ) → q < offset_at file bad → SettingsRow file 4 q → ⊥
+        not_before q l (shorter z w r) = omega arith
+        not_before q l (bad_format z w r) = omega arith
+        not_before q l (bad_table z w r) = omega arith
+        not_before q l (bad_body z k h w y s r) =
+            bool_cases (ltb k bad)
+            (λ u. r (rules_of k h (found.2 k (ltb-true k bad u)) y s))
+            (λ u. later (ltb-false k bad u))
+          where
+            later : bad ≤ k → ⊥
+            later g =
+                bool_cases (eqb k bad)
+                (λ e. let same : offset_at file k ≡ offset_at file bad = ap (offset_at file) (eqb-true k bad e) in omega (arith, l, w, same))
+                (λ e.
+                let up : bad < k = above bad k g (eqb-false k bad e) in
+                omega (arith, l, w, (entry_said t k h).0, (entry_said t bad found.0).0, start_within f n bad k up))
+              where
+                above : (i j : ℕ) → i ≤ j → (j ≡ i → ⊥) → i < j
+                above i j g e = bool_cases (ltb i j) (λ u. ltb-true i j u) (λ u. absurd (e (omega (arith, ltb-false i j u))))
 
-      accepted_bodies : board_count file ≤ first_bad file → Decided
-      accepted_bodies b =
-          R.accepts (read_good file long known t f n (first_bad file) refl refl refl b)
+        refused_body : Decided
+        refused_body =
+            let board = board_in file f n bad in
+            R.refuses 4 (offset_at file bad)
+            (read_by file long known t f n (Some bad) refl refl (sym e) ∙ ap (refused_file 23) (sym (entry_said t bad found.0).0))
+            (record {
+              applies = bad_body refl bad found.0 refl board (body_says rules t bad found.0) (λ r. contrary ((board_exact board).1 r) found.1);
+              first = none_below 4 (λ l. long) (λ l. rules) (λ l. (table_exact rules).0 t) (never refl);
+              lowest = λ q l r. not_before q l r;
+            })
+
+      accepted_bodies : first_bad file ≡ None → Decided
+      accepted_bodies e =
+          R.accepts (read_by file long known t f n None refl refl (sym e))
           (λ i q r.
           none_below 5 (λ l. long) (λ l. rules) (λ l. (table_exact rules).0 t)
-          (λ l k h y s. rules_of k h (first_passes (λ k. board_ok (board_in file f n k)) n k (omega (arith, b, h))) y s) i q (omega (arith, ordered i q r)) r)
+          (λ l k h y s. rules_of k h (first_all (λ k. board_ok (board_in file f n k)) n e k h) y s) i q (omega (arith, ordered i q r)) r)
+
+      by_first : (o : Option ℕ) → first_bad file ≡ o → Decided
+      by_first (Some bad) e = refused_body bad e
+      by_first None e = accepted_bodies e
 
   pub decided : Decided
   decided =
@@ -236,9 +243,7 @@ module _ (file : List ℕ) where
       bool_cases (format_ok f)
       (λ k.
       bool_cases (table_ok file f n)
-      (λ t.
-      bool_cases (ltb (first_bad file) n) (λ b. refused_body long k t (ltb-true (first_bad file) n b))
-      (λ b. accepted_bodies long k t (ltb-false (first_bad file) n b)))
+      (λ t. by_first long k t (first_bad file) refl)
       (λ t. refused_table long k t))
       (λ k.
       R.refuses 2 0 (read_format file long k)
@@ -250,21 +255,14 @@ module _ (file : List ℕ) where
 
 -- ---- both ways
 
-abbrev refusals : Read → ℕ
-refusals (Refused number place) = 1
-refusals (Boards format) = 0
-
 -- the number of a refusal, or the format
-abbrev number_in : Read → ℕ
-number_in (Refused number place) = number
-number_in (Boards format) = format
+abbrev number_in : Result SettingsFile Refusal → ℕ
+number_in (Err r) = r.number
+number_in (Ok f) = f.format
 
-abbrev place_in : Read → ℕ
-place_in (Refused number place) = place
-place_in (Boards format) = 0
-
-abbrev read_in : SettingsFile → Read
-read_in r = r.read
+abbrev place_in : Result SettingsFile Refusal → ℕ
+place_in (Err r) = r.place
+place_in (Ok f) = 0
 
 module _ (file : List ℕ) where
   -- a refused file has no boards
@@ -273,19 +271,19 @@ module _ (file : List ℕ) where
       R.refused_by (SettingsRow file) (read_of file) (λ o p. refused_file (number_at o) p) (file_in file) (decided file) o place r
       ∙ ap (λ (k : ℕ). refused_file k place) (sym e)
 
-  row_of : Decided file → (number place : ℕ) → (read_of file).read ≡ Refused number place → RefusedBy file number place
+  row_of : Decided file → (number place : ℕ) → read_of file ≡ refused_file number place → RefusedBy file number place
   row_of (R.refuses o p e r) number place q =
-      let z = ap read_in (sym e) ∙ q in
+      let z = sym e ∙ q in
       (o, sym (ap number_in z), subst (FirstRow (SettingsRow file) o) (ap place_in z) r)
-  row_of (R.accepts e u) number place q = let z : ◌≡◌ {A = ℕ} 0 1 = ap refusals (ap read_in (sym e) ∙ q) in absurd (omega (arith, z))
+  row_of (R.accepts e u) number place q = absurd (cc (e, q))
 
   -- 02 [11]: a file is refused by this number at this place exactly if its row is the first that applies, and this the lowest place where it does
-  pub refused_exact : (number place : ℕ) → ((read_of file).read ≡ Refused number place) ↔ RefusedBy file number place
-  refused_exact number place = (row_of (decided file) number place, λ r. ap read_in (refused_file_lem number place r))
+  pub refused_exact : (number place : ℕ) → (read_of file ≡ refused_file number place) ↔ RefusedBy file number place
+  refused_exact number place = (row_of (decided file) number place, refused_file_lem number place)
 
-  no_row_of : Decided file → refusals (read_of file).read ≡ 0 → (read_of file ≡ file_in file) × UnrefusedFile file
-  no_row_of (R.refuses o p e r) q = let z : ◌≡◌ {A = ℕ} 0 1 = sym q ∙ ap refusals (ap read_in e) in absurd (omega (arith, z))
-  no_row_of (R.accepts e u) q = (e, u)
+  no_row_of : Decided file → (g : SettingsFile) → read_of file ≡ Ok g → (read_of file ≡ file_in file) × UnrefusedFile file
+  no_row_of (R.refuses o p e r) g q = absurd (cc (e, q))
+  no_row_of (R.accepts e u) g q = (e, u)
 
   -- ---- the boards of a file that isn't refused
 
@@ -334,21 +332,22 @@ module _ (file : List ℕ) where
   pub accepted_file : UnrefusedFile file → read_of file ≡ file_in file
   accepted_file = R.accepted_by (SettingsRow file) (read_of file) (λ o p. refused_file (number_at o) p) (file_in file) (decided file)
 
+  abbrev SaysIn : Result SettingsFile Refusal → Type 0
+  SaysIn (Err r) = Unit {0}
+  SaysIn (Ok f) = SaysBoards file f.count f.boards
+
   -- and is read exactly if no row applies, with its own format and exactly the boards that its bodies are
   pub accepted_exact : (format count : ℕ) (boards : List Board)
-      → (read_of file ≡ record { read = Boards format; count = count; boards = boards })
+      → (read_of file ≡ Ok (record { format = format; count = count; boards = boards }))
       ↔ (UnrefusedFile file × (format ≡ format_of file) × SaysBoards file count boards)
   accepted_exact format count boards = (
     λ e.
-        let d = no_row_of (decided file) (ap (λ (r : SettingsFile). refusals r.read) e) in
-        let z = sym e ∙ d.0 in (
-          d.1,
-          ap (λ (r : SettingsFile). number_in r.read) z,
-          subst (λ (r : SettingsFile). SaysBoards file r.count r.boards) (sym z) (says_in d.1),
-        ),
+        let d = no_row_of (decided file) _ e in
+        let z = sym e ∙ d.0 in
+        (d.1, ap number_in z, subst SaysIn (sym z) (says_in d.1)),
     λ (u, f, s).
         let b = says_one u count boards s in
         accepted_file u
-        ∙ sym (ap₂ (λ (f n : ℕ). record { read = Boards f; count = n; boards = boards }) f b.0
-        ∙ ap (λ (l : List Board). record { read = Boards (format_of file); count = board_count file; boards = l }) b.1),
+        ∙ sym (ap₂ (λ (f n : ℕ). Ok (record { format = f; count = n; boards = boards })) f b.0
+        ∙ ap (λ (l : List Board). Ok (record { format = format_of file; count = board_count file; boards = l })) b.1),
   )

@@ -1,6 +1,6 @@
 -- The laws of blocks of bytes and of a file written: lengths, one turn of each loop, and what a write leaves. Assumes nothing.
+use Rattle.std.specs.Prelude.{Result}
 use mathlib.Core.Path.{◌≡◌, sym, ap, ◌∙◌}
-use mathlib.Core.Bool.{Bool, true, false, cond}
 use mathlib.Core.List.{List, ◌++◌, append_assoc}
 use Prim.Native.Nat.{ℕ, zero, suc, ◌+◌, ◌*◌, ◌≤◌, ◌<◌}
 use native.Mathlib.Nat.{mul-suc, mul-zero}
@@ -13,11 +13,10 @@ use Rattle.word.specs.Memory.{splice}
 use Rattle.word.proofs.TestLaws.{and_false}
 use Rattle.word.proofs.BytesLaws.{length-to_le}
 use Rattle.word.proofs.MemoryLaws.{splice_none, splice-append}
+use Rattle.refusal.specs.declared.Refusal.{Refusal}
 use Rattle.settings.specs.declared.Board.{Board}
 use Rattle.boards.specs.File.{body_size, start_of, no_board}
-use Rattle.boards.specs.Write.{blocks, entry_bytes, body_bytes, file_of, first_bad_board, written_of, left_by, left_of}
-use Rattle.boards.specs.declared.Written.{Written}
-use Rattle.boards.specs.declared.Written.TheVariants.{Refused, Bytes}
+use Rattle.boards.specs.Write.{blocks, entry_bytes, body_bytes, file_of, first_bad_board, refused_write, by_boards, written_of, left_by, left_of}
 
 -- ---- writes one behind the other
 
@@ -101,36 +100,24 @@ length_file n boards =
 -- ---- what a write answers
 
 module _ (n : ℕ) (boards : List Board) (room : ℕ) where
-  pub write_few : n < 1 → written_of n boards room ≡ Refused 21 0
+  pub write_few : n < 1 → written_of n boards room ≡ refused_write 21 0
   unfolding written_of
   write_few h = rw (lt-leb 1 n h)
 
-  pub write_many : 16 < n → written_of n boards room ≡ Refused 21 0
+  pub write_many : 16 < n → written_of n boards room ≡ refused_write 21 0
   unfolding written_of
   write_many h = rw (lt-leb n 16 h, and_false (leb 1 n))
 
   module _ (some : 1 ≤ n) (most : n ≤ 16) where
-    pub write_short : room < 8 + 12 * n → written_of n boards room ≡ Refused 21 0
+    pub write_short : room < 8 + 12 * n → written_of n boards room ≡ refused_write 21 0
     unfolding written_of
     write_short h = rw (le-leb 1 n some, le-leb n 16 most, lt-ltb _ _ h)
 
-    module _ (fit : 8 + 12 * n ≤ room) where
-      pub write_bad : first_bad_board n boards < n → written_of n boards room ≡ Refused 23 (start_of 2 n (first_bad_board n boards))
-      unfolding written_of
-      write_bad h = rw (le-leb 1 n some, le-leb n 16 most, le-ltb _ _ fit, lt-ltb _ _ h)
-
-      pub write_good : n ≤ first_bad_board n boards → written_of n boards room ≡ Bytes (8 + 12 * n)
-      unfolding written_of
-      write_good h = rw (le-leb 1 n some, le-leb n 16 most, le-ltb _ _ fit, le-ltb _ _ h)
+    pub write_by : 8 + 12 * n ≤ room → written_of n boards room ≡ by_boards n (first_bad_board n boards)
+    unfolding written_of
+    write_by fit = rw (le-leb 1 n some, le-leb n 16 most, le-ltb _ _ fit)
 
 -- the answer tells what is left
-pub answered : (n : ℕ) (boards : List Board) (before after : List ℕ) (w : Written) → written_of n boards (length before) ≡ w
+pub answered : (n : ℕ) (boards : List Board) (before after : List ℕ) (w : Result ℕ Refusal) → written_of n boards (length before) ≡ w
     → after ≡ left_by before (file_of n boards) w → (w ≡ written_of n boards (length before)) × (after ≡ left_of n boards before)
 answered n boards before after w e l = (sym e, l ∙ ap (left_by before (file_of n boards)) (sym e))
-
--- what is put only where it is good
-pub put_none : (good : Bool) (before new after : List ℕ) → after ≡ cond good new before → good ≡ false → after ≡ before
-put_none good before new after e f = e ∙ ap (λ (t : Bool). cond t new before) f
-
-pub put_whole : (good : Bool) (before new after : List ℕ) → after ≡ cond good new before → good ≡ true → after ≡ new
-put_whole good before new after e t = e ∙ ap (λ (t : Bool). cond t new before) t

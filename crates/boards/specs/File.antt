@@ -1,15 +1,15 @@
 -- A settings file read (02 [11]): "A settings file, little-endian, holds version (4 bytes), boards (4, 1 to 16), offset and length (4 each) of every body,
 -- then the bodies without a gap to the end." The file's own version is called its format here, since `version` is that of A.
 -- RULES 16.
-use Rattle.std.specs.Prelude.{◌≡◌, ℕ, ◌+◌, ◌*◌, ◌-◌, ◌≤◌, ◌<◌, Bool, cond, ◌&&◌, ◌||◌, List, ◌++◌, ltb, leb, eqb, length, get_or, take, replicate}
+use Rattle.std.specs.Prelude.{ℕ, ◌+◌, ◌*◌, ◌-◌, ◌≤◌, ◌<◌, Bool, cond, ◌&&◌, ◌||◌, List, ◌++◌, ltb, leb, eqb, length, get_or, take, replicate}
+use Rattle.std.specs.Prelude.{Option, Some, None, Result, Ok, Err}
 use Rattle.word.specs.Bytes.{le}
 use Rattle.word.specs.Memory.{part, field_at}
 use Rattle.word.specs.Each.{each, all_below}
+use Rattle.refusal.specs.declared.Refusal.{Refusal}
 use Rattle.settings.specs.Boards.{BoardRules, board_ok}
 use Rattle.settings.specs.declared.Board.{Board}
 use Rattle.boards.specs.First.{first_not}
-use Rattle.boards.specs.declared.Read.{Read}
-use Rattle.boards.specs.declared.Read.TheVariants.{Refused, Boards}
 use Rattle.boards.specs.declared.SettingsFile.{SettingsFile}
 
 -- "holds version (4 bytes), boards (4, 1 to 16)"
@@ -64,20 +64,20 @@ abbrev pub no_board : Board
 no_board = record { size = 0; version = 0; misaligned = 0 }
 
 -- a refused file has no boards
-abbrev pub refused_file : ℕ → ℕ → SettingsFile
-refused_file number place = record { read = Refused number place; count = 0; boards = replicate 16 no_board }
+abbrev pub refused_file : ℕ → ℕ → Result SettingsFile Refusal
+refused_file number place = Err (record { number = number; place = place })
 
 -- the boards of a file with n of them, in their order
 unfoldable pub boards_in : List ℕ → ℕ → ℕ → List Board
 boards_in file format n = each (λ k _. board_in file format n k) n (replicate 16 no_board)
 
--- "23 a body's content with the first bad body's start", of a file with n bodies, the first bad one of them this; n if none is bad
-abbrev pub by_bodies : List ℕ → ℕ → ℕ → ℕ → SettingsFile
-by_bodies file format n bad =
-    cond (ltb bad n) (refused_file 23 (start_of format n bad)) (record { read = Boards format; count = n; boards = boards_in file format n })
+-- "23 a body's content with the first bad body's start", of a file with n bodies, the first bad one of them this, if one is bad
+abbrev pub by_bodies : List ℕ → ℕ → ℕ → Option ℕ → Result SettingsFile Refusal
+by_bodies file format n (Some bad) = refused_file 23 (start_of format n bad)
+by_bodies file format n None = Ok (record { format = format; count = n; boards = boards_in file format n })
 
 -- "Refusals, in this order: 21 shorter than 8 bytes, 22 version not 1 or 2, 21 again for boards, table or end, 23 a body's content"
-unfoldable pub read_of : List ℕ → SettingsFile
+unfoldable pub read_of : List ℕ → Result SettingsFile Refusal
 read_of file =
     cond (ltb (length file) 8) (refused_file 21 0)
     (cond (format_ok (format_of file))
@@ -88,17 +88,18 @@ read_of file =
     (refused_file 22 0))
 
 -- the first n of these boards, read from a file of this format
-abbrev pub read_as : ℕ → ℕ → List Board → SettingsFile
-read_as format n boards = record { read = Boards format; count = n; boards = take n boards ++ replicate (16 - n) no_board }
+abbrev pub read_as : ℕ → ℕ → List Board → Result SettingsFile Refusal
+read_as format n boards = Ok (record { format = format; count = n; boards = take n boards ++ replicate (16 - n) no_board })
 
 -- each of the first n boards keeps the rules
 abbrev pub AllKept : ℕ → List Board → Type 0
 AllKept n boards = (k : ℕ) → k < n → BoardRules (get_or boards k no_board)
 
--- what holds of every file read. A refusal is 21, 22 or 23 and has no boards; a file that is not refused has 1 to 16, and each of them keeps the rules
-abbrev pub KeptAs : ℕ → List Board → Read → Type 0
-KeptAs count boards (Refused number place) = (21 ≤ number) × (number ≤ 23) × (count ≡ 0)
-KeptAs count boards (Boards format) = (1 ≤ format) × (format ≤ 2) × (1 ≤ count) × (count ≤ 16) × AllKept count boards
+-- what holds of every file that is read: it has 1 to 16 boards, and each of them keeps the rules
+abbrev pub KeptFile : SettingsFile → Type 0
+KeptFile f = (1 ≤ f.format) × (f.format ≤ 2) × (1 ≤ f.count) × (f.count ≤ 16) × AllKept f.count f.boards
 
-abbrev pub Kept : SettingsFile → Type 0
-Kept f = KeptAs f.count f.boards f.read
+-- and of every answer: a refusal is 21, 22 or 23
+abbrev pub Kept : Result SettingsFile Refusal → Type 0
+Kept (Err r) = (21 ≤ r.number) × (r.number ≤ 23)
+Kept (Ok f) = KeptFile f

@@ -1,38 +1,38 @@
 // Settings files of the boards, read and written: refusals 21 to 23. The file's own version is called its format, since `version` is that of A.
 #![tactic(auto)]
 
-ghost use Rattle.std.specs.Prelude.{◌≡◌, ◌+◌, ◌*◌, ◌≤◌, ◌<◌, cond, ◌++◌, eqb, length, get_or};
+ghost use Rattle.std.specs.Prelude.{◌≡◌, ◌+◌, ◌*◌, ◌≤◌, ◌<◌, false, true, cond, ◌++◌, eqb, length, get_or, MatchOption};
 ghost use Rattle.word.specs.Bytes.{le, to_le};
 ghost use Rattle.word.specs.Memory.{part, splice};
 ghost use Rattle.word.specs.Each.{all_below};
 ghost use Rattle.settings.specs.Boards.{board_ok};
 ghost use Rattle.boards.specs.First.{first_not};
-ghost use Rattle.boards.specs.File.{body_size, start_of, board_in, entry_ok, table_ok, no_board, refused_file, boards_in, read_of, Kept};
+ghost use Rattle.boards.specs.File.{body_size, start_of, board_in, entry_ok, table_ok, no_board, boards_in, read_of, Kept};
 ghost use Rattle.boards.specs.Write.{blocks, entry_bytes, body_bytes, file_of, first_bad_board, written_of, left_of};
 
+use refusal::Refusal;
 use settings::Board;
 use word::bytes::{field, load_at, store_at};
 
-// What a file is found to be: refused, at a place counted from its first byte, or boards, in this format.
-#[derive(Clone, Copy)]
-pub enum Read {
-    Refused { number: usize, place: usize },
-    Boards { format: usize },
-}
+// What stands where there is no board.
+pub const NO_BOARD: Board = Board {
+    size: 0,
+    version: 0,
+    misaligned: 0,
+};
 
-// A file read. The boards from count on are zeros, and all of them where it is refused.
+// Refusal 21 of a table, and of a buffer or a number of boards that no table has.
+const NO_TABLE: Refusal = Refusal {
+    number: 21,
+    place: 0,
+};
+
+// A file read. Boards stand in fixed memory: C gets sixteen of them, of which those from count on are zeros.
 #[derive(Clone, Copy)]
 pub struct SettingsFile {
-    pub read: Read,
+    pub format: usize,
     pub count: usize,
     pub boards: [Board; 16],
-}
-
-// What a write answers: refused, with nothing written, or how many bytes the file has.
-#[derive(Clone, Copy)]
-pub enum Written {
-    Refused { number: usize, place: usize },
-    Bytes(usize),
 }
 
 // How many bytes a body has.
@@ -54,46 +54,59 @@ fn start_of(format: usize, count: usize, k: usize) -> usize
     }
 }
 
-// Whether the entry of body k of count has its start and its length.
-fn entry_ok(file: &[u8], format: usize, count: usize, k: usize) -> bool
-    requires { (count ≤ 16) × (k < count) × (8 + 8 * count ≤ length file.now) }
-    ensures { result ≡ entry_ok file.now format count k }
+// A file with the table of so many bodies in a format: it ends where the last of them does.
+#[derive(Clone, Copy)]
+struct Table<'a> {
+    file: &'a [u8],
+    format: usize,
+    count: usize,
+    ghost few: { count ≤ 16 },
+    ghost ends: { length file.now ≡ start_of format count count },
+}
+
+// Whether the entry of body k has its start and its length.
+fn entry_ok(table: Table, k: usize) -> bool
+    requires { k < table.count }
+    ensures { result ≡ entry_ok table.entry.file.now table.entry.format table.entry.count k }
 {
-    let start = start_of(format, count, k);
-    let size = body_size(format);
-    (field(file, 8 + 8 * k) == start) & (field(file, 12 + 8 * k) == size)
+    let start = start_of(table.format, table.count, k);
+    let size = body_size(table.format);
+    (field(table.file, 8 + 8 * k) == start) & (field(table.file, 12 + 8 * k) == size)
 }
 
 // Whether all entries have.
-fn entries_ok(file: &[u8], format: usize, count: usize) -> bool
-    requires { (count ≤ 16) × (8 + 8 * count ≤ length file.now) }
-    ensures { result ≡ all_below (entry_ok file.now format count) count }
+fn entries_ok(table: Table) -> bool
+    ensures { result ≡ all_below (entry_ok table.entry.file.now table.entry.format table.entry.count) table.entry.count }
 {
-    let mut k: usize = 0;
-    while k < count {
-        if !entry_ok(file, format, count, k) {
+    for k in 0..table.count {
+        if !entry_ok(table, k) {
             return false;
         }
-        k += 1;
     }
     true
 }
 
-// Whether the second 21 names neither the number of boards nor the table nor the end. The length is compared before an entry is read, so that each entry
-// lies in the file.
-fn table_ok(file: &[u8], format: usize, count: usize) -> bool
-    ensures { result ≡ table_ok file.now format count }
+// The table of so many bodies; none where the second 21 names the number of boards, the table or the end. The length is compared before an entry is read, so
+// that each entry lies in the file.
+fn table_in<'a>(file: &'a [u8], format: usize, count: usize) -> Option<Table<'a>>
+    ensures { MatchOption result (table_ok file.now format count ≡ false)
+        (λ t. (table_ok file.now format count ≡ true) × (t.file.now ≡ file.now) × (t.format ≡ format) × (t.count ≡ count)) }
 {
     if count < 1 {
-        return false;
+        return None;
     }
     if 16 < count {
-        return false;
+        return None;
     }
     if file.len() != start_of(format, count, count) {
-        return false;
+        return None;
     }
-    entries_ok(file, format, count)
+    let table = Table {
+        file,
+        format,
+        count,
+    };
+    if entries_ok(table) { Some(table) } else { None }
 }
 
 // What the body at start says of a misaligned LR, SC or AMO: one of format 1 has no byte for it and means causes 4 and 6.
@@ -107,111 +120,86 @@ fn misaligned_at(file: &[u8], format: usize, start: usize) -> u64
     load_at(file, start + 3, 1)
 }
 
-// The board that body k of count is.
-fn board_in(file: &[u8], format: usize, count: usize, k: usize) -> Board
-    requires { (count ≤ 16) × (k < count) × (length file.now ≡ start_of format count count) }
-    ensures { result ≡ board_in file.now format count k }
+// The board that body k is.
+fn board_in(table: Table, k: usize) -> Board
+    requires { k < table.count }
+    ensures { result ≡ board_in table.entry.file.now table.entry.format table.entry.count k }
 {
-    let start = start_of(format, count, k);
+    let start = start_of(table.format, table.count, k);
     Board {
-        size: load_at(file, start, 2),
-        version: load_at(file, start + 2, 1),
-        misaligned: misaligned_at(file, format, start),
+        size: load_at(table.file, start, 2),
+        version: load_at(table.file, start + 2, 1),
+        misaligned: misaligned_at(table.file, table.format, start),
     }
 }
 
-// The first body whose content is bad; count if there is none.
-fn first_bad(file: &[u8], format: usize, count: usize) -> usize
-    requires { (count ≤ 16) × (length file.now ≡ start_of format count count) }
-    ensures { result ≡ first_not (λ k. board_ok (board_in file.now format count k)) count }
+// The first body whose content is bad, if one is.
+fn first_bad(table: Table) -> Option<usize>
+    ensures { result ≡ first_not (λ k. board_ok (board_in table.entry.file.now table.entry.format table.entry.count k)) table.entry.count }
 {
-    let mut k: usize = 0;
-    while k < count {
-        if !settings::board_ok(board_in(file, format, count, k)) {
-            return k;
+    for k in 0..table.count {
+        if !settings::board_ok(board_in(table, k)) {
+            return Some(k);
         }
-        k += 1;
     }
-    count
+    None
 }
 
 // The boards of the bodies.
-fn boards_in(file: &[u8], format: usize, count: usize) -> [Board; 16]
-    requires { (count ≤ 16) × (length file.now ≡ start_of format count count) }
-    ensures { result ≡ boards_in file.now format count }
+fn boards_in(table: Table) -> [Board; 16]
+    ensures { result ≡ boards_in table.entry.file.now table.entry.format table.entry.count }
 {
-    let mut boards = [Board {
-        size: 0,
-        version: 0,
-        misaligned: 0,
-    }; 16];
-    let mut k: usize = 0;
-    while k < count {
-        boards[k] = board_in(file, format, count, k);
-        k += 1;
+    let mut boards = [NO_BOARD; 16];
+    for k in 0..table.count {
+        boards[k] = board_in(table, k);
     }
     boards
 }
 
-// A refused file.
-fn refused(number: usize, place: usize) -> SettingsFile
-    ensures { result ≡ refused_file number place }
-{
-    let boards = [Board {
-        size: 0,
-        version: 0,
-        misaligned: 0,
-    }; 16];
-    SettingsFile {
-        read: Read::Refused { number, place },
-        count: 0,
-        boards,
-    }
-}
-
 // The boards of a settings file, or why it has none.
-pub fn read_settings(file: &[u8]) -> SettingsFile
+pub fn read_settings(file: &[u8]) -> Result<SettingsFile, Refusal>
     ensures value { result ≡ read_of file.now }
     ensures kept { Kept result }
 {
     if file.len() < 8 {
-        return refused(21, 0);
+        return Err(NO_TABLE);
     }
     let format = field(file, 0);
     if !((format == 1) | (format == 2)) {
-        return refused(22, 0);
+        return Err(Refusal {
+            number: 22,
+            place: 0,
+        });
     }
     let count = field(file, 4);
-    if !table_ok(file, format, count) {
-        return refused(21, 0);
+    let Some(table) = table_in(file, format, count) else {
+        return Err(NO_TABLE);
+    };
+    if let Some(bad) = first_bad(table) {
+        let start = start_of(table.format, table.count, bad);
+        return Err(Refusal {
+            number: 23,
+            place: start,
+        });
     }
-    let bad = first_bad(file, format, count);
-    if bad < count {
-        let start = start_of(format, count, bad);
-        return refused(23, start);
-    }
-    let boards = boards_in(file, format, count);
-    SettingsFile {
-        read: Read::Boards { format },
-        count,
-        boards,
-    }
+    Ok(SettingsFile {
+        format: table.format,
+        count: table.count,
+        boards: boards_in(table),
+    })
 }
 
-// The first board that no settings file may have; count if there is none.
-fn first_bad_board(count: usize, boards: [Board; 16]) -> usize
+// The first board that no settings file may have, if there is one.
+fn first_bad_board(count: usize, boards: [Board; 16]) -> Option<usize>
     requires { count ≤ 16 }
     ensures { result ≡ first_bad_board count boards }
 {
-    let mut k: usize = 0;
-    while k < count {
-        let board = boards[k];
-        if !settings::board_ok(board) {
-            return k;
+    for k in 0..count {
+        if !settings::board_ok(boards[k]) {
+            return Some(k);
         }
-        k += 1;
     }
-    count
+    None
 }
 
 // Writes an entry of the table: where its body starts, and that it has four bytes.
@@ -228,10 +216,8 @@ fn put_entries(out: &mut [u8], count: usize)
     requires { (count ≤ 16) × (8 + 12 * count ≤ length out.old) }
     ensures { out.new ≡ splice out.old 8 (blocks (entry_bytes count) count) }
 {
-    let mut k: usize = 0;
-    while k < count {
+    for k in 0..count {
         put_entry(out, 8 + 8 * k, start_of(2, count, k));
-        k += 1;
     }
 }
 
@@ -250,56 +236,41 @@ fn put_bodies(out: &mut [u8], count: usize, boards: [Board; 16])
     requires { (count ≤ 16) × (8 + 12 * count ≤ length out.old) }
     ensures { out.new ≡ splice out.old (8 + 8 * count) (blocks (λ k. body_bytes (get_or boards k no_board)) count) }
 {
-    let mut k: usize = 0;
-    while k < count {
-        let board = boards[k];
-        put_body(out, 8 + 8 * count + 4 * k, board);
-        k += 1;
+    for k in 0..count {
+        put_body(out, 8 + 8 * count + 4 * k, boards[k]);
     }
 }
 
-// Writes the file of the first count boards, if it is good; else nothing.
-fn put_if(good: bool, out: &mut [u8], count: usize, boards: [Board; 16])
+// Writes the file of the first count boards.
+fn put_file(out: &mut [u8], count: usize, boards: [Board; 16])
     requires { (count ≤ 16) × (8 + 12 * count ≤ length out.old) }
-    ensures { out.new ≡ cond good (splice out.old 0 (file_of count boards)) out.old }
+    ensures { out.new ≡ splice out.old 0 (file_of count boards) }
 {
-    if good {
-        store_at(out, 0, 4, 2);
-        store_at(out, 4, 4, count as u64);
-        put_entries(out, count);
-        put_bodies(out, count, boards);
-    }
+    store_at(out, 0, 4, 2);
+    store_at(out, 4, 4, count as u64);
+    put_entries(out, count);
+    put_bodies(out, count, boards);
 }
 
-// Writes the settings file of the first count boards to the front of out, or says why there is none. The numbers of a board are judged before they are cut
-// to the bytes of its body.
-pub fn write_settings(count: usize, boards: [Board; 16], out: &mut [u8]) -> Written
+// Writes the settings file of the first count boards to the front of out, and answers how many bytes it has, or says why there is none, with nothing written.
+// The numbers of a board are judged before they are cut to the bytes of its body. A count above sixteen has to be refused, so that it stands beside the boards.
+pub fn write_settings(count: usize, boards: [Board; 16], out: &mut [u8]) -> Result<usize, Refusal>
     ensures value { result ≡ written_of count boards (length out.old) }
     ensures out_after { out.new ≡ left_of count boards out.old }
 {
     if count < 1 {
-        return Written::Refused {
-            number: 21,
-            place: 0,
-        };
+        return Err(NO_TABLE);
     }
     if 16 < count {
-        return Written::Refused {
-            number: 21,
-            place: 0,
-        };
+        return Err(NO_TABLE);
     }
     if out.len() < 8 + 12 * count {
-        return Written::Refused {
-            number: 21,
-            place: 0,
-        };
+        return Err(NO_TABLE);
     }
-    let bad = first_bad_board(count, boards);
-    put_if(bad == count, out, count, boards);
-    if bad < count {
+    if let Some(bad) = first_bad_board(count, boards) {
         let place = start_of(2, count, bad);
-        return Written::Refused { number: 23, place };
+        return Err(Refusal { number: 23, place });
     }
-    Written::Bytes(8 + 12 * count)
+    put_file(out, count, boards);
+    Ok(8 + 12 * count)
 }

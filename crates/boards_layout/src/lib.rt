@@ -1,9 +1,10 @@
 // Boards kept as bytes, 24 for each, as C and Rust keep them: specs/Boards.antt has the offsets.
 #![tactic(auto)]
 
-ghost use Rattle.std.specs.Prelude.{◌≡◌, [], ◌∷◌, ◌+◌, ◌*◌, ◌≤◌, min, length};
+ghost use Rattle.std.specs.Prelude.{◌≡◌, [], ◌∷◌, ◌+◌, ◌*◌, ◌≤◌, length};
 ghost use Rattle.boards_layout.specs.Boards.{board_from, boards_from, boards_bytes};
 
+use boards::NO_BOARD;
 use layout::store_words;
 use settings::Board;
 use word::bytes::load_at;
@@ -20,28 +21,14 @@ fn load_board(bytes: &[u8], place: usize) -> Board
     }
 }
 
-// The smaller of a count of boards and sixteen.
-fn most(count: usize) -> usize
-    ensures { result ≡ min count 16 }
-{
-    if count < 16 { count } else { 16 }
-}
-
 // The first sixteen boards, or all if there are fewer.
 pub fn load_boards(bytes: &[u8], count: usize) -> [Board; 16]
     requires { 24 * count ≤ length bytes.now }
     ensures { result ≡ boards_from bytes.now count }
 {
-    let mut boards = [Board {
-        size: 0,
-        version: 0,
-        misaligned: 0,
-    }; 16];
-    let n = most(count);
-    let mut k: usize = 0;
-    while k < n {
+    let mut boards = [NO_BOARD; 16];
+    for k in 0..count.min(16) {
         boards[k] = load_board(bytes, 24 * k);
-        k += 1;
     }
     boards
 }
@@ -58,11 +45,7 @@ pub fn store_boards(bytes: &mut [u8], boards: [Board; 16])
     requires { length bytes.old ≡ 384 }
     ensures { bytes.new ≡ boards_bytes boards }
 {
-    let mut k: usize = 0;
-    while k < 16 {
-        let board = boards[k];
-        let words = board_words(board);
-        store_words(bytes, 24 * k, &words);
-        k += 1;
+    for k in 0..16 {
+        store_words(bytes, 24 * k, &board_words(boards[k]));
     }
 }

@@ -1,4 +1,5 @@
 -- Who lost a reservation to an event: the bits of its answer, in words, for every machine and every event. Assumes nothing.
+use Rattle.std.specs.Prelude.{Option, Some, None}
 use mathlib.Core.Path.{◌≡◌, refl, sym, ap, subst, ◌∙◌}
 use mathlib.Core.Logic.{◌↔◌, ◌≢◌, ◌⊎◌, inl, inr, ⊎_elim}
 use mathlib.Core.Bool.{true, false, cond, not}
@@ -17,10 +18,8 @@ use Rattle.settings.specs.Settings.{devices_break}
 use Rattle.settings.specs.declared.Settings.{Settings}
 use Rattle.settings.proofs.SettingsLaws.{devices_exact}
 use Rattle.reserve.specs.Range.{touches, set_of}
-use Rattle.reserve.specs.Reserve.{slot, reaches, breaks_of, own_of, observe_of, broken_of, observe_all_of}
+use Rattle.reserve.specs.Reserve.{reaches, breaks_of, own_of, observe_of, broken_of, observe_all_of}
 use Rattle.reserve.specs.declared.Reservation.{Reservation}
-use Rattle.reserve.specs.declared.Reservation.TheVariants.{None, Held}
-use Rattle.reserve.specs.declared.Slot.{Slot}
 use Rattle.reserve.specs.declared.Notice.{Notice}
 use Rattle.reserve.specs.declared.Notice.TheVariants as N
 use Rattle.reserve.proofs.RangeLaws.{touches_exact}
@@ -47,7 +46,7 @@ use Rattle.broken.specs.Broken.{Bit, Reached, by_hart, by_device, Loses, Ended, 
 
 -- ---- the bits are those that the event's notice breaks
 
-act_broken : (settings : Settings) (count : ℕ) (l : List Slot) (act : Act) → broken_after settings count act l ≡ broken_of settings (act_notice act) count l
+act_broken : (settings : Settings) (count : ℕ) (l : List (Option Reservation)) (act : Act) → broken_after settings count act l ≡ broken_of settings (act_notice act) count l
 unfolding observe_all_of
 act_broken settings count l (refuse number) = sym (spared_broken settings N.Quiet (quiet_spares settings) count l)
 act_broken settings count l (fault cause value) = sym (spared_broken settings N.Quiet (quiet_spares settings) count l)
@@ -59,20 +58,11 @@ act_broken settings count l (release h) = refl
 no_bit : (k : ℕ) → Bit k 0 → ⊥
 no_bit k b = omega (arith, ap (λ (q : ℕ). q % 2) (div-eq_of_lt (pow_pos k)), b)
 
-held_none : {P : Type 0} {a w : ℕ} → Held a w ≡ None → P
-held_none q = absurd (subst Holds q tt)
-  where
-    Holds : Reservation → Type 0
-    Holds None = ⊥
-    Holds (Held a w) = Unit {0}
+held_none : {P : Type 0} {r : Reservation} → Some r ≡ None → P
+held_none q = let z : ⊥ = cc in absurd z
 
 step_device : {h b n v : ℕ} → Step h ≡ Device b n v → ⊥
-step_device q = subst Steps q tt
-  where
-    Steps : Event → Type 0
-    Steps (Step h) = Unit {0}
-    Steps (Device b n v) = ⊥
-    Steps (Yield h) = ⊥
+step_device q = cc
 
 -- a hart that writes retires a step
 writes_retire : (base : ℕ) (m : Machine) (e : Event) (g b n : ℕ) → HartWrites base m e g b n → (e ≡ Step g) × IsRetired (outcome_at base m e)
@@ -144,14 +134,14 @@ module _ (base : ℕ) (m : Machine) (e : Event) where
   -- ---- bit by bit
 
   module _ (k : ℕ) where
-    held_breaks : (a w : ℕ) → Valid base m → Reached base m e k a w → breaks_of m.state.settings k (notice_at base m e) (Held a w) ≡ true
+    held_breaks : (r : Reservation) → Valid base m → Reached base m e k r.addr r.width → breaks_of m.state.settings k (notice_at base m e) (Some r) ≡ true
     unfolding breaks_of
-    held_breaks a w v (by_hart g b n d (inl c) t) =
-        rw ((notice_exact base m v e (N.Write g b n)).1 c, ne_eqb g k d, (touches_exact b n (set_of (set_size m) a) (set_size m)).1 t)
-    held_breaks a w v (by_hart g b n d (inr c) t) =
-        rw ((notice_exact base m v e (N.ScStored g b n)).1 c, ne_eqb g k d, (touches_exact b n (set_of (set_size m) a) (set_size m)).1 t)
-    held_breaks a w v (by_device y b n c t) =
-        rw ((notice_exact base m v e (N.DeviceWrite b n)).1 c, (devices_exact m.state.settings).1 y, (touches_exact b n a w).1 t)
+    held_breaks r v (by_hart g b n d (inl c) t) =
+        rw ((notice_exact base m v e (N.Write g b n)).1 c, ne_eqb g k d, (touches_exact b n (set_of (set_size m) r.addr) (set_size m)).1 t)
+    held_breaks r v (by_hart g b n d (inr c) t) =
+        rw ((notice_exact base m v e (N.ScStored g b n)).1 c, ne_eqb g k d, (touches_exact b n (set_of (set_size m) r.addr) (set_size m)).1 t)
+    held_breaks r v (by_device y b n c t) =
+        rw ((notice_exact base m v e (N.DeviceWrite b n)).1 c, (devices_exact m.state.settings).1 y, (touches_exact b n r.addr r.width).1 t)
 
     breaks_held : (n : Notice) → ComesFrom base m e n → (a w : ℕ) → reaches m.state.settings k n a w ≡ true → Reached base m e k a w
     breaks_held N.Quiet c a w t = contrary t refl
@@ -173,21 +163,20 @@ module _ (base : ℕ) (m : Machine) (e : Event) where
     unreached a w r (by_hart g b n d c t) = unrefused (outcome_at base m e) (writes_retire base m e g b n c).1 r
     unreached a w r (by_device y b n c t) = c.taken r
 
-    breaks_loses : Valid base m → k < m.state.count → (r : Reservation) → reservation_of m.state k ≡ r
+    breaks_loses : Valid base m → k < m.state.count → (r : Option Reservation) → reservation_of m.state k ≡ r
         → breaks_of m.state.settings k (notice_at base m e) r ≡ true → Loses base m e k
     unfolding breaks_of
     breaks_loses v u None q t = contrary t refl
-    breaks_loses v u (Held a w) q t =
+    breaks_loses v u (Some r) q t =
         record {
           used = u;
-          addr = a;
-          width = w;
+          reservation = r;
           held = q;
-          reached = breaks_held (notice_at base m e) ((notice_exact base m v e (notice_at base m e)).0 refl) a w t;
+          reached = breaks_held (notice_at base m e) ((notice_exact base m v e (notice_at base m e)).0 refl) r.addr r.width t;
         }
 
     loses_breaks : Valid base m → Loses base m e k → breaks_of m.state.settings k (notice_at base m e) (reservation_of m.state k) ≡ true
-    loses_breaks v l = rw l.held (held_breaks l.addr l.width v l.reached)
+    loses_breaks v l = rw l.held (held_breaks l.reservation v l.reached)
 
     bit_breaks : Bit k (broke_at base m e) ↔ ((k < m.state.count) × (breaks_of m.state.settings k (notice_at base m e) (reservation_of m.state k) ≡ true))
     bit_breaks = rw broke_notice (bit_exact m.state.settings (notice_at base m e) m.state.res m.state.count k)
@@ -202,7 +191,7 @@ module _ (base : ℕ) (m : Machine) (e : Event) where
         ))
         (λ r s. (
           λ b. absurd (bit_zero (refused_breaks_none r) b),
-          λ l. absurd (unreached l.addr l.width r l.reached),
+          λ l. absurd (unreached l.reservation.addr l.reservation.width r l.reached),
         ))
       where
         bit_zero : broke_at base m e ≡ 0 → Bit k (broke_at base m e) → ⊥
@@ -221,20 +210,20 @@ module _ (base : ℕ) (m : Machine) (e : Event) where
 
     -- ---- what is held afterwards
 
-    module _ (a w : ℕ) (held : reservation_of m.state k ≡ Held a w) where
+    module _ (had : Reservation) (held : reservation_of m.state k ≡ Some had) where
       -- a place behind the last one would hold none
       placed : k < length m.state.res
       placed =
           ⊎_elim (λ (l : k < length m.state.res). l)
           (λ (l : length m.state.res ≤ k).
-          held_none (sym held ∙ ap (λ (s : Slot). s.reservation) (get_or-eq_default m.state.res (slot None) l)))
+          held_none (sym held ∙ get_or-eq_default m.state.res None l))
           (split_lt k (length m.state.res))
 
-      after : k < m.state.count → reservation_of (next_of base m e).state k ≡ observe_of m.state.settings k (notice_at base m e) (Held a w)
+      after : k < m.state.count → reservation_of (next_of base m e).state k ≡ observe_of m.state.settings k (notice_at base m e) (Some had)
       unfolding next_of answer_of
       after u = res_apply m.state k (act_of base m.mem m.state e) u placed ∙ ap (observe_of m.state.settings k (notice_at base m e)) held
 
-      broken_none : k < m.state.count → breaks_of m.state.settings k (notice_at base m e) (Held a w) ≡ true → HoldsNone base m e k
+      broken_none : k < m.state.count → breaks_of m.state.settings k (notice_at base m e) (Some had) ≡ true → HoldsNone base m e k
       unfolding observe_of
       broken_none u t = after u ∙ rw t
 
@@ -242,19 +231,19 @@ module _ (base : ℕ) (m : Machine) (e : Event) where
     pub broke_holds_none : Bit k (broke_at base m e) → HoldsNone base m e k
     broke_holds_none b =
         let l = broke_exact.0 b in
-        broken_none l.addr l.width l.held l.used
-        (subst (λ (r : Reservation). breaks_of m.state.settings k (notice_at base m e) r ≡ true) l.held (bit_breaks.0 b).1)
+        broken_none l.reservation l.held l.used
+        (subst (λ (r : Option Reservation). breaks_of m.state.settings k (notice_at base m e) r ≡ true) l.held (bit_breaks.0 b).1)
 
-    module _ (a w : ℕ) (held : reservation_of m.state k ≡ Held a w) where
+    module _ (had : Reservation) (held : reservation_of m.state k ≡ Some had) where
       -- what concerns hart g alone leaves the others'
-      by_hart_lem : {P : Type 0} (g : ℕ) (r : Reservation) → cond (eqb g k) r (Held a w) ≡ None → (g ≡ k → r ≡ None → P) → P
+      by_hart_lem : {P : Type 0} (g : ℕ) (r : Option Reservation) → cond (eqb g k) r (Some had) ≡ None → (g ≡ k → r ≡ None → P) → P
       by_hart_lem g r q own =
           bool_cases (eqb g k) (λ t. own (eqb-true g k t) (rw t at q)) (λ f. held_none (rw f at q))
 
-      own_ends : (n : Notice) → ComesFrom base m e n → own_of k n (Held a w) ≡ None → Ended base m e k
+      own_ends : (n : Notice) → ComesFrom base m e n → own_of k n (Some had) ≡ None → Ended base m e k
       unfolding own_of
       own_ends N.Quiet c q = held_none q
-      own_ends (N.LoadReserved g b v) c q = by_hart_lem g (Held b v) q (λ s x. held_none x)
+      own_ends (N.LoadReserved g b v) c q = by_hart_lem g (Some (record { addr = b; width = v })) q (λ s x. held_none x)
       own_ends (N.ScStored g b n) c q =
           by_hart_lem g None q (λ s x. by_sc (subst (RetiredSc base m e) s (record { sc = c.sc; retires = c.retires; operation = c.operation })))
       own_ends (N.ScFailed g) c q =
@@ -267,16 +256,16 @@ module _ (base : ℕ) (m : Machine) (e : Event) where
       unfolding observe_of
       none_ends v u o =
           let n = notice_at base m e in
-          let seen = sym (after a w held u) ∙ o in
-          bool_cases (breaks_of m.state.settings k n (Held a w))
-          (λ t. by_write (broke_exact.1 (breaks_loses v u (Held a w) held t)))
+          let seen = sym (after had held u) ∙ o in
+          bool_cases (breaks_of m.state.settings k n (Some had))
+          (λ t. by_write (broke_exact.1 (breaks_loses v u (Some had) held t)))
           (λ f. own_ends n ((notice_exact base m v e n).0 refl) (rw f at seen))
 
-      drops : k < m.state.count → (n : Notice) → notice_at base m e ≡ n → own_of k n (Held a w) ≡ None → HoldsNone base m e k
+      drops : k < m.state.count → (n : Notice) → notice_at base m e ≡ n → own_of k n (Some had) ≡ None → HoldsNone base m e k
       unfolding observe_of
       drops u n q o =
-          after a w held u ∙ ap (λ (x : Notice). observe_of m.state.settings k x (Held a w)) q
-          ∙ bool_cases (breaks_of m.state.settings k n (Held a w)) (λ t. rw t) (λ f. rw f o)
+          after had held u ∙ ap (λ (x : Notice). observe_of m.state.settings k x (Some had)) q
+          ∙ bool_cases (breaks_of m.state.settings k n (Some had)) (λ t. rw t) (λ f. rw f o)
 
       ends_none : Valid base m → k < m.state.count → Ended base m e k → HoldsNone base m e k
       unfolding own_of
@@ -297,7 +286,7 @@ module _ (base : ℕ) (m : Machine) (e : Event) where
 
       -- an unused hart's reservation stays
       unused_ends : m.state.count ≤ k → HoldsNone base m e k → ⊥
-      unused_ends u o = held_none (sym held ∙ sym (ap (λ (s : Slot). s.reservation) (unused_res base m e k u)) ∙ o)
+      unused_ends u o = held_none (sym held ∙ sym (unused_res base m e k u) ∙ o)
 
       ended_used : Valid base m → Ended base m e k → k < m.state.count
       ended_used v (by_sc c) = (fetched base m v k (subst (λ (d : Event). IsRetired (outcome_at base m d)) c.retires.the_step c.retires.retired)).0

@@ -1,10 +1,10 @@
 -- Who lost a reservation to an event (02 [3]), in terms of the event, the instruction that a hart's step performs, and the answer, and without tests.
 -- m is the machine that the event is put to.
 -- RULES 5.1.
-use Rattle.std.specs.Prelude.{◌≡◌, ◌≢◌, ℕ, ◌/◌, ◌%◌, ◌^◌, ◌<◌}
+use Rattle.std.specs.Prelude.{◌≡◌, ◌≢◌, ℕ, ◌/◌, ◌%◌, ◌^◌, ◌<◌, Some, None}
 use Rattle.settings.specs.Settings.{DevicesBreak}
 use Rattle.reserve.specs.Range.{Touch, set_of}
-use Rattle.reserve.specs.declared.Reservation.TheVariants.{None, Held}
+use Rattle.reserve.specs.declared.Reservation.{Reservation}
 use Rattle.events.specs.declared.Event.{Event}
 use Rattle.model.specs.Perform.{Machine, set_size, reservation_of, broke_at, next_of}
 use Rattle.notices.specs.Happened.{RetiredSc, HartWrites, DeviceWrites, Yields}
@@ -24,10 +24,9 @@ module _ (base : ℕ) (m : Machine) (e : Event) (k : ℕ) where
   -- hart k is below the count, it holds a reservation, and the event is a write that breaks it
   pub record Loses : Type 0 where
     pub used : k < m.state.count
-    pub addr : ℕ
-    pub width : ℕ
-    pub held : reservation_of m.state k ≡ Held addr width
-    pub reached : Reached addr width
+    pub reservation : Reservation
+    pub held : reservation_of m.state k ≡ Some reservation
+    pub reached : Reached reservation.addr reservation.width
 
   -- how a reservation of hart k ends without another in its place: it retired an SC, or had a yield, or its bit is set
   pub data Ended : Type 0 where

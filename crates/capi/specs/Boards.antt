@@ -1,41 +1,43 @@
 -- Settings files with their boards as bytes: what floecavern_read_settings and floecavern_write_settings leave in the buffers, and their answers.
-use Rattle.std.specs.Prelude.{◌≡◌, List, [], ◌∷◌, ℕ, ◌+◌, ◌/◌, ◌%◌, ◌≤◌, length}
+use Rattle.std.specs.Prelude.{◌≡◌, Result, Ok, Err, List, [], ◌∷◌, ℕ, ◌+◌, ◌/◌, ◌%◌, ◌≤◌, length, replicate}
 use Rattle.word.specs.Bytes.{to_le}
 use Rattle.layout.specs.Layout.{word_bytes}
+use Rattle.refusal.specs.declared.Refusal.{Refusal}
 use Rattle.settings.specs.declared.Board.{Board}
-use Rattle.boards.specs.File.{read_of}
+use Rattle.boards.specs.File.{no_board, read_of}
 use Rattle.boards.specs.Write.{written_of, left_of}
-use Rattle.boards.specs.declared.Read.{Read}
-use Rattle.boards.specs.declared.Read.TheVariants as R
 use Rattle.boards.specs.declared.SettingsFile.{SettingsFile}
-use Rattle.boards.specs.declared.Written.{Written}
-use Rattle.boards.specs.declared.Written.TheVariants as W
 use Rattle.boards_layout.specs.Boards.{boards_from, boards_bytes}
 use Rattle.capi.specs.Answers.{wrong_size}
 
 -- ---- a file read
 
 -- 512 and the number of a refusal, or 0
-abbrev pub read_code : Read → ℕ
-read_code (R.Refused number place) = 512 + number
-read_code (R.Boards format) = 0
+abbrev pub read_code : Result SettingsFile Refusal → ℕ
+read_code (Err r) = 512 + r.number
+read_code (Ok f) = 0
 
 -- the place of a refusal, or the format
-abbrev pub read_first : Read → ℕ
-read_first (R.Refused number place) = place
-read_first (R.Boards format) = format
+abbrev pub read_first : Result SettingsFile Refusal → ℕ
+read_first (Err r) = r.place
+read_first (Ok f) = f.format
 
--- what keeps the answers small
-abbrev pub SmallRead : Read → Type 0
-SmallRead (R.Refused number place) = number ≤ 23
-SmallRead (R.Boards format) = Unit {0}
+-- how many boards there are: a refused file has none
+abbrev pub read_count : Result SettingsFile Refusal → ℕ
+read_count (Err r) = 0
+read_count (Ok f) = f.count
+
+-- sixteen boards, those of the file and zeros behind them
+abbrev pub read_boards : Result SettingsFile Refusal → List Board
+read_boards (Err r) = replicate 16 no_board
+read_boards (Ok f) = f.boards
 
 -- What is left where the file is this: two numbers are told, the format, or the place of a refusal, and how many boards there are; sixteen boards are
 -- written, those of the file and zeros behind them.
-pub record SettingsTold (f : SettingsFile) (r : ℕ) (boards' told' : List ℕ) : Type 0 where
-  pub answer : r ≡ read_code f.read
-  pub numbers : told' ≡ word_bytes (read_first f.read ∷ f.count ∷ [])
-  pub bytes : boards' ≡ boards_bytes f.boards
+pub record SettingsTold (f : Result SettingsFile Refusal) (r : ℕ) (boards' told' : List ℕ) : Type 0 where
+  pub answer : r ≡ read_code f
+  pub numbers : told' ≡ word_bytes (read_first f ∷ read_count f ∷ [])
+  pub bytes : boards' ≡ boards_bytes (read_boards f)
 
 -- What a read leaves, and its answer r. Where the room isn't that of sixteen boards and of two numbers, nothing is written.
 pub record SettingsRead (file boards told : List ℕ) (r : ℕ) (boards' told' : List ℕ) : Type 0 where
@@ -45,18 +47,19 @@ pub record SettingsRead (file boards told : List ℕ) (r : ℕ) (boards' told' :
 -- ---- a file written
 
 -- 512 and the number of a refusal, or 0
-abbrev pub written_code : Written → ℕ
-written_code (W.Refused number place) = 512 + number
-written_code (W.Bytes n) = 0
+abbrev pub written_code : Result ℕ Refusal → ℕ
+written_code (Err r) = 512 + r.number
+written_code (Ok n) = 0
 
 -- the place of a refusal, or how many bytes the file has
-abbrev pub written_told : Written → ℕ
-written_told (W.Refused number place) = place
-written_told (W.Bytes n) = n
+abbrev pub written_told : Result ℕ Refusal → ℕ
+written_told (Err r) = r.place
+written_told (Ok n) = n
 
-abbrev pub SmallWritten : Written → Type 0
-SmallWritten (W.Refused number place) = number ≤ 23
-SmallWritten (W.Bytes n) = Unit {0}
+-- what keeps the answer small
+abbrev pub SmallWritten : Result ℕ Refusal → Type 0
+SmallWritten (Err r) = r.number ≤ 23
+SmallWritten (Ok n) = Unit {0}
 
 -- what is left where n boards are given, the first sixteen of them these
 pub record WriteTold (n : ℕ) (boards : List Board) (out : List ℕ) (r : ℕ) (out' told' : List ℕ) : Type 0 where

@@ -1,18 +1,17 @@
 -- Events and runs on a machine whose state is kept as bytes: the numbers that floecavern_step, floecavern_device_write, floecavern_yield and
 -- floecavern_run answer, and what they leave in the buffers.
-use Rattle.std.specs.Prelude.{◌≡◌, Bool, true, false, cond, List, [], ◌∷◌, ℕ, ◌+◌, ◌*◌, ◌≤◌, ◌<◌, length}
+use Rattle.std.specs.Prelude.{◌≡◌, Bool, true, false, cond, Result, Ok, Err, List, [], ◌∷◌, ℕ, ◌+◌, ◌*◌, ◌≤◌, ◌<◌, length}
 use Rattle.word.specs.Bytes.{to_le, IsBytes}
 use Rattle.word.specs.Memory.{part}
 use Rattle.machine.specs.declared.State.{State}
 use Rattle.layout.specs.Layout.{state_size, state_in, state_over, word_bytes}
 use Rattle.events.specs.declared.Event.{Event}
 use Rattle.model.specs.Perform.{answer_of, memory_of}
-use Rattle.model.specs.Run.{Result, result_of}
+use Rattle.model.specs.Run.{Result as RunResult, result_of}
 use Rattle.model.specs.declared.Outcome.{Outcome}
 use Rattle.model.specs.declared.Outcome.TheVariants.{Retired, ScStored, ScFailed, Trap, Refused}
 use Rattle.model.specs.declared.Answer.{Answer}
-use Rattle.model.specs.declared.Verdict.{Verdict}
-use Rattle.model.specs.declared.Verdict.TheVariants as Run
+use Rattle.refusal.specs.declared.Refusal.{Refusal}
 use Rattle.capi.specs.Answers.{wrong_size}
 
 -- The bytes of a state with those of another put over them, or as they are. layout/specs/Layout.antt says what the bytes mean (state_in) and what is
@@ -72,27 +71,27 @@ pub record PerformedOn (e : Event) (base : ℕ) (state mem value : List ℕ) (r 
 -- ---- a run
 
 -- whether a run performed its events, as a number
-abbrev pub verdict_code : Verdict → ℕ
-verdict_code Run.Performed = 0
-verdict_code (Run.Refused number place) = 512 + number
+abbrev pub verdict_code : Result (Unit {0}) Refusal → ℕ
+verdict_code (Ok x) = 0
+verdict_code (Err r) = 512 + r.number
 
 -- the place of a refusal; 0 for a run that was performed
-abbrev pub place_of : Verdict → ℕ
-place_of Run.Performed = 0
-place_of (Run.Refused number place) = place
+abbrev pub place_of : Result (Unit {0}) Refusal → ℕ
+place_of (Ok x) = 0
+place_of (Err r) = r.place
 
 -- a refused run leaves every byte of the state as it was
-abbrev pub is_performed : Verdict → Bool
-is_performed Run.Performed = true
-is_performed (Run.Refused number place) = false
+abbrev pub is_performed : Result (Unit {0}) Refusal → Bool
+is_performed (Ok x) = true
+is_performed (Err r) = false
 
 -- the same of a run, whose numbers go up to 11
-abbrev pub SmallVerdict : Verdict → Type 0
-SmallVerdict Run.Performed = Unit {0}
-SmallVerdict (Run.Refused number place) = number ≤ 11
+abbrev pub SmallVerdict : Result (Unit {0}) Refusal → Type 0
+SmallVerdict (Ok x) = Unit {0}
+SmallVerdict (Err r) = r.number ≤ 11
 
 -- What is left where the model's result is a. Two numbers are told: how many events were performed, and the place.
-pub record RunTold (a : Result) (state : List ℕ) (r : ℕ) (state' mem' told' : List ℕ) : Type 0 where
+pub record RunTold (a : RunResult) (state : List ℕ) (r : ℕ) (state' mem' told' : List ℕ) : Type 0 where
   pub answer : r ≡ verdict_code a.ran.verdict
   pub numbers : told' ≡ word_bytes (a.ran.performed ∷ place_of a.ran.verdict ∷ [])
   pub bytes : state' ≡ state_if (is_performed a.ran.verdict) state a.ran.state

@@ -17,7 +17,7 @@ is_replayed (Word board model) = true
 is_replayed (Rd board model) = true
 is_replayed (Value board model) = true
 is_replayed (Trap cause value) = true
-is_replayed (Refused number place) = false
+is_replayed (Refused r) = false
 
 -- what keeps the answers to a replay apart, and small: causes go up to 8, the numbers of refusals up to 13, and no refusal has a place
 abbrev pub SmallStop : Stop → Type 0
@@ -28,7 +28,7 @@ SmallStop (Word board model) = Unit {0}
 SmallStop (Rd board model) = Unit {0}
 SmallStop (Value board model) = Unit {0}
 SmallStop (Trap cause value) = cause ≤ 8
-SmallStop (Refused number place) = (number ≤ 13) × (place ≡ 0)
+SmallStop (Refused r) = (r.number ≤ 13) × (r.place ≡ 0)
 
 -- What is left where the model's result is a. Three numbers are told: how many rows there are before the stop, the board's value and the model's.
 pub record ReplayTold (a : Result) (state : List ℕ) (r : ℕ) (state' mem' told' : List ℕ) : Type 0 where

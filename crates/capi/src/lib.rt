@@ -13,7 +13,7 @@ ghost use Rattle.capi.specs.Answers.{Reported, loop_number, loop_answer};
 use retry::LoopAnswer;
 use settings::Settings;
 
-// The answer to arguments of a wrong size.
+// The answer to arguments of a wrong size: a number, since C gets one.
 pub const BAD_SIZE: u64 = 18446744073709551615;
 
 // The text of any bytes: the first r bytes of out are all that the program writes for them where no board is given. 2^64 - 1 if out has
@@ -28,6 +28,7 @@ pub fn floecavern_report(file: &[u8], out: &mut [u8]) -> u64
 }
 
 // The checker's answer as a number.
+#[tactic(auto, using(crate::proofs::LoopLaws::small_check))]
 fn loop_number(settings: Settings, bytes: &[u8]) -> u64
     ensures { result ≡ loop_number (check_of settings (words_of bytes.now (length bytes.now / 4))) }
 {
@@ -39,6 +40,7 @@ fn loop_number(settings: Settings, bytes: &[u8]) -> u64
 }
 
 // Whether words, 4 bytes each and the lowest first, are a retry loop that is accepted. 2^64 - 1 if they are not whole words.
+#[tactic(auto, unfolding(crate::specs::Answers::loop_answer))]
 fn check_words(settings: Settings, words: &[u8]) -> u64
     ensures { result ≡ loop_answer settings words.now }
 {

@@ -1,12 +1,11 @@
 // A log replayed on a machine whose state the caller keeps as bytes.
-ghost use Rattle.std.specs.Prelude.{◌≡◌, [], ◌∷◌, length};
-ghost use Rattle.layout.specs.Layout.{word_bytes};
+ghost use Rattle.std.specs.Prelude.{◌≡◌};
 ghost use Rattle.rows.specs.Numbers.{stop_code, board_of, model_of};
 ghost use Rattle.capi.specs.Replay.{is_replayed, SmallStop, ReplayedOn};
 
 use crate::BAD_SIZE;
-use crate::steps::write_if;
-use layout::{STATE_SIZE, read_state, store_words};
+use crate::steps::{tell, write_if};
+use layout::{STATE_SIZE, read_state};
 use rows::Stop;
 
 // Why a replay ended, as a number.
@@ -22,39 +21,22 @@ fn stop_code(s: Stop) -> u64
         Stop::Trap { cause, .. } => 256 + cause,
         Stop::Rd { .. } => 4,
         Stop::Value { .. } => 5,
-        Stop::Refused { number, .. } => 512 + number,
+        Stop::Refused(r) => 512 + r.number,
     }
 }
 
-// The board's value of a difference, or 0.
-fn board_of(s: Stop) -> u64
-    ensures { result ≡ board_of s }
+// The board's and the model's value of a difference, or zeros; of a trap, its value stands for the model's.
+fn values_of(s: Stop) -> (u64, u64)
+    ensures board { result.0 ≡ board_of s }
+    ensures model { result.1 ≡ model_of s }
 {
     match s {
-        Stop::Agreed => 0,
-        Stop::Form => 0,
-        Stop::Pc { board, .. } => board,
-        Stop::Word { board, .. } => board,
-        Stop::Trap { .. } => 0,
-        Stop::Rd { board, .. } => board,
-        Stop::Value { board, .. } => board,
-        Stop::Refused { .. } => 0,
-    }
-}
-
-// The model's value of a difference, a trap's value, or 0.
-fn model_of(s: Stop) -> u64
-    ensures { result ≡ model_of s }
-{
-    match s {
-        Stop::Agreed => 0,
-        Stop::Form => 0,
-        Stop::Pc { model, .. } => model,
-        Stop::Word { model, .. } => model,
-        Stop::Trap { value, .. } => value,
-        Stop::Rd { model, .. } => model,
-        Stop::Value { model, .. } => model,
-        Stop::Refused { .. } => 0,
+        Stop::Pc { board, model }
+        | Stop::Word { board, model }
+        | Stop::Rd { board, model }
+        | Stop::Value { board, model } => (board, model),
+        Stop::Trap { value, .. } => (0, value),
+        Stop::Agreed | Stop::Form | Stop::Refused(_) => (0, 0),
     }
 }
 
@@ -62,28 +44,11 @@ fn model_of(s: Stop) -> u64
 fn is_replayed(s: Stop) -> bool
     ensures { result ≡ is_replayed s }
 {
-    match s {
-        Stop::Agreed => true,
-        Stop::Form => true,
-        Stop::Pc { .. } => true,
-        Stop::Word { .. } => true,
-        Stop::Trap { .. } => true,
-        Stop::Rd { .. } => true,
-        Stop::Value { .. } => true,
-        Stop::Refused { .. } => false,
-    }
-}
-
-// Writes three numbers.
-fn tell_three(told: &mut [u8], first: u64, second: u64, third: u64)
-    requires { length told.old ≡ 24 }
-    ensures { told.new ≡ word_bytes (first ∷ second ∷ third ∷ []) }
-{
-    let words = [first, second, third];
-    store_words(told, 0, &words);
+    !matches!(s, Stop::Refused(_))
 }
 
 // A log of rows of 48 bytes, up to the first row that does not agree with the model.
+#[tactic(auto, using(crate::proofs::ReplayLaws::small_replay))]
 pub fn floecavern_replay(
     state: &mut [u8],
     base: u64,
@@ -94,17 +59,12 @@ pub fn floecavern_replay(
     ensures { ReplayedOn log.now base state.old mem.old told.old
         result state.new mem.new told.new }
 {
-    if state.len() != STATE_SIZE {
+    if state.len() != STATE_SIZE || told.len() != 24 {
         return BAD_SIZE;
     }
-    if told.len() != 24 {
-        return BAD_SIZE;
-    }
-    let s = read_state(state);
-    let a = rows::replay(s, base, mem, log);
-    let stop = a.stop;
-    let after = a.state;
-    write_if(is_replayed(stop), state, after);
-    tell_three(told, a.rows as u64, board_of(stop), model_of(stop));
-    stop_code(stop)
+    let a = rows::replay(read_state(state), base, mem, log);
+    write_if(is_replayed(a.stop), state, a.state);
+    let (board, model) = values_of(a.stop);
+    tell(told, &[a.rows as u64, board, model]);
+    stop_code(a.stop)
 }

@@ -1,86 +1,51 @@
 // Settings files read and written, with the boards as bytes.
 ghost use Rattle.std.specs.Prelude.{◌≡◌};
-ghost use Rattle.capi.specs.Boards.{read_code, read_first, SmallRead, SettingsRead, written_code, written_told, SmallWritten, SettingsWritten};
+ghost use Rattle.capi.specs.Boards.{SettingsRead, SettingsWritten};
 
 use crate::BAD_SIZE;
 use crate::steps::tell;
-use boards::{Read, Written};
+use boards::NO_BOARD;
 use boards_layout::{load_boards, store_boards};
 use word::bytes::store_le;
-
-// The answer to a file read, as a number.
-fn read_code(r: Read) -> u64
-    requires { SmallRead r }
-    ensures { result ≡ read_code r }
-{
-    match r {
-        Read::Refused { number, .. } => 512 + number as u64,
-        Read::Boards { .. } => 0,
-    }
-}
-
-// The place of a refusal, or the format.
-fn read_first(r: Read) -> u64
-    ensures { result ≡ read_first r }
-{
-    match r {
-        Read::Refused { place, .. } => place as u64,
-        Read::Boards { format } => format as u64,
-    }
-}
 
 // A settings file read: sixteen boards, those that it has and zeros behind them.
 pub fn floecavern_read_settings(file: &[u8], boards: &mut [u8], told: &mut [u8]) -> u64
     ensures { SettingsRead file.now boards.old told.old result boards.new told.new }
 {
-    if boards.len() != 384 {
+    if boards.len() != 384 || told.len() != 16 {
         return BAD_SIZE;
     }
-    if told.len() != 16 {
-        return BAD_SIZE;
-    }
-    let f = boards::read_settings(file);
-    let read = f.read;
-    let found = f.boards;
-    store_boards(boards, found);
-    tell(told, read_first(read), f.count as u64);
-    read_code(read)
-}
-
-// The answer to a file written, as a number.
-fn written_code(w: Written) -> u64
-    requires { SmallWritten w }
-    ensures { result ≡ written_code w }
-{
-    match w {
-        Written::Refused { number, .. } => 512 + number as u64,
-        Written::Bytes(_) => 0,
-    }
-}
-
-// The place of a refusal, or how many bytes the file has.
-fn written_told(w: Written) -> u64
-    ensures { result ≡ written_told w }
-{
-    match w {
-        Written::Refused { place, .. } => place as u64,
-        Written::Bytes(n) => n as u64,
+    match boards::read_settings(file) {
+        Ok(f) => {
+            store_boards(boards, f.boards);
+            tell(told, &[f.format as u64, f.count as u64]);
+            0
+        }
+        Err(r) => {
+            store_boards(boards, [NO_BOARD; 16]);
+            tell(told, &[r.place as u64, 0]);
+            512 + r.number
+        }
     }
 }
 
 // The settings file of boards, 24 bytes each.
+#[tactic(auto, using(crate::proofs::BoardLaws::small_written))]
 pub fn floecavern_write_settings(boards: &[u8], out: &mut [u8], told: &mut [u8]) -> u64
     ensures { SettingsWritten boards.now out.old told.old result out.new told.new }
 {
-    if boards.len() % 24 != 0 {
-        return BAD_SIZE;
-    }
-    if told.len() != 8 {
+    if boards.len() % 24 != 0 || told.len() != 8 {
         return BAD_SIZE;
     }
     let count = boards.len() / 24;
-    let given = load_boards(boards, count);
-    let w = boards::write_settings(count, given, out);
-    store_le(told, written_told(w));
-    written_code(w)
+    match boards::write_settings(count, load_boards(boards, count), out) {
+        Ok(n) => {
+            store_le(told, n as u64);
+            0
+        }
+        Err(r) => {
+            store_le(told, r.place as u64);
+            512 + r.number
+        }
+    }
 }

@@ -1,14 +1,14 @@
 // Events and runs on a machine whose state the caller keeps as bytes. layout/specs/Layout.antt has the offsets.
-ghost use Rattle.std.specs.Prelude.{◌≡◌, [], ◌∷◌, length};
+ghost use Rattle.std.specs.Prelude.{◌≡◌, ◌*◌, length};
 ghost use Rattle.events.specs.declared.Event.TheVariants.{Step, Device, Yield};
 ghost use Rattle.layout.specs.Layout.{state_size, word_bytes};
-ghost use Rattle.capi.specs.Events.{state_if, code_of, value_of, is_retired, Small, PerformedOn, verdict_code, place_of, is_performed, SmallVerdict, RanOn};
+ghost use Rattle.capi.specs.Events.{state_if, code_of, value_of, is_retired, Small, PerformedOn, RanOn};
 
 use crate::BAD_SIZE;
 use events::Event;
 use layout::{STATE_SIZE, read_state, store_words, write_state};
 use machine::State;
-use model::{Outcome, Verdict};
+use model::Outcome;
 use word::bytes::store_le;
 
 // The answer to an event as a number.
@@ -30,9 +30,7 @@ fn value_of(o: Outcome, broke: u64) -> u64
     ensures { result ≡ value_of o broke }
 {
     match o {
-        Outcome::Retired => broke,
-        Outcome::ScStored => broke,
-        Outcome::ScFailed => broke,
+        Outcome::Retired | Outcome::ScStored | Outcome::ScFailed => broke,
         Outcome::Trap { value, .. } => value,
         Outcome::Refused { .. } => 0,
     }
@@ -42,16 +40,10 @@ fn value_of(o: Outcome, broke: u64) -> u64
 fn is_retired(o: Outcome) -> bool
     ensures { result ≡ is_retired o }
 {
-    match o {
-        Outcome::Retired => true,
-        Outcome::ScStored => true,
-        Outcome::ScFailed => true,
-        Outcome::Trap { .. } => false,
-        Outcome::Refused { .. } => false,
-    }
+    matches!(o, Outcome::Retired | Outcome::ScStored | Outcome::ScFailed)
 }
 
-// Puts a state over the bytes if t holds.
+// Puts a state over the bytes if t holds. The bytes are a slice that C lends, so their length is asked here and in `layout`, and tried in the functions for C.
 pub fn write_if(t: bool, state: &mut [u8], s: State)
     requires { length state.old ≡ state_size }
     ensures { state.new ≡ state_if t state.old s }
@@ -62,23 +54,18 @@ pub fn write_if(t: bool, state: &mut [u8], s: State)
 }
 
 // An event on the machine that the bytes are.
+#[tactic(auto, using(crate::proofs::EventLaws::small_answer))]
 fn perform(state: &mut [u8], base: u64, mem: &mut [u8], e: Event, value: &mut [u8]) -> u64
     ensures { PerformedOn e base state.old mem.old value.old
         result state.new mem.new value.new }
 {
-    if state.len() != STATE_SIZE {
+    if state.len() != STATE_SIZE || value.len() != 8 {
         return BAD_SIZE;
     }
-    if value.len() != 8 {
-        return BAD_SIZE;
-    }
-    let s = read_state(state);
-    let a = model::perform(s, base, mem, e);
-    let outcome = a.outcome;
-    let after = a.state;
-    write_if(is_retired(outcome), state, after);
-    store_le(value, value_of(outcome, a.broke));
-    code_of(outcome)
+    let a = model::perform(read_state(state), base, mem, e);
+    write_if(is_retired(a.outcome), state, a.state);
+    store_le(value, value_of(a.outcome, a.broke));
+    code_of(a.outcome)
 }
 
 // A step of a hart.
@@ -125,47 +112,16 @@ pub fn floecavern_yield(
     perform(state, base, mem, Event::Yield { hart }, value)
 }
 
-// Whether a run performed its events, as a number.
-fn verdict_code(v: Verdict) -> u64
-    requires { SmallVerdict v }
-    ensures { result ≡ verdict_code v }
+// Writes numbers, 8 bytes for each.
+pub fn tell(told: &mut [u8], numbers: &[u64])
+    requires { length told.old ≡ 8 * length numbers.now }
+    ensures { told.new ≡ word_bytes numbers.now }
 {
-    match v {
-        Verdict::Performed => 0,
-        Verdict::Refused { number, .. } => 512 + number,
-    }
-}
-
-// The place of a refusal, or 0.
-fn place_of(v: Verdict) -> usize
-    ensures { result ≡ place_of v }
-{
-    match v {
-        Verdict::Performed => 0,
-        Verdict::Refused { place, .. } => place,
-    }
-}
-
-// Whether a run changed the machine.
-fn is_performed(v: Verdict) -> bool
-    ensures { result ≡ is_performed v }
-{
-    match v {
-        Verdict::Performed => true,
-        Verdict::Refused { .. } => false,
-    }
-}
-
-// Writes two numbers.
-pub fn tell(told: &mut [u8], first: u64, second: u64)
-    requires { length told.old ≡ 16 }
-    ensures { told.new ≡ word_bytes (first ∷ second ∷ []) }
-{
-    let words = [first, second];
-    store_words(told, 0, &words);
+    store_words(told, 0, numbers);
 }
 
 // A run of at most budget events of an events body.
+#[tactic(auto, using(crate::proofs::EventLaws::small_result))]
 pub fn floecavern_run(
     state: &mut [u8],
     base: u64,
@@ -177,17 +133,19 @@ pub fn floecavern_run(
     ensures { RanOn events.now budget base state.old mem.old ran.old
         result state.new mem.new ran.new }
 {
-    if state.len() != STATE_SIZE {
+    if state.len() != STATE_SIZE || ran.len() != 16 {
         return BAD_SIZE;
     }
-    if ran.len() != 16 {
-        return BAD_SIZE;
+    let a = model::run::run(read_state(state), base, mem, events, budget);
+    match a.verdict {
+        Ok(()) => {
+            write_state(state, a.state);
+            tell(ran, &[a.performed as u64, 0]);
+            0
+        }
+        Err(r) => {
+            tell(ran, &[a.performed as u64, r.place as u64]);
+            512 + r.number
+        }
     }
-    let s = read_state(state);
-    let a = model::run::run(s, base, mem, events, budget);
-    let verdict = a.verdict;
-    let after = a.state;
-    write_if(is_performed(verdict), state, after);
-    tell(ran, a.performed as u64, place_of(verdict) as u64);
-    verdict_code(verdict)
 }

@@ -1,4 +1,5 @@
 -- A settings file that a call writes is read by another call as the same boards. Assumes nothing.
+use Rattle.std.specs.Prelude.{Result, Ok, Err}
 use mathlib.Core.Path.{◌≡◌, refl, sym, ap, ◌∙◌, subst}
 use mathlib.Core.Logic.{⊎_elim}
 use mathlib.Core.List.{List, [], ◌∷◌}
@@ -13,14 +14,13 @@ use Rattle.boards.specs.File.{no_board, read_of, read_as, AllKept}
 use Rattle.boards.specs.Write.{file_of, written_of, left_of}
 use Rattle.boards.specs.WriteRules.{UnrefusedWrite}
 use Rattle.boards.specs.declared.SettingsFile.{SettingsFile}
-use Rattle.boards.specs.declared.Written.{Written}
-use Rattle.boards.specs.declared.Written.TheVariants as W
+use Rattle.refusal.specs.declared.Refusal.{Refusal}
 use Rattle.boards.proofs.Back.{there, front_at, count_of, kept_of, written_back}
 use Rattle.boards.proofs.WriteLaws.{length_file}
 use Rattle.boards.proofs.WriteRuleLaws as R
 use Rattle.boards_layout.specs.Boards.{board_from, boards_from, boards_bytes}
 use Rattle.boards_layout.proofs.BoardLaws.{Wide, boards_back}
-use Rattle.capi.specs.Boards.{written_code, read_code, read_first, SettingsRead, SettingsWritten}
+use Rattle.capi.specs.Boards.{written_code, read_code, read_first, read_count, read_boards as boards_of, SettingsRead, SettingsWritten}
 
 -- a board that is allowed has small numbers
 kept_wide : (b : Board) → BoardRules b → Wide b
@@ -32,9 +32,9 @@ kept_wide b r =
     }
 
 -- 0 is no refusal
-written_is : (w : Written) → written_code w ≡ 0 → (m : ℕ) × (w ≡ W.Bytes m)
-written_is (W.Refused number place) e = absurd (omega (arith, e))
-written_is (W.Bytes m) e = (m, refl)
+written_is : (w : Result ℕ Refusal) → written_code w ≡ 0 → (m : ℕ) × (w ≡ Ok m)
+written_is (Err r) e = absurd (omega (arith, e))
+written_is (Ok m) e = (m, refl)
 
 -- a board as it stands in the bytes that were given
 given_at : (bytes : List ℕ) (n k : ℕ) → n ≤ 16 → k < n → get_or (boards_from bytes n) k no_board ≡ board_from bytes (24 * k)
@@ -51,7 +51,7 @@ module _ (boards out told : List ℕ) (out' told' : List ℕ) (w : SettingsWritt
   abbrev given : List Board
   given = boards_from boards n
 
-  found : (m : ℕ) × (written_of n given (length out) ≡ W.Bytes m)
+  found : (m : ℕ) × (written_of n given (length out) ≡ Ok m)
   found = written_is (written_of n given (length out)) (sym (w.right whole one).answer)
 
   unrefused : UnrefusedWrite n given (length out) × (found.0 ≡ length (file_of n given))
@@ -77,15 +77,15 @@ module _ (boards out told : List ℕ) (out' told' : List ℕ) (w : SettingsWritt
     -- the read answers 0, and tells format 2 and as many boards
     pub read_answers : (r ≡ 0) × (two' ≡ word_bytes (2 ∷ n ∷ []))
     read_answers = (
-      (read.right sixteen both).answer ∙ ap (λ (f : SettingsFile). read_code f.read) file_reads,
-      (read.right sixteen both).numbers ∙ ap (λ (f : SettingsFile). word_bytes (read_first f.read ∷ f.count ∷ [])) file_reads,
+      (read.right sixteen both).answer ∙ ap read_code file_reads,
+      (read.right sixteen both).numbers ∙ ap (λ (f : Result SettingsFile Refusal). word_bytes (read_first f ∷ read_count f ∷ [])) file_reads,
     )
 
     -- and each board is the one that was given
     pub read_boards : (k : ℕ) → k < n → board_from room' (24 * k) ≡ board_from boards (24 * k)
     read_boards k l =
-        let at : get_or (read_as 2 n given).boards k no_board ≡ get_or given k no_board = front_at n given (there n given kept) k l in
-        let wide : Wide (get_or (read_as 2 n given).boards k no_board) = subst Wide (sym at) (kept_wide (get_or given k no_board) (kept k l)) in
-        ap (λ (b : List ℕ). board_from b (24 * k)) ((read.right sixteen both).bytes ∙ ap (λ (f : SettingsFile). boards_bytes f.boards) file_reads)
-        ∙ boards_back (read_as 2 n given).boards k (omega (arith, few, l)) wide
+        let at : get_or (boards_of (read_as 2 n given)) k no_board ≡ get_or given k no_board = front_at n given (there n given kept) k l in
+        let wide : Wide (get_or (boards_of (read_as 2 n given)) k no_board) = subst Wide (sym at) (kept_wide (get_or given k no_board) (kept k l)) in
+        ap (λ (b : List ℕ). board_from b (24 * k)) ((read.right sixteen both).bytes ∙ ap (λ (f : Result SettingsFile Refusal). boards_bytes (boards_of f)) file_reads)
+        ∙ boards_back (boards_of (read_as 2 n given)) k (omega (arith, few, l)) wide
         ∙ at ∙ given_at boards n k few l

@@ -1,5 +1,6 @@
 -- What the contracts of events and runs come to for a caller who performs one after another. Assumes nothing; that buffers hold bytes (IsBytes), which
 -- the theorems ask, their type says.
+use Rattle.std.specs.Prelude.{Ok, Err, None}
 use mathlib.Core.Path.{◌≡◌, refl, sym, ap, ap₂, ◌∙◌, subst}
 use mathlib.Core.Bool.{Bool, true, false, cond}
 use mathlib.Core.List.{List, [], ◌∷◌}
@@ -11,9 +12,6 @@ use borrow.Author.Tests.{eqb-true, eqb-false}
 use Rattle.word.specs.Bytes.{IsBytes}
 use Rattle.word.specs.Memory.{part}
 use Rattle.word.proofs.TestLaws.{bool_cases}
-use Rattle.reserve.specs.Reserve.{slot}
-use Rattle.reserve.specs.declared.Reservation.TheVariants.{None}
-use Rattle.reserve.specs.declared.Slot.{Slot}
 use Rattle.machine.specs.Rules.{Shaped}
 use Rattle.machine.specs.State.{refusal_of}
 use Rattle.machine.specs.declared.State.{State}
@@ -21,10 +19,8 @@ use Rattle.layout.specs.Layout.{state_size, state_in, state_over}
 use Rattle.layout.proofs.Back.{count_in, settings_in_lem, register_in, pc_in, reservation_in_lem, shaped_in, ranged_in}
 use Rattle.layout.proofs.Back.{count_kept, settings_kept, register_kept, pc_kept, reservation_kept, read_back}
 use Rattle.effect.specs.Execute.{reg_at}
-use Rattle.events.specs.Events.{checked_of, events_of}
+use Rattle.events.specs.Events.{Checked, checked_of, events_of}
 use Rattle.events.specs.declared.Event.{Event}
-use Rattle.events.specs.declared.Checked.{Checked}
-use Rattle.events.specs.declared.Checked.TheVariants.{Good, Bad}
 use Rattle.model.specs.Perform.{Machine, answer_of, next_of, run_of}
 use Rattle.model.specs.Run.{Result, refused_run, performed_run, performed_count, run_checked, result_of}
 use Rattle.model.specs.declared.Answer.{Answer}
@@ -115,7 +111,7 @@ module _ (e : Event) (base : ℕ) (state mem value : List ℕ) (r : ℕ) (state'
         (λ f. sym (unretired_keeps base mem (state_in state) e (kind_of_lem answer.outcome f)).0)
         (read_back state whole answer.state (ranged_answer base mem b (state_in state) e (ranged_in state bytes))
         (sym (count_next base m e ∙ count_in state)) (sym (settings_next base m e ∙ settings_in_lem state))
-        (λ k u l. ap (λ (c : Slot). c.reservation) (unused_res base m e k (rw (count_next base m e) at u)) ∙ reservation_in_lem state k l))
+        (λ k u l. unused_res base m e k (rw (count_next base m e) at u) ∙ reservation_in_lem state k l))
 
     -- 01: "unused harts' fields aren't looked at and never change": none of their bytes does
     pub event_unused : (h : ℕ) → (state_in state).count ≤ h → h < 8 → HartKept h state state'
@@ -153,8 +149,8 @@ unfolding result_of
 result_all base mem s body budget P f g = go (eqb (refusal_of base (length mem) s) 0)
   where
     checked : (c : Checked) → P (run_checked c base mem s body budget)
-    checked Good = g (performed_count body budget) (take (performed_count body budget) (events_of body))
-    checked (Bad place) = f 11 place
+    checked (Ok x) = g (performed_count body budget) (take (performed_count body budget) (events_of body))
+    checked (Err place) = f 11 place
 
     go : (t : Bool)
         → P (cond t (run_checked (checked_of s.count base (length mem) body) base mem s body budget) (refused_run (refusal_of base (length mem) s) 0 s mem))
@@ -162,7 +158,7 @@ result_all base mem s body budget P f g = go (eqb (refusal_of base (length mem) 
     go false = f (refusal_of base (length mem) s) 0
 
 module _ (base : ℕ) (k : ℕ) where
-  pub run_res : (m : Machine) (es : List Event) → m.state.count ≤ k → get_or (run_of base m es).state.res k (slot None) ≡ get_or m.state.res k (slot None)
+  pub run_res : (m : Machine) (es : List Event) → m.state.count ≤ k → get_or (run_of base m es).state.res k None ≡ get_or m.state.res k None
   unfolding run_of
   run_res m [] u = refl
   run_res m (e ∷ es) u = run_res (next_of base m e) es (rw (count_next base m e) u) ∙ unused_res base m e k u
@@ -201,7 +197,7 @@ module _ (body : List ℕ) (budget base : ℕ) (state mem told : List ℕ) (r : 
         ap state_in t.bytes
         ∙ read_back state whole (run_of base before es).state (ranged_run base before b (ranged_in state bytes) es)
         (sym (count_run base before es ∙ count_in state)) (sym (settings_run base before es ∙ settings_in_lem state))
-        (λ k u l. ap (λ (c : Slot). c.reservation) (run_res base k before es (rw (count_run base before es) at u)) ∙ reservation_in_lem state k l))
+        (λ k u l. run_res base k before es (rw (count_run base before es) at u) ∙ reservation_in_lem state k l))
         (p.right whole sixteen)
 
     -- and no byte of an unused hart changes

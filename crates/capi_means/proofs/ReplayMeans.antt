@@ -1,4 +1,5 @@
 -- What the contract of a replay comes to for a caller. Assumes nothing; that buffers hold bytes (IsBytes), which the theorems ask, their type says.
+use Rattle.std.specs.Prelude.{Option, Some, None, Ok, Err}
 use mathlib.Core.Path.{◌≡◌, refl, sym, ap, ◌∙◌, subst}
 use mathlib.Core.Bool.{Bool, true, false}
 use mathlib.Core.List.{List, [], ◌∷◌}
@@ -9,7 +10,6 @@ use lib.ListN.{length}
 use Rattle.word.specs.Bytes.{IsBytes}
 use Rattle.word.specs.Memory.{part}
 use Rattle.word.proofs.ChooseLaws.{cond_all}
-use Rattle.reserve.specs.declared.Slot.{Slot}
 use Rattle.machine.specs.State.{refusal_of}
 use Rattle.machine.specs.declared.State.{State}
 use Rattle.layout.specs.Layout.{state_size, state_in, state_over}
@@ -19,12 +19,9 @@ use Rattle.events.specs.declared.Event.TheVariants.{Step}
 use Rattle.model.specs.Perform.{Machine, run_of}
 use Rattle.model.proofs.Frame.{count_run, settings_run, shaped_run}
 use Rattle.reach.proofs.Ranges.{ranged_run}
-use Rattle.steplog.specs.declared.Reading.{Reading}
-use Rattle.steplog.specs.declared.Reading.TheVariants.{Form, Read}
-use Rattle.rows.specs.Row.{told_of, stepped}
+use Rattle.steplog.specs.declared.Row.{Row}
+use Rattle.rows.specs.Row.{Told, told_of, stepped}
 use Rattle.rows.specs.Replay.{readings, End, end_by, end_of, Result, ended, refused_replay, replay_of}
-use Rattle.rows.specs.declared.Told.{Told}
-use Rattle.rows.specs.declared.Told.TheVariants.{Agrees, Stops}
 use Rattle.rows.specs.declared.Stop.{Stop}
 use Rattle.rows.specs.declared.Stop.TheVariants as S
 use Rattle.replay_words.proofs.ReplayWords.{refused_exactly, refused_keeps}
@@ -37,16 +34,16 @@ use Rattle.capi_means.proofs.Means.{sized, same_hart, over_kept, run_res, run_re
 -- ---- a replay is a run of the steps of its rows
 
 -- the machine where rows end is the one after some events
-end_run : (base : ℕ) (m : Machine) (rs : List Reading) → (es : List Event) × ((end_of base m rs).machine ≡ run_of base m es)
+end_run : (base : ℕ) (m : Machine) (rs : List (Option Row)) → (es : List Event) × ((end_of base m rs).machine ≡ run_of base m es)
 unfolding end_of run_of stepped
 end_run base m [] = ([], refl)
 end_run base m (r ∷ rs) = go r (told_of base m r) (end_of base (stepped base m r) rs) (end_run base (stepped base m r) rs)
   where
-    go : (r : Reading) (t : Told) (rest : End) → (es : List Event) × (rest.machine ≡ run_of base (stepped base m r) es)
+    go : (r : Option Row) (t : Told) (rest : End) → (es : List Event) × (rest.machine ≡ run_of base (stepped base m r) es)
         → (es : List Event) × ((end_by t m rest).machine ≡ run_of base m es)
-    go Form Agrees rest e = e
-    go (Read row) Agrees rest (es, e) = (Step row.hart ∷ es, e)
-    go r (Stops s) rest e = ([], refl)
+    go None (Ok x) rest e = e
+    go (Some row) (Ok x) rest (es, e) = (Step row.hart ∷ es, e)
+    go r (Err s) rest e = ([], refl)
 
 module _ (base : ℕ) (mem : List ℕ) (s : State) (log : List ℕ) where
   abbrev IsRun : Result → Type 0
@@ -65,15 +62,15 @@ module _ (base : ℕ) (mem : List ℕ) (s : State) (log : List ℕ) where
       ([], refl)
 
   -- and one that is refused leaves what was given
-  refused_stop : (t : Stop) → SmallStop t → is_replayed t ≡ false → (n : ℕ) × (t ≡ S.Refused n 0)
-  refused_stop S.Agreed k e = let z : ◌≡◌ {A = ℕ} 0 1 = cc in absurd (omega arith)
-  refused_stop S.Form k e = let z : ◌≡◌ {A = ℕ} 0 1 = cc in absurd (omega arith)
-  refused_stop (S.Pc board model) k e = let z : ◌≡◌ {A = ℕ} 0 1 = cc in absurd (omega arith)
-  refused_stop (S.Word board model) k e = let z : ◌≡◌ {A = ℕ} 0 1 = cc in absurd (omega arith)
-  refused_stop (S.Rd board model) k e = let z : ◌≡◌ {A = ℕ} 0 1 = cc in absurd (omega arith)
-  refused_stop (S.Value board model) k e = let z : ◌≡◌ {A = ℕ} 0 1 = cc in absurd (omega arith)
-  refused_stop (S.Trap cause value) k e = let z : ◌≡◌ {A = ℕ} 0 1 = cc in absurd (omega arith)
-  refused_stop (S.Refused number place) k e = (number, ap (S.Refused number) k.1)
+  refused_stop : (t : Stop) → SmallStop t → is_replayed t ≡ false → (n : ℕ) × (t ≡ S.Refused (record { number = n; place = 0 }))
+  refused_stop S.Agreed k e = let z : ⊥ = cc in absurd z
+  refused_stop S.Form k e = let z : ⊥ = cc in absurd z
+  refused_stop (S.Pc board model) k e = let z : ⊥ = cc in absurd z
+  refused_stop (S.Word board model) k e = let z : ⊥ = cc in absurd z
+  refused_stop (S.Rd board model) k e = let z : ⊥ = cc in absurd z
+  refused_stop (S.Value board model) k e = let z : ⊥ = cc in absurd z
+  refused_stop (S.Trap cause value) k e = let z : ⊥ = cc in absurd z
+  refused_stop (S.Refused r) k e = (r.number, ap (λ (p : ℕ). S.Refused (record { number = r.number; place = p })) k.1)
 
   unreplayed : is_replayed (replay_of base mem s log).replayed.stop ≡ false
       → ((replay_of base mem s log).replayed.state ≡ s) × ((replay_of base mem s log).mem ≡ mem)
@@ -91,7 +88,7 @@ refused_code (S.Word board model) k h = absurd (omega arith)
 refused_code (S.Rd board model) k h = absurd (omega arith)
 refused_code (S.Value board model) k h = absurd (omega arith)
 refused_code (S.Trap cause value) k h = absurd (omega (arith, k))
-refused_code (S.Refused number place) k h = refl
+refused_code (S.Refused r) k h = refl
 
 -- ---- a call
 
@@ -135,7 +132,7 @@ module _ (log : List ℕ) (base : ℕ) (state mem told : List ℕ) (r : ℕ) (st
         (λ es e.
         read_back state whole (run_of base before es).state (ranged_run base before b (ranged_in state bytes) es)
         (sym (count_run base before es ∙ count_in state)) (sym (settings_run base before es ∙ settings_in_lem state))
-        (λ k u l. ap (λ (c : Slot). c.reservation) (run_res base k before es (rw (count_run base before es) at u)) ∙ reservation_in_lem state k l)
+        (λ k u l. run_res base k before es (rw (count_run base before es) at u) ∙ reservation_in_lem state k l)
         ∙ sym e)
 
     -- and no byte of an unused hart changes

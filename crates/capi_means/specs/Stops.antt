@@ -12,4 +12,4 @@ stop_in code board model =
     (cond (eqb code 3) (Word board model)
     (cond (eqb code 4) (Rd board model)
     (cond (eqb code 5) (Value board model)
-    (cond (ltb code 512) (Trap (code - 256) model) (Refused (code - 512) 0)))))))
+    (cond (ltb code 512) (Trap (code - 256) model) (Refused (record { number = code - 512; place = 0 }))))))))

@@ -9,25 +9,24 @@ use Rattle.word.proofs.ChooseLaws.{cond_all}
 use Rattle.machine.specs.State.{refusal_of}
 use Rattle.machine.specs.declared.State.{State}
 use Rattle.model.specs.Perform.{Machine}
-use Rattle.steplog.specs.declared.Reading.{Reading}
-use Rattle.rows.specs.Row.{told_of, stepped}
+use Rattle.std.specs.Prelude.{Option, Ok, Err}
+use Rattle.steplog.specs.declared.Row.{Row}
+use Rattle.rows.specs.Row.{Told, told_of, stepped}
 use Rattle.rows.specs.Replay.{readings, End, end_by, end_of, Result, replay_of}
-use Rattle.rows.specs.declared.Told.{Told}
-use Rattle.rows.specs.declared.Told.TheVariants.{Agrees, Stops}
 
 length-readings : (count n : ℕ) (log : List ℕ) → length (readings count n log) ≡ n
 unfolding readings
 length-readings count zero log = refl
 length-readings count (suc n) log = ap suc (length-readings count n (drop 48 log))
 
-end_le : (base : ℕ) (m : Machine) (rs : List Reading) → (end_of base m rs).rows ≤ length rs
+end_le : (base : ℕ) (m : Machine) (rs : List (Option Row)) → (end_of base m rs).rows ≤ length rs
 unfolding end_of
 end_le base m [] = omega arith
 end_le base m (r ∷ rs) = go (told_of base m r) (end_of base (stepped base m r) rs) (end_le base (stepped base m r) rs)
   where
     go : (t : Told) (e : End) → e.rows ≤ length rs → (end_by t m e).rows ≤ suc (length rs)
-    go Agrees e h = omega arith
-    go (Stops s) e h = omega arith
+    go (Ok x) e h = omega arith
+    go (Err s) e h = omega arith
 
 abbrev Within : List ℕ → Result → Type 0
 Within log r = r.replayed.rows ≤ length log / 48

@@ -3,8 +3,7 @@
 use Rattle.std.specs.Prelude.{ℕ, ◌/◌, List, ◌++◌, length}
 use Prim.Native.String.{String}
 use Rattle.text.specs.Ascii.{ascii}
-use Rattle.text.specs.Number.{decimal_of}
-use Rattle.steplog.specs.Digits.{digits_from}
+use Rattle.text.specs.Number.{decimal_of, digits_from}
 use Rattle.model.specs.declared.Outcome.TheVariants as O
 use Rattle.lines.specs.Lines.{said_of}
 use Rattle.report.specs.Report.{refused_line, end_line}
@@ -32,7 +31,7 @@ difference field base digits board model = ascii field ++ (digits_from base digi
 -- pc, value and a trap's value in 16 hexadecimal digits, word in 8, rd in two decimal digits, as they stand in a row. "cause and value for a trap" as in the
 -- lines of a run; "nothing more for bad form; else say all rows agreed"
 unfoldable pub answer_text : ℕ → ℕ → Stop → List ℕ
-answer_text all k (Refused number place) = refused_line number place
+answer_text all k (Refused r) = refused_line r.number r.place
 answer_text all k Agreed = three_lines all k (ascii "agreed " ++ decimal_of k)
 answer_text all k Form = three_lines all k (row_told k (ascii " form"))
 answer_text all k (Pc board model) = three_lines all k (row_told k (difference " pc " 16 16 board model))

@@ -10,35 +10,29 @@ ghost use Rattle.settings.specs.Boards.{BoardRules};
 ghost use Rattle.rows.specs.Replay.{replay_of, joined};
 ghost use Rattle.case_replay.specs.Answer.{answer_text, replay_text_of};
 
-use casefile::Found;
 use machine::State;
 use rows::{Replayed, Stop};
 use settings::Board;
 
 // Replays a log on a board from the harts and the memory of a case file, which is changed in place. The case's events are checked and not performed.
+#[tactic(auto, unfolding(crate::specs::CaseReplay::file_replay_on))]
 pub fn replay_case_on(board: Board, file: &mut [u8], log: &[u8]) -> Replayed
     requires { BoardRules board }
     ensures value { result ≡ (file_replay_on board file.old log.now).replayed }
     ensures file_after { file.new ≡ (file_replay_on board file.old log.now).file }
 {
-    let c = casefile::read_case_on(board, file);
-    let found = c.found;
-    let base = c.base;
-    let s = c.state;
-    match found {
-        Found::Refused { number, place } => Replayed {
-            stop: Stop::Refused {
-                number: number as u64,
-                place,
-            },
+    match casefile::read_case_on(board, file) {
+        Ok(c) => rows::replay(c.state, c.base, &mut file[c.memory..c.events], log),
+        Err(r) => Replayed {
+            stop: Stop::Refused(r),
             rows: 0,
-            state: s,
+            state: casefile::no_state(),
         },
-        Found::Bodies { memory, events } => rows::replay(s, base, &mut file[memory..events], log),
     }
 }
 
 // The same where no board is given.
+#[tactic(auto, using(settings::proofs::SettingsLaws::default_board_allowed))]
 pub fn replay_case(file: &mut [u8], log: &[u8]) -> Replayed
     ensures value { result ≡ (file_replay file.old log.now).replayed }
     ensures file_after { file.new ≡ (file_replay file.old log.now).file }
@@ -48,6 +42,7 @@ pub fn replay_case(file: &mut [u8], log: &[u8]) -> Replayed
 
 // The next part of a log that comes in parts, of one row or more, where the rows before it agreed and left this state and this memory: so 1 and
 // 2 refuse nothing, and neither do 12 and 13.
+#[tactic(auto, using(crate::proofs::RowsLaws::rows_le))]
 pub fn replay_next(before: usize, s: State, base: u64, mem: &mut [u8], part: &[u8]) -> Replayed
     requires part_bound { before + length part.now / 48 < 2 ^ 64 }
     requires part_len { (length part.now % 48 ≡ 0) × (0 < length part.now) }
@@ -55,12 +50,10 @@ pub fn replay_next(before: usize, s: State, base: u64, mem: &mut [u8], part: &[u
     ensures mem_after { mem.new ≡ (joined before (replay_of base mem.old s part.now)).mem }
 {
     let r = rows::replay(s, base, mem, part);
-    let stop = r.stop;
-    let state = r.state;
     Replayed {
-        stop,
+        stop: r.stop,
         rows: before + r.rows,
-        state,
+        state: r.state,
     }
 }
 
@@ -73,12 +66,12 @@ pub fn answer_text(all: u64, k: u64, stop: Stop, out: &mut [u8; 128]) -> usize
 }
 
 // The text of any two inputs: the first r bytes of out. The program, which reads a log in parts, has to write the same where no board is given.
+#[tactic(auto, unfolding(crate::specs::Answer::replay_text_of))]
 pub fn replay_report(file: &mut [u8], log: &[u8], out: &mut [u8; 128]) -> usize
     ensures prefix_len { IsPrefixLen result out.new }
     ensures out_after { take result out.new ≡ replay_text_of file.old log.now }
     ensures file_after { file.new ≡ (file_replay file.old log.now).file }
 {
     let r = replay_case(file, log);
-    let stop = r.stop;
-    answer_text((log.len() / 48) as u64, r.rows as u64, stop, out)
+    answer_text((log.len() / 48) as u64, r.rows as u64, r.stop, out)
 }

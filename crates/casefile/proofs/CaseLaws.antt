@@ -15,22 +15,20 @@ use Rattle.settings.specs.Boards.{default_board, BoardRules}
 use Rattle.settings.specs.declared.Board.{Board}
 use Rattle.settings.proofs.SettingsLaws.{default_board_allowed}
 use Rattle.machine.specs.Rules.{LentRules, Shaped}
-use Rattle.machine.specs.State.{refusal_of}
 use Rattle.machine.specs.declared.State.{State}
 use Rattle.machine.proofs.StateLaws.{refusal_0}
-use Rattle.events.specs.Events.{good_event, first_bad, checked_of, Within}
-use Rattle.events.specs.declared.Checked.{Checked}
-use Rattle.events.specs.declared.Checked.TheVariants.{Good, Bad}
+use Rattle.std.specs.Prelude.{Result, Ok, Err}
+use Rattle.refusal.specs.declared.Refusal.{Refusal}
+use Rattle.events.specs.Events.{good_event, first_bad, Checked, checked_of, Within}
 use Rattle.casefile.specs.Table.{table_of, InsideFile}
-use Rattle.casefile.specs.Harts.{base_of, count_of, harts_ok, settings_of, state_of, no_state}
-use Rattle.casefile.specs.Case.{refused_case, memory_body_ok, checked_case, bodies_of, parts_of, case_on, case_of, SoundCase, SoundCaseAs}
+use Rattle.casefile.specs.Harts.{base_of, count_of, harts_ok, settings_of, state_of}
+use Rattle.casefile.specs.Case.{memory_body_ok, checked_case, bodies_of, parts_of, case_on, case_of, SoundCase}
 use Rattle.casefile.specs.Rules.{harts_in}
-use Rattle.casefile.specs.declared.Found.{Found}
-use Rattle.casefile.specs.declared.Found.TheVariants.{Refused, Bodies}
+use Rattle.casefile.specs.declared.Bodies.{Bodies}
 use Rattle.casefile.specs.declared.Case.{Case}
 use Rattle.casefile.proofs.TableLaws.{table_inside}
-use Rattle.casefile.proofs.HartsLaws.{harts_exact, harts_state, state_shaped, none_shaped}
-use Rattle.casefile.proofs.RuleLaws.{memory_body_exact, accepted_exact_on, accepted_case_on}
+use Rattle.casefile.proofs.HartsLaws.{harts_exact, harts_state, state_shaped}
+use Rattle.casefile.proofs.RuleLaws.{memory_body_exact, accepted_exact_on}
 
 -- the place of a bad event is in the body
 module _ (count base len : ℕ) (body : List ℕ) where
@@ -39,7 +37,7 @@ module _ (count base len : ℕ) (body : List ℕ) where
   first_within k whole zero p h = whole
   first_within k whole (suc n) p h =
       let here : p ≤ k = omega arith in
-      cond_all (λ c. Within c k) (good_event count base len (part body p 24)) _ (Bad p) (first_within k whole n (p + 24) (omega arith)) here
+      cond_all (λ c. Within c k) (good_event count base len (part body p 24)) _ (Err p) (first_within k whole n (p + 24) (omega arith)) here
 
   pub checked_within : Within (checked_of count base len body) (length body)
   unfolding checked_of
@@ -66,8 +64,8 @@ module _ (board : Board) (ok : BoardRules board) (file : List ℕ) (m e : ℕ)
   checked_sound : harts_ok board harts ≡ true → memory_body_ok board harts (length memory) ≡ true → (r : Checked) → checked ≡ r → Within r (length (drop e file))
       → SoundCase file (checked_case board m e harts r)
   unfolding state_of
-  checked_sound h l (Bad place) c w = (omega arith, omega arith, omega (arith, rest))
-  checked_sound h l Good c w =
+  checked_sound h l (Err place) c w = (omega arith, omega arith, omega (arith, rest))
+  checked_sound h l (Ok x) c w =
       let r = (harts_exact board harts).0 h in
       let q = (memory_body_exact board harts (length memory)).0 l in
       let lent : LentRules (settings_of board harts) (base_of harts) (e - m) = ((rw some at q).0.0, (rw some at q).0.1, (rw some at q).0.2, r.4, r.5) in (
@@ -91,27 +89,11 @@ module _ (board : Board) (ok : BoardRules board) (file : List ℕ) (m e : ℕ)
       (λ l. rw (h, l) (omega arith, omega arith, omega arith)))
       (λ h. rw h (omega arith, omega arith, omega arith))
 
--- what holds of the state of a refused file and of that of every harts body holds of a case's
-module _ (board : Board) (P : State → Type 0) (none : P no_state) (some : (harts : List ℕ) → P (state_of board (count_of harts) harts)) where
-  checked_state : (m e : ℕ) (harts : List ℕ) (r : Checked) → P (checked_case board m e harts r).state
-  checked_state m e harts (Bad place) = none
-  checked_state m e harts Good = some harts
-
-  bodies_state : (m e : ℕ) (harts memory events : List ℕ) → P (bodies_of board m e harts memory events).state
-  unfolding bodies_of
-  bodies_state m e harts memory events =
-      cond_all (λ c. P c.state) (harts_ok board harts) _ (refused_case 9 40)
-      (cond_all (λ c. P c.state) (memory_body_ok board harts (length memory)) _ (refused_case 10 m)
-      (checked_state m e harts (checked_of (count_of harts) (base_of harts) (length memory) events)) none)
-      none
-
-  case_state : (file : List ℕ) → P (case_on board file).state
-  unfolding case_on
-  case_state file = go (table_of file)
-    where
-      go : (f : Found) → P (parts_of board file f).state
-      go (Refused number place) = none
-      go (Bodies m e) = bodies_state m e (part file 40 (m - 40)) (part file m (e - m)) (drop e file)
+-- what holds of the state of every harts body holds of a case's
+module _ (board : Board) (P : State → Type 0) (some : (harts : List ℕ) → P (state_of board (count_of harts) harts)) where
+  case_state : (file : List ℕ) (c : Case) → case_on board file ≡ Ok c → P c.state
+  case_state file c read =
+      subst (λ (k : Case). P k.state) (sym ((accepted_exact_on board file c).0 read).0) (some (harts_in file))
 
 module _ (board : Board) where
   -- a refusal's place is in the file; a case's bodies are, and no run of it is refused
@@ -119,44 +101,32 @@ module _ (board : Board) where
   unfolding case_on
   case_sound_on ok file = go (table_of file) (table_inside file)
     where
-      go : (f : Found) → InsideFile (length file) f → SoundCase file (parts_of board file f)
-      go (Refused number place) h = (h.0, omega arith, h.2)
-      go (Bodies m e) h = bodies_sound board ok file m e h.0 h.1 h.2 h.3 (part file 40 (m - 40))
+      go : (t : Result Bodies Refusal) → InsideFile (length file) t → SoundCase file (parts_of board file t)
+      go (Err r) h = (h.0, omega arith, h.2)
+      go (Ok b) h = bodies_sound board ok file b.memory b.events h.0 h.1 h.2 h.3 (part file 40 (b.memory - 40))
 
   -- and the arrays of its state have the lengths that their types say
-  pub case_shaped_on : (file : List ℕ) → Shaped (case_on board file).state
-  case_shaped_on = case_state board Shaped none_shaped (λ harts. state_shaped board harts (count_of harts))
+  pub case_shaped_on : (file : List ℕ) (c : Case) → case_on board file ≡ Ok c → Shaped c.state
+  case_shaped_on = case_state board Shaped (λ harts. state_shaped board harts (count_of harts))
 
   -- a case that is read has the board's settings and its own kind
-  pub case_settings_on : (file : List ℕ) (m e : ℕ) → (case_on board file).found ≡ Bodies m e
-      → (case_on board file).state.settings ≡ settings_of board (harts_in file)
+  pub case_settings_on : (file : List ℕ) (c : Case) → case_on board file ≡ Ok c → c.state.settings ≡ settings_of board (harts_in file)
   unfolding state_of
-  case_settings_on file m e read =
-      ap (λ (c : Case). c.state.settings) (accepted_case_on board file ((accepted_exact_on board file m e).0 read).2)
-
-  pub read_sound : BoardRules board → (file : List ℕ) (r : Case) → r ≡ case_on board file → (r ≡ case_on board file) × SoundCase file r
-  read_sound ok file r h = (h, subst (λ (c : Case). SoundCase file c) (sym h) (case_sound_on ok file))
+  case_settings_on file c read = ap (λ (k : Case). k.state.settings) ((accepted_exact_on board file c).0 read).0
 
 -- where no board is given
 pub case_sound : (file : List ℕ) → SoundCase file (case_of file)
 case_sound = case_sound_on default_board default_board_allowed
 
-pub case_shaped : (file : List ℕ) → Shaped (case_of file).state
+pub case_shaped : (file : List ℕ) (c : Case) → case_of file ≡ Ok c → Shaped c.state
 case_shaped = case_shaped_on default_board
 
 -- a read case then has the default settings but for its kind: 02 [5], "default 64"; [7], "2.1 the default"
-pub case_settings : (file : List ℕ) → ((case_of file).state.settings.size ≡ 64) × ((case_of file).state.settings.version ≡ 21)
-unfolding no_state state_of
-case_settings = case_state default_board (λ s. (s.settings.size ≡ 64) × (s.settings.version ≡ 21)) (refl, refl) (λ harts. (refl, refl))
+pub case_settings : (file : List ℕ) (c : Case) → case_of file ≡ Ok c → (c.state.settings.size ≡ 64) × (c.state.settings.version ≡ 21)
+unfolding state_of
+case_settings = case_state default_board (λ s. (s.settings.size ≡ 64) × (s.settings.version ≡ 21)) (λ harts. (refl, refl))
 
 -- [11]: "default 0"
-pub case_misaligned : (file : List ℕ) → (case_of file).state.settings.misaligned ≡ 0
-unfolding no_state state_of
-case_misaligned = case_state default_board (λ s. s.settings.misaligned ≡ 0) refl (λ harts. refl)
-
--- the bodies of a case that is read lie in the file, and 1 and 2 don't refuse it
-pub found_bodies : (file : List ℕ) (c : Case) (m e : ℕ) → SoundCase file c → c.found ≡ Bodies m e
-    → (m ≤ e) × (e ≤ length file) × (refusal_of c.base (e - m) c.state ≡ 0)
-found_bodies file c m e sound h =
-    let t = subst (SoundCaseAs file c.base c.state) h sound in
-    (t.1, t.2, t.4)
+pub case_misaligned : (file : List ℕ) (c : Case) → case_of file ≡ Ok c → c.state.settings.misaligned ≡ 0
+unfolding state_of
+case_misaligned = case_state default_board (λ s. s.settings.misaligned ≡ 0) (λ harts. refl)

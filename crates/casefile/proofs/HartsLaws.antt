@@ -6,22 +6,33 @@ use mathlib.Core.Bool.{Bool, true, cond, ◌||◌}
 use mathlib.Core.List.{List}
 use Prim.Native.Nat.{ℕ, ◌+◌, ◌*◌, ◌-◌, ◌/◌, ◌%◌, ◌^◌, ◌≤◌, ◌<◌}
 use native.Mathlib.Omega.{arith}
+use native.Mathlib.Numerals.{add-one}
+use Rattle.std.specs.Prelude.{Option, None, slice_set}
 use lib.Dec.{leb, ltb, eqb}
 use lib.ListN.{length, get_or, replicate, length-replicate, get_or-replicate}
 use borrow.Author.Tests.{eqb-true, eqb-false, leb-true, ltb-true, eq-eqb, le-leb, lt-ltb}
 use Rattle.word.specs.Bytes.{le}
 use Rattle.word.specs.Memory.{part}
-use Rattle.word.specs.Each.{all_below}
+use Rattle.word.specs.Each.{each, all_below}
 use Rattle.word.proofs.TestLaws.{and_both, or_either, bool_cases}
-use Rattle.word.proofs.EachLaws.{each_at, each_past, length-each, all_at, all_intro}
-use Rattle.settings.proofs.SettingsLaws.{xlen_64}
-use Rattle.settings.specs.Settings.{of_kind, xlen_of, granule_of}
+use Rattle.word.proofs.EachLaws.{each_suc, each_at, each_past, length-each, all_at, all_intro}
+use Rattle.settings.proofs.SettingsLaws.{xlen_64, granule_power}
+use Rattle.settings.specs.Settings.{PowerOfTwo, of_kind, xlen_of, granule_of}
 use Rattle.settings.specs.Boards.{default_board, BoardRules}
 use Rattle.settings.specs.declared.Board.{Board}
-use Rattle.reserve.specs.Reserve.{slot}
-use Rattle.reserve.specs.declared.Reservation.TheVariants.{None}
+use Rattle.reserve.specs.declared.Reservation.{Reservation}
 use Rattle.machine.specs.Rules.{HartRules, UpperZero, StateRules, Shaped}
 use Rattle.casefile.specs.Harts.{base_of, count_of, kind_of, number_of, register_of, pc_of, halves_ok, harts_ok, HartsRules, settings_of, state_of, no_state}
+
+-- the granule of a board that is allowed is a power of two
+pub granule_allowed : (board : Board) (body : List ℕ) (g : ℕ) → BoardRules board → g ≡ granule_of (settings_of board body) → PowerOfTwo g
+granule_allowed board body g ok e = subst PowerOfTwo (sym e) (granule_power (settings_of board body) ok.0)
+
+-- a number more of a list that is filled from the front
+pub filled_more : (f : ℕ → ℕ) (n i v : ℕ) (l : List ℕ) → i < n → l ≡ each (λ k _. f k) i (replicate n 0) → v ≡ f i
+    → slice_set l i v ≡ each (λ k _. f k) (i + 1) (replicate n 0)
+filled_more f n i v l h e g =
+    rw (e, g, add-one) (sym (each_suc (λ k _. f k) i (replicate n 0) 0 (omega (arith, length-replicate {A = ℕ} n 0))))
 
 module _ (body : List ℕ) where
   -- the numbers of a 32-bit case have 32 bits
@@ -107,16 +118,16 @@ module _ (board : Board) (body : List ℕ) where
     pc_past h l k = each_past (λ j _. pc_of body j) count h (replicate 8 0) 0 l ∙ get_or-replicate 8 h 0 0 k
 
     -- "A read case has no reservations."
-    pub free_at : (h : ℕ) → h < 8 → get_or (state_of board count body).res h (slot None) ≡ slot None
+    pub free_at : (h : ℕ) → h < 8 → get_or (state_of board count body).res h None ≡ None
     unfolding state_of
-    free_at h l = get_or-replicate 8 h (slot None) (slot None) l
+    free_at h l = get_or-replicate {A = Option Reservation} 8 h None None l
 
   pub state_shaped : (count : ℕ) → Shaped (state_of board count body)
   unfolding state_of
   state_shaped count = record {
     registers = length-each (λ i _. register_of body (i / 32) (i % 32)) (32 * count) (replicate 256 0) ∙ length-replicate {A = ℕ} 256 0;
     pcs = length-each (λ h _. pc_of body h) count (replicate 8 0) ∙ length-replicate {A = ℕ} 8 0;
-    reservations = length-replicate 8 (slot None);
+    reservations = length-replicate {A = Option Reservation} 8 None;
   }
 
   -- registers and pcs are among the numbers
@@ -160,9 +171,14 @@ module _ (board : Board) (body : List ℕ) where
             upper k l,
           )
 
+-- what stands for the state of a refused file: its arrays have their lengths, and its settings are the defaults
 pub none_shaped : Shaped no_state
 unfolding no_state
-none_shaped = record { registers = length-replicate {A = ℕ} 256 0; pcs = length-replicate {A = ℕ} 8 0; reservations = length-replicate 8 (slot None) }
+none_shaped = record { registers = length-replicate {A = ℕ} 256 0; pcs = length-replicate {A = ℕ} 8 0; reservations = length-replicate {A = Option Reservation} 8 None }
+
+pub none_settings : (no_state.settings.size ≡ 64) × (no_state.settings.version ≡ 21) × (no_state.settings.misaligned ≡ 0)
+unfolding no_state
+none_settings = (refl, refl, refl)
 
 -- where no board is given, a case has the defaults but for its kind, and 9 and 10 ask for multiples of 64
 pub default_settings : (body : List ℕ) → settings_of default_board body ≡ of_kind 21 (kind_of body)

@@ -17,21 +17,19 @@ use Rattle.settings.specs.Boards.{default_board}
 use Rattle.settings.specs.declared.Board.{Board}
 use Rattle.settings.specs.declared.Settings.{Settings}
 use Rattle.machine.proofs.StateLaws.{top_exact}
-use Rattle.events.specs.Events.{checked_of}
+use Rattle.std.specs.Prelude.{Ok, Err}
+use Rattle.refusal.specs.declared.Refusal.{Refusal}
+use Rattle.events.specs.Events.{Checked, checked_of}
 use Rattle.events.specs.Rules.{WrongEvents}
-use Rattle.events.specs.declared.Checked.{Checked}
-use Rattle.events.specs.declared.Checked.TheVariants.{Good, Bad}
 use Rattle.events.proofs.RuleLaws as E
 use Rattle.events.proofs.RowLaws as R
-use Rattle.casefile.specs.Table.{entry_of, table_of}
+use Rattle.casefile.specs.Table.{refused, bodies_at, entry_of, table_of}
 use Rattle.casefile.specs.Harts.{base_of, count_of, harts_ok, HartsRules, settings_of}
 use Rattle.casefile.specs.Case.{refused_case, length_ok, memory_body_ok, bodies_of, parts_of, case_on, case_of}
 use Rattle.casefile.specs.Rules.{FileRules, WrongField, entries, kind1, offset1, kind2, offset2, kind3, offset3, end3}
 use Rattle.casefile.specs.Rules.{harts_in, memory_in, events_in, LengthRules, MemoryBodyRules}
 use Rattle.casefile.specs.Rules.{FileRow, bad_length, bad_table, bad_harts, bad_memory_length, bad_events}
 use Rattle.casefile.specs.Rules.{RefusedOn, UnrefusedOn, RefusedBy, UnrefusedFile, case_in}
-use Rattle.casefile.specs.declared.Found.{Found}
-use Rattle.casefile.specs.declared.Found.TheVariants.{Refused, Bodies}
 use Rattle.casefile.specs.declared.Case.{Case}
 use Rattle.casefile.proofs.HartsLaws.{harts_exact}
 
@@ -45,7 +43,7 @@ from_place : {A : Type 0} (p q k : ℕ) → q ≡ k → (A → ⊥) → (k < p �
 from_place p q k e w a = bool_cases (ltb k p) (λ t. absurd (w (a (ltb-true k p t)))) (λ t. omega (arith, ltb-false k p t))
 
 module _ (settings : Settings) where
-  pub length_exact : (n : ℕ) → (length_ok settings n ≡ true) ↔ LengthRules settings n
+  length_exact : (n : ℕ) → (length_ok settings n ≡ true) ↔ LengthRules settings n
   unfolding length_ok
   length_exact n = (
     λ e.
@@ -100,10 +98,10 @@ module _ (file : List ℕ) where
     none : (q : ℕ) → WrongField file q → ⊥
 
   data Listed : Type 0 where
-    unsized : table_of file ≡ Refused 7 0 → (FileRules (length file) → ⊥) → Listed
-    wrong : (p : ℕ) → table_of file ≡ Refused 8 p → FileRules (length file) → WrongField file p
+    unsized : table_of file ≡ refused 7 0 → (FileRules (length file) → ⊥) → Listed
+    wrong : (p : ℕ) → table_of file ≡ refused 8 p → FileRules (length file) → WrongField file p
         → ((q : ℕ) → WrongField file q → p ≤ q) → Listed
-    right : table_of file ≡ Bodies (field_at file 20) (field_at file 32) → FileRules (length file) → Right → Listed
+    right : table_of file ≡ bodies_at (field_at file 20) (field_at file 32) → FileRules (length file) → Right → Listed
 
   module _ (least : 40 ≤ length file) (most : length file ≤ 65536) where
     lo : ltb (length file) 40 ≡ false
@@ -128,7 +126,7 @@ module _ (file : List ℕ) where
             (λ g g'.
             eq_cases (40 + field_at file 12 + field_at file 24 + field_at file 36) (length file)
             (λ h h'.
-            right (rw (lo, hi, a', b', c', d', e', f', g', h') (ap₂ Bodies (sym e) (sym g))) (least, most)
+            right (rw (lo, hi, a', b', c', d', e', f', g', h') (ap₂ bodies_at (sym e) (sym g))) (least, most)
             (record {
               start = c;
               next2 = omega arith;
@@ -247,10 +245,10 @@ module _ (board : Board) (file : List ℕ) where
 
   -- refused by the first row that applies, at the lowest place, or read
   abbrev Decided : Type 0
-  Decided = R.Decided (FileRow board file) (case_on board file) refused_case (case_in board file)
+  Decided = R.Decided (FileRow board file) (case_on board file) refused_case (Ok (case_in board file))
 
   module _ (sized : FileRules (length file)) where
-    refused_8 : (p : ℕ) → table_of file ≡ Refused 8 p → WrongField file p → ((q : ℕ) → WrongField file q → p ≤ q) → Decided
+    refused_8 : (p : ℕ) → table_of file ≡ refused 8 p → WrongField file p → ((q : ℕ) → WrongField file q → p ≤ q) → Decided
     unfolding case_on
     refused_8 p t w f =
         R.refuses 8 p (ap (parts_of board file) t)
@@ -261,7 +259,7 @@ module _ (board : Board) (file : List ℕ) where
         })
 
     -- the bodies that the table names are those that are read
-    module _ (t : table_of file ≡ Bodies (field_at file 20) (field_at file 32)) (r : Right file) where
+    module _ (t : table_of file ≡ bodies_at (field_at file 20) (field_at file 32)) (r : Right file) where
       harts_same : part file 40 (field_at file 20 - 40) ≡ harts_in file
       harts_same =
           let n : field_at file 20 - 40 ≡ field_at file 12 = omega (arith, r.start, r.next2) in
@@ -314,7 +312,7 @@ module _ (board : Board) (file : List ℕ) where
       by_events : harts_ok board (harts_in file) ≡ true → memory_body_ok board (harts_in file) (length (memory_in file)) ≡ true
           → (c : Checked) → checked ≡ c → Decided
       unfolding bodies_of
-      by_events h l (Bad p) e =
+      by_events h l (Err p) e =
           let w = (E.bad_exact (count_of (harts_in file)) (base_of (harts_in file)) (length (memory_in file)) (events_in file) p).0 e in
           R.refuses 11 (field_at file 32 + p) (case_bodies ∙ rw (h, l, e) refl)
           (record {
@@ -322,7 +320,7 @@ module _ (board : Board) (file : List ℕ) where
             first = none_below 11 (λ z. sized) (λ z. r.none) (λ z. kept h) (λ z. lent l) (never refl);
             lowest = not_below 11 (field_at file 32 + p) (events_from p w.lowest);
           })
-      by_events h l Good e =
+      by_events h l (Ok x) e =
           let f = (E.good_exact (count_of (harts_in file)) (base_of (harts_in file)) (length (memory_in file)) (events_in file)).0 e in
           R.accepts (case_bodies ∙ rw (h, l, e))
           (λ k q row.
@@ -354,63 +352,33 @@ module _ (board : Board) (file : List ℕ) where
 
 -- ---- both ways
 
-abbrev refusals : Found → ℕ
-refusals (Refused number place) = 1
-refusals (Bodies m e) = 0
-
-abbrev number_in : Found → ℕ
-number_in (Refused number place) = number
-number_in (Bodies m e) = 0
-
--- the place of a refusal, or where the memory starts; and where the events start
-abbrev first_in : Found → ℕ
-first_in (Refused number place) = place
-first_in (Bodies m e) = m
-
-abbrev last_in : Found → ℕ
-last_in (Refused number place) = place
-last_in (Bodies m e) = e
-
 module _ (board : Board) (file : List ℕ) where
   pub refused_one_on : (m p n q : ℕ) → RefusedOn board file m p → RefusedOn board file n q → (m ≡ n) × (p ≡ q)
   refused_one_on = R.one_row (FileRow board file)
 
-  -- base and state are zero of a refused file, and else what the harts body says
   pub refused_case_on : (number place : ℕ) → RefusedOn board file number place → case_on board file ≡ refused_case number place
-  refused_case_on = R.refused_by (FileRow board file) (case_on board file) refused_case (case_in board file) (decided board file)
+  refused_case_on = R.refused_by (FileRow board file) (case_on board file) refused_case (Ok (case_in board file)) (decided board file)
 
-  pub accepted_case_on : UnrefusedOn board file → case_on board file ≡ case_in board file
-  accepted_case_on = R.accepted_by (FileRow board file) (case_on board file) refused_case (case_in board file) (decided board file)
+  pub accepted_case_on : UnrefusedOn board file → case_on board file ≡ Ok (case_in board file)
+  accepted_case_on = R.accepted_by (FileRow board file) (case_on board file) refused_case (Ok (case_in board file)) (decided board file)
 
-  row_of : refusals (case_on board file).found ≡ 1 → RefusedOn board file (number_in (case_on board file).found) (first_in (case_on board file).found)
-  row_of =
-      R.row_of (FileRow board file) (case_on board file) refused_case (case_in board file) (λ (c : Case). refusals c.found)
-      (λ (c : Case). number_in c.found) (λ (c : Case). first_in c.found) (λ n p. refl) refl (λ n p. refl) (λ n p. refl) (decided board file)
-
-  no_row_of : refusals (case_on board file).found ≡ 0 → UnrefusedOn board file
-  no_row_of =
-      R.no_row_of (FileRow board file) (case_on board file) refused_case (case_in board file) (λ (c : Case). refusals c.found)
-      (λ (c : Case). number_in c.found) (λ (c : Case). first_in c.found) (λ n p. refl) refl (λ n p. refl) (λ n p. refl) (decided board file)
+  row_of : Decided board file → (n p : ℕ) → case_on board file ≡ refused_case n p → RefusedOn board file n p
+  row_of (R.refuses m q c r) n p o =
+      let same : ◌≡◌ {A = Refusal} (record { number = m; place = q }) (record { number = n; place = p }) = cc in
+      subst (λ (f : Refusal). RefusedOn board file f.number f.place) same r
+  row_of (R.accepts c u) n p o = let z : ⊥ = cc in absurd z
 
   -- 01: a file is refused by this number at this place exactly if its row is the first that applies, and this the lowest place where it does
-  pub refused_exact_on : (number place : ℕ) → ((case_on board file).found ≡ Refused number place) ↔ RefusedOn board file number place
-  refused_exact_on n p = (
-    λ o.
-        let row = row_of (ap refusals o) in
-        subst (RefusedOn board file n) (ap first_in o) (subst (λ (k : ℕ). RefusedOn board file k (first_in (case_on board file).found)) (ap number_in o) row),
-    λ r. ap (λ (c : Case). c.found) (refused_case_on n p r),
-  )
+  pub refused_exact_on : (number place : ℕ) → (case_on board file ≡ refused_case number place) ↔ RefusedOn board file number place
+  refused_exact_on n p = (row_of (decided board file) n p, refused_case_on n p)
 
-  read : (m e : ℕ) → (case_on board file).found ≡ Bodies m e → (m ≡ field_at file 20) × (e ≡ field_at file 32) × UnrefusedOn board file
-  read m e o =
-      let u = no_row_of (ap refusals o) in
-      let f : Bodies (field_at file 20) (field_at file 32) ≡ Bodies m e = ap (λ (c : Case). c.found) (sym (accepted_case_on u)) ∙ o in
-      (sym (ap first_in f), sym (ap last_in f), u)
+  read : Decided board file → (c : Case) → case_on board file ≡ Ok c → (c ≡ case_in board file) × UnrefusedOn board file
+  read (R.refuses m q e r) c o = let z : ⊥ = cc in absurd z
+  read (R.accepts e u) c o = (cc, u)
 
-  -- and is a case, with its bodies at these places, exactly if no row applies and the table says so
-  pub accepted_exact_on : (memory events : ℕ)
-      → ((case_on board file).found ≡ Bodies memory events) ↔ ((memory ≡ field_at file 20) × (events ≡ field_at file 32) × UnrefusedOn board file)
-  accepted_exact_on m e = (read m e, λ (a, b, u). ap (λ (c : Case). c.found) (accepted_case_on u) ∙ ap₂ Bodies (sym a) (sym b))
+  -- and is a case, its bodies at the places that the table says, exactly if no row applies
+  pub accepted_exact_on : (c : Case) → (case_on board file ≡ Ok c) ↔ ((c ≡ case_in board file) × UnrefusedOn board file)
+  accepted_exact_on c = (read (decided board file) c, λ (a, u). accepted_case_on u ∙ ap Ok (sym a))
 
 -- ---- and where no board is given
 
@@ -421,12 +389,11 @@ module _ (file : List ℕ) where
   pub refused_case_lem : (number place : ℕ) → RefusedBy file number place → case_of file ≡ refused_case number place
   refused_case_lem = refused_case_on default_board file
 
-  pub accepted_case : UnrefusedFile file → case_of file ≡ case_in default_board file
+  pub accepted_case : UnrefusedFile file → case_of file ≡ Ok (case_in default_board file)
   accepted_case = accepted_case_on default_board file
 
-  pub refused_exact : (number place : ℕ) → ((case_of file).found ≡ Refused number place) ↔ RefusedBy file number place
+  pub refused_exact : (number place : ℕ) → (case_of file ≡ refused_case number place) ↔ RefusedBy file number place
   refused_exact = refused_exact_on default_board file
 
-  pub accepted_exact : (memory events : ℕ)
-      → ((case_of file).found ≡ Bodies memory events) ↔ ((memory ≡ field_at file 20) × (events ≡ field_at file 32) × UnrefusedFile file)
+  pub accepted_exact : (c : Case) → (case_of file ≡ Ok c) ↔ ((c ≡ case_in default_board file) × UnrefusedFile file)
   accepted_exact = accepted_exact_on default_board file

@@ -1,7 +1,7 @@
 -- The harts body of a case file (01, "The case file"): "1 harts: base (8), count (4), zero (4), then for each hart x1 to x31 and pc (8 each)." 02 [10]: "A
 -- case file states it in the zero field of the harts body: 0 is 64-bit, 1 is 32-bit, anything else is refusal 9."
 -- RULES 7.2.
-use Rattle.std.specs.Prelude.{◌≡◌, ◌⊎◌, ℕ, ◌+◌, ◌*◌, ◌-◌, ◌/◌, ◌%◌, ◌^◌, ◌≤◌, ◌<◌, Bool, true, cond, ◌&&◌, ◌||◌, List, leb, ltb, eqb, length, replicate}
+use Rattle.std.specs.Prelude.{◌≡◌, ◌⊎◌, ℕ, ◌+◌, ◌*◌, ◌-◌, ◌/◌, ◌%◌, ◌^◌, ◌≤◌, ◌<◌, Bool, true, cond, ◌&&◌, ◌||◌, None, List, leb, ltb, eqb, length, replicate}
 use Rattle.word.specs.Bytes.{le}
 use Rattle.word.specs.Memory.{part}
 use Rattle.word.specs.Each.{each, all_below}
@@ -9,8 +9,6 @@ use Rattle.settings.specs.Settings.{defaults, granule_of}
 use Rattle.settings.specs.Boards.{on_board}
 use Rattle.settings.specs.declared.Board.{Board}
 use Rattle.settings.specs.declared.Settings.{Settings}
-use Rattle.reserve.specs.Reserve.{slot}
-use Rattle.reserve.specs.declared.Reservation.TheVariants.{None}
 use Rattle.machine.specs.declared.State.{State}
 
 -- the fields of a harts body
@@ -67,9 +65,9 @@ HartsRules board body =
     × ((h : ℕ) → h < count_of body → pc_of body h % 4 ≡ 0)
     × (kind_of body ≡ 1 → (i : ℕ) → i < 32 * count_of body → number_of body i < 2 ^ 32)
 
--- a machine without harts, with the default settings, all else zero
+-- a machine without harts, with the default settings, all else zero: what stands for the state of a file that is refused
 unfoldable pub no_state : State
-no_state = record { count = 0; settings = defaults; x = replicate 256 0; pc = replicate 8 0; res = replicate 8 (slot None) }
+no_state = record { count = 0; settings = defaults; x = replicate 256 0; pc = replicate 8 0; res = replicate 8 None }
 
 -- the state that a harts body is on a board: x of register r of hart h stands at 32 * h + r. What belongs to harts at or above the count is zero. "A read
 -- case has no reservations."
@@ -80,5 +78,5 @@ state_of board count body =
       settings = settings_of board body;
       x = each (λ i _. register_of body (i / 32) (i % 32)) (32 * count) (replicate 256 0);
       pc = each (λ h _. pc_of body h) count (replicate 8 0);
-      res = replicate 8 (slot None);
+      res = replicate 8 None;
     }

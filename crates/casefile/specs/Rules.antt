@@ -11,7 +11,6 @@ use Rattle.events.specs.Rows.{FirstRow, NoRow}
 use Rattle.events.specs.Rules.{WrongEvents}
 use Rattle.casefile.specs.Harts.{base_of, count_of, HartsRules, state_of, settings_of}
 use Rattle.machine.specs.Rules.{TopRules}
-use Rattle.casefile.specs.declared.Found.TheVariants.{Bodies}
 use Rattle.casefile.specs.declared.Case.{Case}
 
 -- "7: file length not 40 to 65,536 (place 0)": a length that is
@@ -80,7 +79,8 @@ UnrefusedFile file = UnrefusedOn default_board file
 abbrev pub case_in : Board → List ℕ → Case
 case_in board file =
     record {
-      found = Bodies (field_at file 20) (field_at file 32);
+      memory = field_at file 20;
+      events = field_at file 32;
       base = base_of (harts_in file);
       state = state_of board (count_of (harts_in file)) (harts_in file);
     }

@@ -2,46 +2,81 @@
 // registers have 64 bits, then of all where they have 32. tools/decode-table makes the input and, by another disassembler, the lines that are expected.
 #![tactic(auto)]
 
-use input::read_full;
-use isa::Instr;
-use std::io;
+ghost use Rattle.std.specs.Prelude.{◌≡◌, length};
 
-mod lines;
+use input::read_full;
+use isa::{Atomic, Instr};
+use std::io;
+use word::bytes::load_le;
+
 mod names;
-mod out;
 
 fn instr(rt: &impl Print, i: Instr) -> io::Result<()> {
     match i {
-        Instr::Illegal => out::text(rt, b"illegal"),
-        Instr::Lui { rd, imm } => lines::lui(rt, rd, imm),
-        Instr::Auipc { rd, imm } => lines::auipc(rt, rd, imm),
-        Instr::Jal { rd, imm } => lines::jal(rt, rd, imm),
-        Instr::Jalr { rd, rs1, imm } => lines::jalr(rt, rd, rs1, imm),
-        Instr::Branch { op, rs1, rs2, imm } => lines::branch(rt, op, rs1, rs2, imm),
-        Instr::Load { op, rd, rs1, imm } => lines::load(rt, op, rd, rs1, imm),
-        Instr::Store { op, rs1, rs2, imm } => lines::store(rt, op, rs1, rs2, imm),
-        Instr::OpImm { op, rd, rs1, imm } => lines::op_imm(rt, op, rd, rs1, imm),
-        Instr::OpImm32 { op, rd, rs1, imm } => lines::op_imm_32(rt, op, rd, rs1, imm),
-        Instr::Op { op, rd, rs1, rs2 } => lines::op(rt, op, rd, rs1, rs2),
-        Instr::Op32 { op, rd, rs1, rs2 } => lines::op_32(rt, op, rd, rs1, rs2),
-        Instr::Fence { rd, rs1, imm } => lines::fence(rt, rd, rs1, imm),
-        Instr::Ecall => out::text(rt, b"ecall"),
-        Instr::Ebreak => out::text(rt, b"ebreak"),
-        Instr::Amo(a) => lines::atomic(rt, a),
+        Instr::Illegal => print!(rt; "illegal"),
+        Instr::Lui { rd, imm } => print!(rt; "lui rd={rd} imm={imm:016x}"),
+        Instr::Auipc { rd, imm } => print!(rt; "auipc rd={rd} imm={imm:016x}"),
+        Instr::Jal { rd, imm } => print!(rt; "jal rd={rd} imm={imm:016x}"),
+        Instr::Jalr { rd, rs1, imm } => print!(rt; "jalr rd={rd} rs1={rs1} imm={imm:016x}"),
+        Instr::Branch { op, rs1, rs2, imm } => print!(rt;
+            "{} rs1={rs1} rs2={rs2} imm={imm:016x}",
+            names::branch(op)
+        ),
+        Instr::Load { op, rd, rs1, imm } => print!(rt;
+            "{} rd={rd} rs1={rs1} imm={imm:016x}",
+            names::load(op)
+        ),
+        Instr::Store { op, rs1, rs2, imm } => print!(rt;
+            "{} rs1={rs1} rs2={rs2} imm={imm:016x}",
+            names::store(op)
+        ),
+        Instr::OpImm { op, rd, rs1, imm } => print!(rt;
+            "{} rd={rd} rs1={rs1} imm={imm:016x}",
+            names::alu_imm(op)
+        ),
+        Instr::OpImm32 { op, rd, rs1, imm } => print!(rt;
+            "{}w rd={rd} rs1={rs1} imm={imm:016x}",
+            names::alu_imm(op)
+        ),
+        Instr::Op { op, rd, rs1, rs2 } => print!(rt;
+            "{} rd={rd} rs1={rs1} rs2={rs2}",
+            names::alu(op)
+        ),
+        Instr::Op32 { op, rd, rs1, rs2 } => print!(rt;
+            "{}w rd={rd} rs1={rs1} rs2={rs2}",
+            names::alu(op)
+        ),
+        Instr::Fence { rd, rs1, imm } => print!(rt; "fence rd={rd} rs1={rs1} imm={imm:016x}"),
+        Instr::Ecall => print!(rt; "ecall"),
+        Instr::Ebreak => print!(rt; "ebreak"),
+        Instr::Amo(a) => atomic(rt, a),
     }
 }
 
-fn line(rt: &impl Print, word: u32, xlen: u32) -> io::Result<()> {
-    out::word(rt, word)?;
+fn atomic(rt: &impl Print, a: Atomic) -> io::Result<()> {
+    let (name, width) = (names::atomic(a.op), names::width(a.op, a.width));
+    print!(rt;
+        "{name}.{width} rd={} rs1={} rs2={} aq={} rl={}",
+        a.rd,
+        a.rs1,
+        a.rs2,
+        u8::from(a.aq),
+        u8::from(a.rl)
+    )
+}
+
+fn line(rt: &impl Print, bytes: &[u8], xlen: u32) -> io::Result<()>
+    requires { length bytes.now ≡ 4 }
+{
+    let word = load_le(bytes) as u32;
+    print!(rt; "{word:08x} ")?;
     instr(rt, isa::decode_at(word, xlen))?;
-    out::text(rt, b"\n")
+    println!(rt)
 }
 
 fn all(rt: &impl Print, words: &[u8], xlen: u32) -> io::Result<()> {
-    let mut i = 0;
-    while i < words.len() / 4 {
-        line(rt, out::word_at(words, 4 * i), xlen)?;
-        i += 1;
+    for bytes in words.chunks_exact(4) {
+        line(rt, bytes, xlen)?;
     }
     Ok(())
 }

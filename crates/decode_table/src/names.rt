@@ -1,106 +1,93 @@
 // The manual's mnemonics.
-use crate::out::text;
 use isa::{AluOp, AmoOp, AtomicOp, BranchOp, LoadOp, StoreOp, Width};
-use std::io;
 
-pub fn branch(rt: &impl Print, op: BranchOp) -> io::Result<()> {
+pub fn branch(op: BranchOp) -> &'static str {
     match op {
-        BranchOp::Eq => text(rt, b"beq"),
-        BranchOp::Ne => text(rt, b"bne"),
-        BranchOp::Lt => text(rt, b"blt"),
-        BranchOp::Ge => text(rt, b"bge"),
-        BranchOp::Ltu => text(rt, b"bltu"),
-        BranchOp::Geu => text(rt, b"bgeu"),
+        BranchOp::Eq => "beq",
+        BranchOp::Ne => "bne",
+        BranchOp::Lt => "blt",
+        BranchOp::Ge => "bge",
+        BranchOp::Ltu => "bltu",
+        BranchOp::Geu => "bgeu",
     }
 }
 
-pub fn load(rt: &impl Print, op: LoadOp) -> io::Result<()> {
+pub fn load(op: LoadOp) -> &'static str {
     match op {
-        LoadOp::Lb => text(rt, b"lb"),
-        LoadOp::Lh => text(rt, b"lh"),
-        LoadOp::Lw => text(rt, b"lw"),
-        LoadOp::Ld => text(rt, b"ld"),
-        LoadOp::Lbu => text(rt, b"lbu"),
-        LoadOp::Lhu => text(rt, b"lhu"),
-        LoadOp::Lwu => text(rt, b"lwu"),
+        LoadOp::Lb => "lb",
+        LoadOp::Lh => "lh",
+        LoadOp::Lw => "lw",
+        LoadOp::Ld => "ld",
+        LoadOp::Lbu => "lbu",
+        LoadOp::Lhu => "lhu",
+        LoadOp::Lwu => "lwu",
     }
 }
 
-pub fn store(rt: &impl Print, op: StoreOp) -> io::Result<()> {
+pub fn store(op: StoreOp) -> &'static str {
     match op {
-        StoreOp::Sb => text(rt, b"sb"),
-        StoreOp::Sh => text(rt, b"sh"),
-        StoreOp::Sw => text(rt, b"sw"),
-        StoreOp::Sd => text(rt, b"sd"),
+        StoreOp::Sb => "sb",
+        StoreOp::Sh => "sh",
+        StoreOp::Sw => "sw",
+        StoreOp::Sd => "sd",
     }
 }
 
 // Of an operation on two registers.
-pub fn alu(rt: &impl Print, op: AluOp) -> io::Result<()> {
+pub fn alu(op: AluOp) -> &'static str {
     match op {
-        AluOp::Add => text(rt, b"add"),
-        AluOp::Sub => text(rt, b"sub"),
-        AluOp::Sll => text(rt, b"sll"),
-        AluOp::Slt => text(rt, b"slt"),
-        AluOp::Sltu => text(rt, b"sltu"),
-        AluOp::Xor => text(rt, b"xor"),
-        AluOp::Srl => text(rt, b"srl"),
-        AluOp::Sra => text(rt, b"sra"),
-        AluOp::Or => text(rt, b"or"),
-        AluOp::And => text(rt, b"and"),
+        AluOp::Add => "add",
+        AluOp::Sub => "sub",
+        AluOp::Sll => "sll",
+        AluOp::Slt => "slt",
+        AluOp::Sltu => "sltu",
+        AluOp::Xor => "xor",
+        AluOp::Srl => "srl",
+        AluOp::Sra => "sra",
+        AluOp::Or => "or",
+        AluOp::And => "and",
     }
 }
 
 // Of an operation on a register and an immediate.
-pub fn alu_imm(rt: &impl Print, op: AluOp) -> io::Result<()> {
+pub fn alu_imm(op: AluOp) -> &'static str {
     match op {
-        AluOp::Sltu => text(rt, b"sltiu"),
-        _ => {
-            alu(rt, op)?;
-            text(rt, b"i")
-        }
+        AluOp::Add => "addi",
+        AluOp::Sub => "subi",
+        AluOp::Sll => "slli",
+        AluOp::Slt => "slti",
+        AluOp::Sltu => "sltiu",
+        AluOp::Xor => "xori",
+        AluOp::Srl => "srli",
+        AluOp::Sra => "srai",
+        AluOp::Or => "ori",
+        AluOp::And => "andi",
     }
 }
 
-fn amo(rt: &impl Print, op: AmoOp) -> io::Result<()> {
+pub fn atomic(op: AtomicOp) -> &'static str {
     match op {
-        AmoOp::Swap => text(rt, b"amoswap"),
-        AmoOp::Add => text(rt, b"amoadd"),
-        AmoOp::Xor => text(rt, b"amoxor"),
-        AmoOp::And => text(rt, b"amoand"),
-        AmoOp::Or => text(rt, b"amoor"),
-        AmoOp::Min => text(rt, b"amomin"),
-        AmoOp::Max => text(rt, b"amomax"),
-        AmoOp::Minu => text(rt, b"amominu"),
-        AmoOp::Maxu => text(rt, b"amomaxu"),
+        AtomicOp::Lr => "lr",
+        AtomicOp::Sc => "sc",
+        AtomicOp::Cas | AtomicOp::CasPair => "amocas",
+        AtomicOp::Rmw(AmoOp::Swap) => "amoswap",
+        AtomicOp::Rmw(AmoOp::Add) => "amoadd",
+        AtomicOp::Rmw(AmoOp::Xor) => "amoxor",
+        AtomicOp::Rmw(AmoOp::And) => "amoand",
+        AtomicOp::Rmw(AmoOp::Or) => "amoor",
+        AtomicOp::Rmw(AmoOp::Min) => "amomin",
+        AtomicOp::Rmw(AmoOp::Max) => "amomax",
+        AtomicOp::Rmw(AmoOp::Minu) => "amominu",
+        AtomicOp::Rmw(AmoOp::Maxu) => "amomaxu",
     }
 }
 
-fn width(rt: &impl Print, w: Width) -> io::Result<()> {
-    match w {
-        Width::Word => text(rt, b".w"),
-        Width::Double => text(rt, b".d"),
+// The width of what an atomic moves: of a pair of registers, twice that of one.
+pub fn width(op: AtomicOp, w: Width) -> &'static str {
+    match (op, w) {
+        (AtomicOp::CasPair, Width::Word) => "d",
+        (AtomicOp::CasPair, Width::Double) => "q",
+        (_, Width::Word) => "w",
+        (_, Width::Double) => "d",
     }
-}
-
-// Of a pair of registers: twice the width of one.
-fn pair_width(rt: &impl Print, w: Width) -> io::Result<()> {
-    match w {
-        Width::Word => text(rt, b".d"),
-        Width::Double => text(rt, b".q"),
-    }
-}
-
-pub fn atomic(rt: &impl Print, op: AtomicOp, w: Width) -> io::Result<()> {
-    match op {
-        AtomicOp::Lr => text(rt, b"lr")?,
-        AtomicOp::Sc => text(rt, b"sc")?,
-        AtomicOp::Cas => text(rt, b"amocas")?,
-        AtomicOp::CasPair => {
-            text(rt, b"amocas")?;
-            return pair_width(rt, w);
-        }
-        AtomicOp::Rmw(a) => amo(rt, a)?,
-    }
-    width(rt, w)
 }

@@ -1,4 +1,5 @@
 -- What a word is at a register width, by the one test that the code makes of it. Assumes nothing.
+use Rattle.std.proofs.Common.{Result}
 use mathlib.Core.Path.{◌≡◌, sym, ap, ◌∙◌, subst}
 use mathlib.Core.Bool.{Bool, true, false, ◌&&◌}
 use mathlib.Core.List.{List}
@@ -13,11 +14,12 @@ use Rattle.isa.specs.declared.Instr.TheVariants.{Illegal}
 use Rattle.effect.specs.Effect.{Exec, Meets}
 use Rattle.effect.specs.Sound.{Fitting}
 use Rattle.effect.specs.Execute.{execute, execute_word}
-use Rattle.effect.specs.declared.Done.{Done}
+use Rattle.effect.specs.declared.Effect.{Effect}
+use Rattle.effect.specs.declared.Trap.{Trap}
 use Rattle.effect.proofs.Fitting.{fitting_at}
 
 -- an answer of one effect is one of any that it equals
-pub met_as : {h base : ℕ} {e f : Exec} {mem after : List ℕ} {r : Done} → f ≡ e → Meets h f base mem r after → Meets h e base mem r after
+pub met_as : {h base : ℕ} {e f : Exec} {mem after : List ℕ} {r : Result Effect Trap} → f ≡ e → Meets h f base mem r after → Meets h e base mem r after
 met_as {h} {base} {e} {f} {mem} {after} {r} q m = subst (λ (x : Exec). Meets h x base mem r after) q m
 
 -- of an instruction i that a word decodes to at 64 bits

@@ -4,8 +4,7 @@ use Rattle.std.specs.Prelude.{◌≡◌, List, [], ◌∷◌, ℕ, ◌+◌, set,
 use Rattle.word.specs.Bytes.{le, to_le}
 use Rattle.word.specs.Memory.{part, splice}
 use Rattle.settings.specs.Settings.{defaults}
-use Rattle.reserve.specs.Reserve.{slot}
-use Rattle.reserve.specs.declared.Reservation.TheVariants.{None}
+use Rattle.std.specs.Prelude.{None}
 use Rattle.isa.specs.Decode.{decode_of}
 use Rattle.isa.specs.declared.Instr.{Instr}
 use Rattle.effect.specs.Execute.{reg_at}
@@ -50,7 +49,7 @@ with_registers ((x r is v) ∷ rest) l = with_registers rest (set l r v)
 abbrev pub start : List ℕ → List Register → List Bytes → Machine
 start words registers bytes =
     record {
-      state = record { count = 1; settings = defaults; x = with_registers registers (replicate 256 0); pc = replicate 8 0; res = replicate 8 (slot None) };
+      state = record { count = 1; settings = defaults; x = with_registers registers (replicate 256 0); pc = replicate 8 0; res = replicate 8 None };
       mem = with_bytes bytes (with_words 0 words (replicate 256 0));
     }
 

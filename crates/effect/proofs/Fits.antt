@@ -26,7 +26,7 @@ use Rattle.isa.specs.declared.AtomicOp.TheVariants.{Lr, Sc, Cas, CasPair, Rmw}
 use Rattle.isa.specs.declared.Atomic.{Atomic}
 use Rattle.isa.specs.declared.Instr.{Instr}
 use Rattle.isa.specs.declared.Instr.TheVariants.{Illegal, Lui, Auipc, Jal, Jalr, Branch, Load, Store, OpImm, OpImm32, Op, Op32, Fence, Ecall, Ebreak, Amo}
-use Rattle.effect.specs.Effect.{none, pair, Access, nothing, reserve, store, sc_stored, sc_failed, Exec, trap, offset, next_pc, stored}
+use Rattle.effect.specs.Effect.{none, pair, Access, nothing, store, sc_stored, Exec, trap, offset, next_pc, stored}
 use Rattle.effect.specs.Integer.{computed, exec_jump, clear_bit0, holds_of, exec_branch}
 use Rattle.effect.specs.Memory.{fault_of, checked, value_at, load_bytes, extended, store_bytes, exec_load, exec_store}
 use Rattle.effect.specs.Atomic.{swapped, pair_writes, exec_lr, exec_sc, exec_amo, exec_cas, exec_cas_pair}
@@ -167,8 +167,6 @@ fits xlen misaligned is word x pc base mem covered = fits_execute xlen is pc mis
 
 -- what a store inside memory leaves is as long
 pub length-stored : (base : ℕ) (mem : List ℕ) (t : Access) → AccessOk base (length mem) t → length (stored base mem t) ≡ length mem
-length-stored base mem nothing o = refl
-length-stored base mem (reserve a w) o = refl
 length-stored base mem (store a bs) o = length-splice mem (a - base) bs (omega arith)
 length-stored base mem (sc_stored a bs) o = length-splice mem (a - base) bs (omega arith)
-length-stored base mem sc_failed o = refl
+length-stored base mem _ o = refl

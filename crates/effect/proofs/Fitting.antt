@@ -14,10 +14,10 @@ use Rattle.isa.specs.declared.Width.TheVariants.{Word, Double}
 use Rattle.isa.specs.declared.LoadOp.{LoadOp}
 use Rattle.isa.specs.declared.LoadOp.TheVariants.{Lb, Lh, Lw, Ld, Lbu, Lhu, Lwu}
 use Rattle.isa.specs.declared.AtomicOp.{AtomicOp}
-use Rattle.isa.specs.declared.AtomicOp.TheVariants.{Lr, Sc, Cas, CasPair, Rmw}
+use Rattle.isa.specs.declared.AtomicOp.TheVariants.{Cas}
 use Rattle.isa.specs.declared.Atomic.{Atomic}
 use Rattle.isa.specs.declared.Instr.{Instr}
-use Rattle.isa.specs.declared.Instr.TheVariants.{Illegal, Lui, Auipc, Jal, Jalr, Branch, Load, Store, OpImm, OpImm32, Op, Op32, Fence, Ecall, Ebreak, Amo}
+use Rattle.isa.specs.declared.Instr.TheVariants.{Illegal, Load, Store, OpImm, OpImm32, Op32, Amo}
 use Rattle.effect.specs.Memory.{load_bytes}
 use Rattle.effect.specs.Sound.{Fitting}
 
@@ -35,61 +35,32 @@ bits_most Word = lit≤ tt
 bits_most Double = lit≤ tt
 
 fitting_64 : (i : Instr) → Fitting 64 i
-fitting_64 Illegal = tt
-fitting_64 (Lui rd imm) = tt
-fitting_64 (Auipc rd imm) = tt
-fitting_64 (Jal rd imm) = tt
-fitting_64 (Jalr rd rs1 imm) = tt
-fitting_64 (Branch op rs1 rs2 imm) = tt
 fitting_64 (Load op rd rs1 imm) = load_most op
-fitting_64 (Store op rs1 rs2 imm) = tt
-fitting_64 (OpImm op rd rs1 imm) = tt
 fitting_64 (OpImm32 op rd rs1 imm) = lit≤ tt
-fitting_64 (Op op rd rs1 rs2) = tt
 fitting_64 (Op32 op rd rs1 rs2) = lit≤ tt
-fitting_64 (Fence rd rs1 imm) = tt
-fitting_64 Ecall = tt
-fitting_64 Ebreak = tt
 fitting_64 (Amo m) = bits_most m.width
+fitting_64 _ = tt
 
 kept_load_lem : (op : LoadOp) (rd rs1 imm : ℕ) → Fitting 32 (if_kept (kept_load op) (Load op rd rs1 imm))
-kept_load_lem Lb rd rs1 imm = lit≤ tt
-kept_load_lem Lh rd rs1 imm = lit≤ tt
-kept_load_lem Lw rd rs1 imm = lit≤ tt
 kept_load_lem Ld rd rs1 imm = tt
-kept_load_lem Lbu rd rs1 imm = lit≤ tt
-kept_load_lem Lhu rd rs1 imm = lit≤ tt
 kept_load_lem Lwu rd rs1 imm = tt
+kept_load_lem _ rd rs1 imm = lit≤ tt
 
 kept_double : (op : AtomicOp) (m : Atomic) → Fitting 32 (narrowed_double op m)
-kept_double Lr m = tt
-kept_double Sc m = tt
 kept_double Cas m = cond_all (Fitting 32) (even_pairs m) (as_pair m) Illegal (lit≤ tt) tt
-kept_double CasPair m = tt
-kept_double (Rmw op) m = tt
+kept_double _ m = tt
 
 fitting_32 : (i : Instr) → Fitting 32 (narrowed i)
 unfolding narrowed
-fitting_32 Illegal = tt
-fitting_32 (Lui rd imm) = tt
-fitting_32 (Auipc rd imm) = tt
-fitting_32 (Jal rd imm) = tt
-fitting_32 (Jalr rd rs1 imm) = tt
-fitting_32 (Branch op rs1 rs2 imm) = tt
 fitting_32 (Load op rd rs1 imm) = kept_load_lem op rd rs1 imm
 fitting_32 (Store op rs1 rs2 imm) = cond_all (Fitting 32) (kept_store op) (Store op rs1 rs2 imm) Illegal tt tt
 fitting_32 (OpImm op rd rs1 imm) = cond_all (Fitting 32) (kept_imm op imm) (OpImm op rd rs1 imm) Illegal tt tt
-fitting_32 (OpImm32 op rd rs1 imm) = tt
-fitting_32 (Op op rd rs1 rs2) = tt
-fitting_32 (Op32 op rd rs1 rs2) = tt
-fitting_32 (Fence rd rs1 imm) = tt
-fitting_32 Ecall = tt
-fitting_32 Ebreak = tt
 fitting_32 (Amo m) = go m.width refl
   where
     go : (w : Width) → m.width ≡ w → Fitting 32 (narrowed_atomic w m)
     go Word e = rw e (lit≤ tt)
     go Double e = kept_double m.op m
+fitting_32 _ = tt
 
 -- any instruction, as that width has it
 pub fitting_at : (xlen : ℕ) → Xlen xlen → (i : Instr) → Fitting xlen (narrowed_at xlen i)

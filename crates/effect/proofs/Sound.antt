@@ -28,7 +28,7 @@ use Rattle.isa.specs.declared.AtomicOp.{AtomicOp}
 use Rattle.isa.specs.declared.AtomicOp.TheVariants.{Lr, Sc, Cas, CasPair, Rmw}
 use Rattle.isa.specs.declared.Atomic.{Atomic}
 use Rattle.isa.specs.declared.Instr.{Instr}
-use Rattle.isa.specs.declared.Instr.TheVariants.{Illegal, Lui, Auipc, Jal, Jalr, Branch, Load, Store, OpImm, OpImm32, Op, Op32, Fence, Ecall, Ebreak, Amo}
+use Rattle.isa.specs.declared.Instr.TheVariants.{Illegal, Jal, Jalr, Branch, Load, Store, Ecall, Ebreak, Amo}
 use Rattle.effect.specs.Effect.{nothing, store, Exec, trap, offset, next_pc}
 use Rattle.effect.specs.Integer.{exec_jump, clear_bit0, holds_of, exec_branch}
 use Rattle.effect.specs.Memory.{fault_of, checked, value_at, load_bytes, store_bytes, exec_load, exec_store}
@@ -141,19 +141,13 @@ module _ (xlen misaligned : ℕ) (enough : 2 ≤ xlen) (pc : ℕ) (aligned : pc 
     sound_execute Illegal word x = tt
     sound_execute Ecall word x = tt
     sound_execute Ebreak word x = tt
-    sound_execute (Fence rd rs1 imm) word x = (next_aligned, tt)
-    sound_execute (Lui rd imm) word x = (next_aligned, tt)
-    sound_execute (Auipc rd imm) word x = (next_aligned, tt)
     sound_execute (Jal rd imm) word x = sound_jump rd (offset xlen pc imm)
     sound_execute (Jalr rd rs1 imm) word x = sound_jump rd (clear_bit0 (offset xlen (x rs1) imm))
     sound_execute (Branch op rs1 rs2 imm) word x = sound_branch (holds_of xlen op (x rs1) (x rs2)) (offset xlen pc imm)
     sound_execute (Load op rd rs1 imm) word x = sound_load op rd (offset xlen (x rs1) imm)
     sound_execute (Store op rs1 rs2 imm) word x = sound_store op (offset xlen (x rs1) imm) (x rs2)
-    sound_execute (OpImm op rd rs1 imm) word x = (next_aligned, tt)
-    sound_execute (OpImm32 op rd rs1 imm) word x = (next_aligned, tt)
-    sound_execute (Op op rd rs1 rs2) word x = (next_aligned, tt)
-    sound_execute (Op32 op rd rs1 rs2) word x = (next_aligned, tt)
     sound_execute (Amo m) word x = sound_atomic m.op m x
+    sound_execute _ word x = (next_aligned, tt)
 
 -- Whatever the word, the registers, the reservation and the setting, a step from an aligned pc goes to an aligned pc, and reserves and stores inside memory only.
 pub sound : (xlen misaligned word : ℕ) (x : ℕ → ℕ) (pc base : ℕ) (mem : List ℕ) (covered : ℕ → ℕ → Bool) → 2 ≤ xlen → pc % 4 ≡ 0

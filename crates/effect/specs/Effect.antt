@@ -1,11 +1,11 @@
 -- What an instruction comes to: a trap, or its effect.
 -- RULES 3 and 4: what the two ends of a step are.
-use Rattle.std.specs.Prelude.{ℕ, ◌+◌, ◌-◌, ◌%◌, ◌^◌, ◌≡◌, List, length}
+use Rattle.std.specs.Prelude.{ℕ, ◌+◌, ◌-◌, ◌%◌, ◌^◌, ◌≡◌, List, length, Result, Ok, Err}
 use Rattle.word.specs.Memory.{splice}
 use Rattle.reserve.specs.declared.Notice.{Notice}
 use Rattle.reserve.specs.declared.Notice.TheVariants.{Quiet, LoadReserved, ScStored, ScFailed, Write}
-use Rattle.effect.specs.declared.Done.{Done}
-use Rattle.effect.specs.declared.Done.TheVariants.{Retired, Trap}
+use Rattle.effect.specs.declared.Effect.{Effect}
+use Rattle.effect.specs.declared.Trap.{Trap}
 
 -- the registers that it writes, with their values; a pair writes its first register first
 pub data Writes : Type 0 where
@@ -47,17 +47,17 @@ notice_of h (sc_stored a bs) = ScStored h a (length bs)
 notice_of h sc_failed = ScFailed h
 
 -- the answer as the code gives it: where no register is written, x0 is
-abbrev pub retired : Writes → ℕ → Notice → Done
-retired none to n = Retired (record { rd = 0; value = 0; rd2 = 0; value2 = 0; next = to; notice = n })
-retired (one rd v) to n = Retired (record { rd = rd; value = v; rd2 = 0; value2 = 0; next = to; notice = n })
-retired (pair rd v rd2 v2) to n = Retired (record { rd = rd; value = v; rd2 = rd2; value2 = v2; next = to; notice = n })
+abbrev pub retired : Writes → ℕ → Notice → Result Effect Trap
+retired none to n = Ok (record { rd = 0; value = 0; rd2 = 0; value2 = 0; next = to; notice = n })
+retired (one rd v) to n = Ok (record { rd = rd; value = v; rd2 = 0; value2 = 0; next = to; notice = n })
+retired (pair rd v rd2 v2) to n = Ok (record { rd = rd; value = v; rd2 = rd2; value2 = v2; next = to; notice = n })
 
-abbrev pub done_of : ℕ → Exec → Done
-done_of h (trap cause value) = Trap cause value
+abbrev pub done_of : ℕ → Exec → Result Effect Trap
+done_of h (trap cause value) = Err (record { cause = cause; value = value })
 done_of h (effect ws to t) = retired ws to (notice_of h t)
 
 -- hart h's answer and the memory afterwards are those of e
-pub record Meets (h : ℕ) (e : Exec) (base : ℕ) (before : List ℕ) (r : Done) (after : List ℕ) : Type 0 where
+pub record Meets (h : ℕ) (e : Exec) (base : ℕ) (before : List ℕ) (r : Result Effect Trap) (after : List ℕ) : Type 0 where
   pub answer : r ≡ done_of h e
   pub memory : after ≡ memory_by base before e
 

@@ -5,7 +5,7 @@ use Rattle.word.specs.Bytes.{IsBytes}
 use Rattle.reserve.specs.Range.{Inside}
 use Rattle.isa.specs.Width.{bits_of}
 use Rattle.isa.specs.declared.Instr.{Instr}
-use Rattle.isa.specs.declared.Instr.TheVariants.{Illegal, Lui, Auipc, Jal, Jalr, Branch, Load, Store, OpImm, OpImm32, Op, Op32, Fence, Ecall, Ebreak, Amo}
+use Rattle.isa.specs.declared.Instr.TheVariants.{Load, OpImm32, Op32, Amo}
 use Rattle.effect.specs.Memory.{load_bytes}
 use Rattle.effect.specs.Effect.{Writes, none, one, pair, Access, nothing, reserve, store, sc_stored, sc_failed, Exec, trap, effect}
 
@@ -46,19 +46,8 @@ module _ (xlen : ℕ) where
   -- What an instruction loads into a register has no more bits than that, and OP-32 and OP-IMM-32 are of registers of 64 bits: so it is with every word that
   -- is decoded at that width.
   abbrev pub Fitting : Instr → Type 0
-  Fitting Illegal = Unit {0}
-  Fitting (Lui rd imm) = Unit {0}
-  Fitting (Auipc rd imm) = Unit {0}
-  Fitting (Jal rd imm) = Unit {0}
-  Fitting (Jalr rd rs1 imm) = Unit {0}
-  Fitting (Branch op rs1 rs2 imm) = Unit {0}
   Fitting (Load op rd rs1 imm) = 8 * load_bytes op ≤ xlen
-  Fitting (Store op rs1 rs2 imm) = Unit {0}
-  Fitting (OpImm op rd rs1 imm) = Unit {0}
   Fitting (OpImm32 op rd rs1 imm) = 64 ≤ xlen
-  Fitting (Op op rd rs1 rs2) = Unit {0}
   Fitting (Op32 op rd rs1 rs2) = 64 ≤ xlen
-  Fitting (Fence rd rs1 imm) = Unit {0}
-  Fitting Ecall = Unit {0}
-  Fitting Ebreak = Unit {0}
   Fitting (Amo a) = bits_of a.width ≤ xlen
+  Fitting _ = Unit {0}

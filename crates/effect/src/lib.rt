@@ -1,9 +1,10 @@
-// What one instruction comes to: its types. Their meaning is in specs/.
+// What one instruction comes to, a Result: its effect where it retires, or its trap. The meaning is in specs/.
 #![tactic(auto)]
 
 use reserve::Notice;
 
-// A retired instruction: up to two registers written, the first one first (x0: none), the next pc, and what reservations learn.
+// A retired instruction: up to two registers written, the first one first, the next pc, and what reservations learn. Where none is written rd is x0 and no
+// None: an instruction itself says so by x0, and setting it is no write.
 #[derive(Clone, Copy)]
 pub struct Effect {
     pub rd: usize,
@@ -14,8 +15,9 @@ pub struct Effect {
     pub notice: Notice,
 }
 
-#[derive(Clone, Copy)]
-pub enum Done {
-    Retired(Effect),
-    Trap { cause: u64, value: u64 },
+// What a trap gives: the cause and the value beside it. Nothing is changed.
+#[derive(Clone, Copy, PartialEq, Eq)]
+pub struct Trap {
+    pub cause: u64,
+    pub value: u64,
 }

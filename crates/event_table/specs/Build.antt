@@ -1,14 +1,12 @@
 -- The case that items of 24 bytes build (tools/event-table says their layout), and the event that ends it.
-use Rattle.std.specs.Prelude.{ℕ, ◌+◌, ◌*◌, ◌/◌, ◌%◌, ◌^◌, Bool, true, false, cond, ◌&&◌, List, length, replicate, ◌==◌, nat_le, nat_lt, slice_index, slice_set}
+use Rattle.std.specs.Prelude.{ℕ, ◌+◌, ◌*◌, ◌/◌, ◌%◌, ◌^◌, Bool, cond, ◌&&◌, Option, None, List, length, replicate, ◌==◌, nat_le, nat_lt, slice_index, slice_set}
 use Rattle.word.specs.Bytes.{le, to_le}
 use Rattle.word.specs.Each.{each}
 use Rattle.word.specs.Memory.{part, splice}
 use Rattle.settings.specs.Settings.{defaults}
 use Rattle.settings.specs.declared.Settings.{Settings}
-use Rattle.reserve.specs.Reserve.{slot}
+use Rattle.reserve.specs.Reserve.{held}
 use Rattle.reserve.specs.declared.Reservation.{Reservation}
-use Rattle.reserve.specs.declared.Reservation.TheVariants.{None, Held}
-use Rattle.reserve.specs.declared.Slot.{Slot}
 use Rattle.machine.specs.declared.State.{State}
 use Rattle.events.specs.declared.Event.{Event}
 use Rattle.events.specs.declared.Event.TheVariants.{Step, Device, Yield}
@@ -42,14 +40,14 @@ unfoldable pub pcs_of : ℕ → ℕ → List ℕ → List ℕ
 pcs_of count base x = each (λ h _. pc_at count base x h) 8 (replicate 8 0)
 
 -- a used hart has no reservation, another that of its x2 and x3
-abbrev pub slot_as : Bool → ℕ → ℕ → Slot
-slot_as used addr width = cond used (slot None) (slot (Held addr width))
+abbrev pub slot_as : Bool → ℕ → ℕ → Option Reservation
+slot_as used addr width = cond used None (held addr width)
 
-abbrev pub slot_at : ℕ → List ℕ → ℕ → Slot
+abbrev pub slot_at : ℕ → List ℕ → ℕ → Option Reservation
 slot_at count x h = slot_as (nat_lt h count) (slice_index x (h * 32 + 2)) (slice_index x (h * 32 + 3))
 
-unfoldable pub slots_of : ℕ → List ℕ → List Slot
-slots_of count x = each (λ h _. slot_at count x h) 8 (replicate 8 (slot None))
+unfoldable pub slots_of : ℕ → List ℕ → List (Option Reservation)
+slots_of count x = each (λ h _. slot_at count x h) 8 (replicate 8 None)
 
 -- the default state of count harts, and the default case
 unfoldable pub start_of : ℕ → ℕ → State
@@ -67,7 +65,7 @@ first_of number = record { number = number; base = 4096; len = 256; state = star
 
 -- a state of count harts without a reservation where all else is zero, also of unused harts
 unfoldable pub blank_of : ℕ → State
-blank_of count = record { count = count; settings = defaults; x = replicate 256 0; pc = replicate 8 0; res = replicate 8 (slot None) }
+blank_of count = record { count = count; settings = defaults; x = replicate 256 0; pc = replicate 8 0; res = replicate 8 None }
 
 -- ---- an item
 
@@ -108,7 +106,7 @@ with_pc s h v = record { count = s.count; settings = s.settings; x = s.x; pc = s
 
 abbrev pub with_slot : State → ℕ → ℕ → ℕ → State
 with_slot s h addr width =
-    record { count = s.count; settings = s.settings; x = s.x; pc = s.pc; res = slice_set s.res (h % 8) (slot (Held addr width)) }
+    record { count = s.count; settings = s.settings; x = s.x; pc = s.pc; res = slice_set s.res (h % 8) (held addr width) }
 
 -- the default state, or a blank one
 unfoldable pub begun_of : ℕ → ℕ → ℕ → State
@@ -136,7 +134,7 @@ bytes_at mem at n v = cond (nat_le at 8184) (cond (nat_le n 8) (splice mem at (t
 
 -- zeros in place of all bytes, or the bytes as they are
 unfoldable pub wiped : ℕ → List ℕ → List ℕ
-wiped wipe mem = cond (wipe == 0) mem (each (λ i _. 0) (length mem) mem)
+wiped wipe mem = cond (wipe == 0) mem (replicate (length mem) 0)
 
 -- the memory after an item that is no event: kind 1 may wipe it, 6 writes bytes
 unfoldable pub memory_after : List ℕ → List ℕ → List ℕ
@@ -149,14 +147,3 @@ unfoldable pub event_in : List ℕ → Event
 event_in item =
     cond (item_kind item == 7) (Step (item_a item))
     (cond (item_kind item == 8) (Device (item_a item) (item_n item) (item_b item)) (Yield (item_a item)))
-
--- ---- reservations compared
-
--- of the w bytes at a
-abbrev pub held_as : Reservation → ℕ → ℕ → Bool
-held_as None a w = false
-held_as (Held addr width) a w = addr == a && width == w
-
-abbrev pub is_free : Reservation → Bool
-is_free None = true
-is_free (Held addr width) = false

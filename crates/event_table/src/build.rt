@@ -1,12 +1,12 @@
 // The state and the memory of a case.
-ghost use Rattle.std.specs.Prelude.{◌≡◌, ◌≤◌, min, length, if◌then◌else◌};
+ghost use Rattle.std.specs.Prelude.{◌≡◌, if◌then◌else◌};
 ghost use Rattle.word.specs.Each.{each};
 ghost use Rattle.event_table.specs.Build.{filler, register_as, registers_of, pcs_of, slot_as, slots_of};
 ghost use Rattle.event_table.specs.Build.{start_of, blank_of, begun_of, first_of, item_n, item_a, item_b};
 ghost use Rattle.event_table.specs.Build.{with_setting, with_register, with_pc, with_slot, harts_of, wiped, bytes_at, patch_of, memory_after};
 
 use machine::State;
-use reserve::{Reservation, Slot};
+use reserve::Reservation;
 use word::bytes::load_at;
 
 // number counts the cases before this one.
@@ -37,49 +37,22 @@ pub fn b(item: &[u8; 24]) -> u64
     load_at(item, 16, 8)
 }
 
-// A length that fits the memory there is.
-pub fn within(len: usize) -> usize
-    ensures value { result ≡ min len 8192 }
-    ensures upper_bound { result ≤ 8192 }
+// Puts the default's bytes into memory.
+pub fn fill(mem: &mut [u8; 8192])
+    ensures { mem.new ≡ each (λ i _. filler i) 8192 mem.old }
 {
-    if len < 8192 { len } else { 8192 }
-}
-
-// Puts the default's bytes into the first len.
-pub fn fill(mem: &mut [u8], len: usize)
-    requires { (len ≤ length mem.old) × (len ≤ 8192) }
-    ensures { mem.new ≡ each (λ i _. filler i) len mem.old }
-{
-    let mut i = 0;
-    while i < len {
+    for i in 0..8192 {
         mem[i] = ((i * 167 + 13) % 256) as u8;
-        i += 1;
     }
 }
 
 // Puts zeros in place of all bytes, unless wipe is 0.
-fn wipe_memory(mem: &mut [u8], wipe: u64)
+#[tactic(auto, unfolding(crate::specs::Build::wiped))]
+fn wipe_memory(mem: &mut [u8; 8192], wipe: u64)
     ensures { mem.new ≡ wiped wipe mem.old }
 {
-    if wipe == 0 {
-        return;
-    }
-    let mut i: usize = 0;
-    while i < mem.len() {
-        mem[i] = 0;
-        i += 1;
-    }
-}
-
-// Copies all bytes.
-pub fn copy(from: &[u8], to: &mut [u8])
-    requires { length from.now ≡ length to.old }
-    ensures { to.new ≡ from.now }
-{
-    let mut i: usize = 0;
-    while i < from.len() {
-        to[i] = from[i];
-        i += 1;
+    if wipe != 0 {
+        mem.fill(0);
     }
 }
 
@@ -100,11 +73,9 @@ fn registers(count: usize) -> [u64; 256]
 {
     let mut x: [u64; 256] = [0; 256];
     let mut v: u64 = 0;
-    let mut i: usize = 0;
-    while i < 256 {
+    for i in 0..256 {
         x[i] = register(i, count, v);
-        v = std::num::wrapping_add_u64(v, 0x9E3779B97F4A7C15);
-        i += 1;
+        v = v.wrapping_add(0x9E3779B97F4A7C15);
     }
     x
 }
@@ -120,73 +91,63 @@ fn pcs(count: usize, base: u64, x: &[u64; 256]) -> [u64; 8]
     ensures { result ≡ pcs_of count base x.now }
 {
     let mut pc: [u64; 8] = [0; 8];
-    let mut h: usize = 0;
-    while h < 8 {
+    for h in 0..8 {
         pc[h] = pc_value(h < count, base, x[h * 32 + 1]);
-        h += 1;
     }
     pc
 }
 
 // A used hart has no reservation.
-fn slot(used: bool, addr: u64, width: u64) -> Slot
+fn slot(used: bool, addr: u64, width: u64) -> Option<Reservation>
     ensures { result ≡ slot_as used addr width }
 {
     if used {
-        return Slot {
-            reservation: Reservation::None,
-        };
+        return None;
     }
-    Slot {
-        reservation: Reservation::Held { addr, width },
-    }
+    Some(Reservation { addr, width })
 }
 
-fn slots(count: usize, x: &[u64; 256]) -> [Slot; 8]
+fn slots(count: usize, x: &[u64; 256]) -> [Option<Reservation>; 8]
     ensures { result ≡ slots_of count x.now }
 {
-    let none = slot(true, 0, 0);
-    let mut res: [Slot; 8] = [none; 8];
-    let mut h: usize = 0;
-    while h < 8 {
+    let mut res = [None; 8];
+    for h in 0..8 {
         res[h] = slot(h < count, x[h * 32 + 2], x[h * 32 + 3]);
-        h += 1;
     }
     res
 }
 
 // The default state of count harts.
+#[tactic(auto, unfolding(crate::specs::Build::start_of))]
 fn start(count: usize, base: u64) -> State
     ensures { result ≡ start_of count base }
 {
     let x = registers(count);
-    let pc = pcs(count, base, &x);
-    let res = slots(count, &x);
-    let settings = settings::defaults();
     State {
         count,
-        settings,
+        settings: settings::defaults(),
         x,
-        pc,
-        res,
+        pc: pcs(count, base, &x),
+        res: slots(count, &x),
     }
 }
 
 // A state of count harts without a reservation where all else is zero, also of unused harts.
+#[tactic(auto, unfolding(crate::specs::Build::blank_of))]
 fn blank_state(count: usize) -> State
     ensures { result ≡ blank_of count }
 {
-    let none = slot(true, 0, 0);
     State {
         count,
         settings: settings::defaults(),
         x: [0; 256],
         pc: [0; 8],
-        res: [none; 8],
+        res: [None; 8],
     }
 }
 
 // The default state, or a blank one.
+#[tactic(auto, unfolding(crate::specs::Build::begun_of))]
 fn begin(count: usize, base: u64, blank: u64) -> State
     ensures { result ≡ begun_of count base blank }
 {
@@ -197,73 +158,55 @@ fn begin(count: usize, base: u64, blank: u64) -> State
 }
 
 // The default case, before any item.
+#[tactic(auto, unfolding(crate::specs::Build::first_of))]
 pub fn first(number: u64) -> Case
     ensures { result ≡ first_of number }
 {
-    let state = start(2, 0x1000);
     Case {
         number,
         base: 0x1000,
         len: 256,
-        state,
-    }
-}
-
-// A state once more, for what has to have it after an event too.
-pub fn again(s: &State) -> State
-    ensures { result ≡ s.now }
-{
-    State {
-        count: s.count,
-        settings: s.settings,
-        x: s.x,
-        pc: s.pc,
-        res: s.res,
+        state: start(2, 0x1000),
     }
 }
 
 // Setting 0 is the size of a reservation's set, 1 the version of A, 2 the kind of core, and 3 what a misaligned atomic access gives.
-fn set_setting(s: State, n: u64, v: u64) -> State
+fn set_setting(mut s: State, n: u64, v: u64) -> State
     ensures { result ≡ with_setting s n v }
 {
-    let mut settings = s.settings;
     match n {
-        0 => settings.size = v,
-        1 => settings.version = v,
-        2 => settings.kind = v,
-        3 => settings.misaligned = v,
+        0 => s.settings.size = v,
+        1 => s.settings.version = v,
+        2 => s.settings.kind = v,
+        3 => s.settings.misaligned = v,
         _ => {}
     }
-    let mut t = s;
-    t.settings = settings;
-    t
+    s
 }
 
-fn set_register(s: State, i: usize, v: u64) -> State
+fn set_register(mut s: State, i: usize, v: u64) -> State
     ensures { result ≡ with_register s i v }
 {
-    let mut t = s;
-    t.x[i % 256] = v;
-    t
+    s.x[i % 256] = v;
+    s
 }
 
-fn set_pc(s: State, h: usize, v: u64) -> State
+fn set_pc(mut s: State, h: usize, v: u64) -> State
     ensures { result ≡ with_pc s h v }
 {
-    let mut t = s;
-    t.pc[h % 8] = v;
-    t
+    s.pc[h % 8] = v;
+    s
 }
 
-fn set_slot(s: State, h: usize, addr: u64, width: u64) -> State
+fn set_slot(mut s: State, h: usize, addr: u64, width: u64) -> State
     ensures { result ≡ with_slot s h addr width }
 {
-    let mut t = s;
-    t.res[h % 8] = slot(false, addr, width);
-    t
+    s.res[h % 8] = Some(Reservation { addr, width });
+    s
 }
 
 // Puts the n lowest bytes of v into memory.
+#[tactic(auto, unfolding(crate::specs::Build::bytes_at))]
 fn set_bytes(mem: &mut [u8; 8192], at: usize, n: usize, v: u64)
     ensures { mem.new ≡ bytes_at mem.old at n v }
 {
@@ -275,6 +218,7 @@ fn set_bytes(mem: &mut [u8; 8192], at: usize, n: usize, v: u64)
 }
 
 // A state after an item of kind 0 or 2 to 5. One of kind 2 puts the default settings back, so one of kind 0 has to come behind it.
+#[tactic(auto, unfolding(crate::specs::Build::harts_of))]
 fn harts(s: State, base: u64, item: &[u8; 24]) -> State
     ensures { result ≡ harts_of s base item.now }
 {
@@ -289,30 +233,18 @@ fn harts(s: State, base: u64, item: &[u8; 24]) -> State
 }
 
 // A case after an item that is no event.
-pub fn patch(c: Case, mem: &mut [u8; 8192], item: &[u8; 24]) -> Case
+#[tactic(auto, unfolding(crate::specs::Build::patch_of, crate::specs::Build::memory_after))]
+pub fn patch(mut c: Case, mem: &mut [u8; 8192], item: &[u8; 24]) -> Case
     ensures { (result ≡ patch_of c item.now) × (mem.new ≡ memory_after mem.old item.now) }
 {
-    let number = c.number;
-    let base = c.base;
-    let len = c.len;
-    if item[0] == 1 {
-        wipe_memory(mem, n(item));
-        return Case {
-            number,
-            base: a(item),
-            len: b(item) as usize,
-            state: c.state,
-        };
+    match item[0] {
+        1 => {
+            wipe_memory(mem, n(item));
+            c.base = a(item);
+            c.len = b(item) as usize;
+        }
+        6 => set_bytes(mem, a(item) as usize, n(item) as usize, b(item)),
+        _ => c.state = harts(c.state, c.base, item),
     }
-    if item[0] == 6 {
-        set_bytes(mem, a(item) as usize, n(item) as usize, b(item));
-        return c;
-    }
-    let state = harts(c.state, base, item);
-    Case {
-        number,
-        base,
-        len,
-        state,
-    }
+    c
 }

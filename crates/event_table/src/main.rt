@@ -16,56 +16,42 @@ use std::io;
 use std::io::Read;
 
 mod build;
-mod out;
 mod show;
-
-// A number of mem's bytes: len, or all there are.
-fn lent(len: usize, mem: &[u8]) -> usize
-    ensures value { result ≡ min len (length mem.now) }
-    ensures upper_bound { result ≤ length mem.now }
-{
-    if len < mem.len() { len } else { mem.len() }
-}
 
 // The answer to an event, with the first len bytes of mem lent.
 fn answer(s: State, base: u64, mem: &mut [u8], len: usize, e: Event) -> Answer
     ensures { result ≡ answer_of base (take (min len (length mem.old)) mem.old) s e }
 {
-    let n = lent(len, mem);
+    let n = len.min(mem.len());
     model::perform(s, base, &mut mem[..n], e)
 }
 
 // Performs the event of a case, and writes the case's lines.
 fn perform(rt: &impl Print, c: Case, mem: &mut [u8; 8192], e: Event) -> io::Result<()> {
-    let mut old: [u8; 8192] = [0; 8192];
-    build::copy(mem, &mut old);
-    let s = build::again(&c.state);
+    let old = *mem;
     let a = answer(c.state, c.base, mem, c.len, e);
-    let outcome = a.outcome;
-    let state = a.state;
-    show::outcome(rt, c.number, outcome, a.broke)?;
-    show::state(rt, s, state)?;
-    show::memory(rt, &old, mem, build::within(c.len))
+    show::outcome(rt, c.number, a.outcome, a.broke)?;
+    show::state(rt, &c.state, &a.state)?;
+    show::memory(rt, &old, mem, c.len.min(8192))
 }
 
 // The event that an item is, where its kind is 7, 8 or 9.
+#[tactic(auto, unfolding(crate::specs::Build::event_in))]
 fn event(item: &[u8; 24]) -> Event
     ensures { result ≡ event_in item.now }
 {
-    if item[0] == 7 {
-        return Event::Step {
+    match item[0] {
+        7 => Event::Step {
             hart: build::a(item) as usize,
-        };
-    }
-    if item[0] == 8 {
-        return Event::Device {
+        },
+        8 => Event::Device {
             addr: build::a(item),
             size: build::n(item) as usize,
             data: build::b(item),
-        };
-    }
-    Event::Yield {
-        hart: build::a(item) as usize,
+        },
+        _ => Event::Yield {
+            hart: build::a(item) as usize,
+        },
     }
 }
 
@@ -79,8 +65,8 @@ fn take(rt: &impl Print, c: Case, mem: &mut [u8; 8192], item: &[u8; 24]) -> io::
     }
     let number = c.number;
     perform(rt, c, mem, event(item))?;
-    build::fill(mem, 8192);
-    Ok(build::first(std::num::wrapping_add_u64(number, 1)))
+    build::fill(mem);
+    Ok(build::first(number.wrapping_add(1)))
 }
 
 // Reads the next item: how many of its bytes there were.
@@ -92,16 +78,14 @@ fn read<R: Read>(reader: &mut R, item: &mut [u8; 24]) -> io::Result<usize>
 
 fn main(rt: HostRuntime) -> io::Result<()> {
     let mut mem: [u8; 8192] = [0; 8192];
-    build::fill(&mut mem, 8192);
+    build::fill(&mut mem);
     let mut item: [u8; 24] = [0; 24];
     let mut c = build::first(0);
-    let mut left: u64 = 1000000;
-    while 0 < left {
+    for _ in 0..1000000 {
         if read(&mut rt.stdin(), &mut item)? != 24 {
-            return Ok(());
+            break;
         }
         c = take(&rt, c, &mut mem, &item)?;
-        left -= 1;
     }
     Ok(())
 }

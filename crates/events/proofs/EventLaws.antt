@@ -1,32 +1,28 @@
 -- The events one after another. Assumes nothing.
 use mathlib.Core.Path.{◌≡◌, refl, ap}
-use mathlib.Core.Bool.{true, false}
+use mathlib.Core.Bool.{cond}
 use mathlib.Core.List.{List}
-use Prim.Native.Nat.{ℕ, zero, suc, ◌+◌, ◌-◌, ◌/◌, ◌<◌}
+use Prim.Native.Nat.{ℕ, zero, suc, ◌+◌, ◌-◌, ◌*◌, ◌/◌, ◌≤◌, ◌<◌}
 use native.Mathlib.Omega.{arith}
 use lib.ListN.{length, drop}
 use Rattle.word.specs.Memory.{part}
 use Rattle.events.specs.Events.{good_event, first_bad, first_events, events_of}
-use Rattle.events.specs.declared.Checked.TheVariants.{Good, Bad}
+use Rattle.std.specs.Prelude.{Ok, Err}
 
 module _ (count base len : ℕ) (body : List ℕ) where
-  pub first_bad_none : (n at : ℕ) → n ≡ 0 → first_bad count base len body n at ≡ Good
+  -- from the place of event i of n on: where no event is left, and where event i is the next
+  pub first_bad_none : (n i : ℕ) → n ≤ i → first_bad count base len body (n - i) (24 * i) ≡ Ok tt
   unfolding first_bad
-  first_bad_none zero at h = refl
-  first_bad_none (suc n) at h = absurd (omega arith)
+  first_bad_none n i h = let z : n - i ≡ 0 = omega arith in rw z
 
-  pub first_bad_good : (n at : ℕ) → 0 < n → good_event count base len (part body at 24) ≡ true
-      → first_bad count base len body n at ≡ first_bad count base len body (n - 1) (at + 24)
+  pub first_bad_next : (n i : ℕ) → i < n
+      → first_bad count base len body (n - i) (24 * i)
+      ≡ cond (good_event count base len (part body (24 * i) 24)) (first_bad count base len body (n - (i + 1)) (24 * (i + 1))) (Err (24 * i))
   unfolding first_bad
-  first_bad_good zero at h e = absurd (omega arith)
-  first_bad_good (suc n) at h e =
-      let l : suc n - 1 ≡ n = omega arith in
-      rw (e, l)
-
-  pub first_bad_bad : (n at : ℕ) → 0 < n → good_event count base len (part body at 24) ≡ false → first_bad count base len body n at ≡ Bad at
-  unfolding first_bad
-  first_bad_bad zero at h e = absurd (omega arith)
-  first_bad_bad (suc n) at h e = rw e
+  first_bad_next n i h =
+      let l : n - i ≡ suc (n - (i + 1)) = omega arith in
+      let p : 24 * (i + 1) ≡ 24 * i + 24 = omega arith in
+      rw (l, p)
 
 -- as many events as the body has records
 pub length-first_events : (n : ℕ) (body : List ℕ) → length (first_events n body) ≡ n

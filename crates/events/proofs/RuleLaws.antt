@@ -14,10 +14,9 @@ use Rattle.word.specs.Memory.{part}
 use Rattle.word.proofs.TestLaws.{bool_cases, contrary, and_both, or_either}
 use Rattle.reserve.specs.Range.{inside_of}
 use Rattle.reserve.proofs.RangeLaws.{inside_of_lem, of_inside}
-use Rattle.events.specs.Events.{kind_of, hart_of, size_of, address_of, data_of, hart_event, device_event, good_event, first_bad, checked_of}
+use Rattle.events.specs.Events.{kind_of, hart_of, size_of, address_of, data_of, hart_event, device_event, good_event, first_bad, checked_of, Checked}
 use Rattle.events.specs.Rules.{Zeros, HartEvent, DeviceEvent, EventRules, EachEvent, WrongEvents, not_whole, bad_event, FirstWrong, NoneWrong}
-use Rattle.events.specs.declared.Checked.{Checked}
-use Rattle.events.specs.declared.Checked.TheVariants.{Good, Bad}
+use Rattle.std.specs.Prelude.{Ok, Err}
 
 -- ---- bytes that are zero
 
@@ -172,8 +171,8 @@ module _ (count base len : ℕ) where
 
     -- wrong first at a place, or nowhere
     data Looked (r : Checked) : Type 0 where
-      bad : (p : ℕ) → r ≡ Bad p → WrongAt p → ((q : ℕ) → WrongAt q → p ≤ q) → Looked r
-      good : r ≡ Good → ((q : ℕ) → WrongAt q → ⊥) → Looked r
+      bad : (p : ℕ) → r ≡ Err p → WrongAt p → ((q : ℕ) → WrongAt q → p ≤ q) → Looked r
+      good : r ≡ Ok tt → ((q : ℕ) → WrongAt q → ⊥) → Looked r
 
     short_part : (p : ℕ) → length (part body p 24) ≤ 24
     unfolding part
@@ -232,14 +231,6 @@ module _ (count base len : ℕ) where
 
     -- ---- the answers apart
 
-    abbrev bads : Checked → ℕ
-    bads Good = 0
-    bads (Bad place) = 1
-
-    abbrev place_in : Checked → ℕ
-    place_in Good = 0
-    place_in (Bad place) = place
-
     abbrev Here : ℕ → Type 0
     Here place = FirstWrong count base len body place
 
@@ -247,38 +238,34 @@ module _ (count base len : ℕ) where
     Nowhere = NoneWrong count base len body
 
     module _ (r : Checked) where
-      bad_given : Looked r → (place : ℕ) → r ≡ Bad place → Here place
+      bad_given : Looked r → (place : ℕ) → r ≡ Err place → Here place
       bad_given (bad p e w f) place o =
-          let same : p ≡ place = ap place_in (sym e ∙ o) in
+          let same : p ≡ place = cc in
           record { wrong = rw (← same) w; lowest = λ q l v. omega (arith, same, l, f q v) }
-      bad_given (good e n) place o =
-          let z : ◌≡◌ {A = ℕ} 0 1 = ap bads (sym e ∙ o) in
-          absurd (omega (arith, z))
+      bad_given (good e n) place o = let z : ⊥ = cc in absurd z
 
-      bad_taken : Looked r → (place : ℕ) → Here place → r ≡ Bad place
+      bad_taken : Looked r → (place : ℕ) → Here place → r ≡ Err place
       bad_taken (bad p e w f) place h =
           let low : p ≤ place = f place h.wrong in
           e
           ∙ bool_cases (ltb p place) (λ t. absurd (h.lowest p (ltb-true p place t) w))
-          (λ t. let same : p ≡ place = omega (arith, low, ltb-false p place t) in ap Bad same)
+          (λ t. let same : p ≡ place = omega (arith, low, ltb-false p place t) in ap Err same)
       bad_taken (good e n) place h = absurd (n place h.wrong)
 
-      good_given : Looked r → r ≡ Good → Nowhere
-      good_given (bad p e w f) o =
-          let z : ◌≡◌ {A = ℕ} 1 0 = ap bads (sym e ∙ o) in
-          absurd (omega (arith, z))
+      good_given : Looked r → r ≡ Ok tt → Nowhere
+      good_given (bad p e w f) o = let z : ⊥ = cc in absurd z
       good_given (good e n) o = n
 
-      good_taken : Looked r → Nowhere → r ≡ Good
+      good_taken : Looked r → Nowhere → r ≡ Ok tt
       good_taken (bad p e w f) n = absurd (n p w)
       good_taken (good e _) n = e
 
     -- 11 is given at a place exactly if the body is wrong there and at no lower place
-    pub bad_exact : (place : ℕ) → (checked_of count base len body ≡ Bad place) ↔ FirstWrong count base len body place
+    pub bad_exact : (place : ℕ) → (checked_of count base len body ≡ Err place) ↔ FirstWrong count base len body place
     bad_exact place = (bad_given _ looked place, bad_taken _ looked place)
 
     -- and isn't given exactly if the body is wrong nowhere
-    pub good_exact : (checked_of count base len body ≡ Good) ↔ NoneWrong count base len body
+    pub good_exact : (checked_of count base len body ≡ Ok tt) ↔ NoneWrong count base len body
     good_exact = (good_given _ looked, good_taken _ looked)
 
 -- ---- rows that are tried in order

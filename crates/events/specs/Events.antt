@@ -1,14 +1,12 @@
 -- The events body of a case (01, "The case file"): "3 events, 24 bytes each: kind (1 step, 2 device, 3 yield), hart, size, five zeros, address (8),
 -- data (8, first byte lowest, zero above size). Fields a kind doesn't use are zero."
 -- RULES 7.4; `checked_of` 7.5.
-use Rattle.std.specs.Prelude.{◌≡◌, ℕ, zero, suc, ◌+◌, ◌/◌, ◌%◌, ◌≤◌, Bool, false, cond, ◌||◌, ◌&&◌, List, [], ◌∷◌, ltb, leb, eqb, length, get_or, take, drop}
+use Rattle.std.specs.Prelude.{◌≡◌, ℕ, zero, suc, ◌+◌, ◌/◌, ◌%◌, ◌≤◌, Bool, false, cond, ◌||◌, ◌&&◌, List, [], ◌∷◌, ltb, leb, eqb, length, get_or, take, drop, Result, Ok, Err}
 use Rattle.word.specs.Bytes.{le}
 use Rattle.word.specs.Memory.{part}
 use Rattle.reserve.specs.Range.{inside_of}
 use Rattle.events.specs.declared.Event.{Event}
 use Rattle.events.specs.declared.Event.TheVariants.{Step, Device, Yield}
-use Rattle.events.specs.declared.Checked.{Checked}
-use Rattle.events.specs.declared.Checked.TheVariants.{Good, Bad}
 
 -- the fields of an event's 24 bytes
 abbrev pub kind_of : List ℕ → ℕ
@@ -42,16 +40,20 @@ good_event count base len e =
     eqb (le (part e 3 5)) 0
     && cond (eqb (kind_of e) 2) (device_event base len e) (cond (eqb (kind_of e) 1 || eqb (kind_of e) 3) (hart_event count e) false)
 
+-- what a check of a body gives: nothing, or the place of its first bad event
+abbrev pub Checked : Type 0
+Checked = Result (Unit {0}) ℕ
+
 -- the first bad one of n events from place p on
 unfoldable pub first_bad : ℕ → ℕ → ℕ → List ℕ → ℕ → ℕ → Checked
-first_bad count base len body zero p = Good
+first_bad count base len body zero p = Ok tt
 first_bad count base len body (suc n) p =
-    cond (good_event count base len (part body p 24)) (first_bad count base len body n (p + 24)) (Bad p)
+    cond (good_event count base len (part body p 24)) (first_bad count base len body n (p + 24)) (Err p)
 
 -- 01: "11: events body not a multiple of 24 (its start), or the first bad event, by 3, 4 or 5 or its zeros or kind (its start)"; the place is
 -- counted from the body's first byte
 unfoldable pub checked_of : ℕ → ℕ → ℕ → List ℕ → Checked
-checked_of count base len body = cond (eqb (length body % 24) 0) (first_bad count base len body (length body / 24) 0) (Bad 0)
+checked_of count base len body = cond (eqb (length body % 24) 0) (first_bad count base len body (length body / 24) 0) (Err 0)
 
 -- the event that 24 bytes are, where 11 doesn't refuse them
 unfoldable pub event_of : List ℕ → Event
@@ -68,5 +70,5 @@ events_of body = first_events (length body / 24) body
 
 -- what a check says of a body's length: it holds whole events, or the bad one's place is in it
 abbrev pub Within : Checked → ℕ → Type 0
-Within Good n = n % 24 ≡ 0
-Within (Bad place) n = place ≤ n
+Within (Ok x) n = n % 24 ≡ 0
+Within (Err place) n = place ≤ n

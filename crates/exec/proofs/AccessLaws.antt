@@ -1,46 +1,67 @@
 -- Accesses to memory that trap or don't, and compare-and-swap, from what the code says of them. Assumes nothing.
 use mathlib.Core.Path.{◌≡◌, refl, sym, ap, ◌∙◌, subst}
+use Rattle.std.proofs.Common.{Result, Ok, Err, IsErrAnd}
+use Rattle.std.proofs.lemmas.Result.{err_from_is_err_and}
 use mathlib.Core.Bool.{Bool, true, false, cond}
 use mathlib.Core.List.{List}
-use Prim.Native.Nat.{ℕ, ◌-◌, ◌<◌}
+use Prim.Native.Nat.{ℕ, ◌-◌}
 use lib.Dec.{eqb}
-use borrow.Author.Tests.{eq-eqb, ne_eqb}
 use Rattle.word.specs.Bytes.{to_le}
 use Rattle.word.specs.Memory.{splice}
 use Rattle.word.proofs.BytesLaws.{length-to_le}
-use Rattle.reserve.specs.Range.{Inside}
 use Rattle.reserve.specs.declared.Notice.TheVariants.{Quiet, Write}
 use Rattle.effect.specs.Effect.{Exec, trap, effect, Writes, nothing, store, stored, notice_of, retired, Meets}
-use Rattle.effect.specs.declared.Done.{Done}
-use Rattle.effect.specs.declared.Done.TheVariants.{Trap}
+use Rattle.effect.specs.declared.Effect.{Effect}
+use Rattle.effect.specs.declared.Trap.{Trap}
 use Rattle.effect.specs.Memory.{fault_of, checked}
 use Rattle.effect.specs.Atomic.{swapped}
-use Rattle.effect.proofs.Sound.{fault_fine}
+
+-- what the code finds of an access of n bytes at a, in a memory of len bytes at base: its place there, or its trap
+abbrev pub accessed : ℕ → ℕ → ℕ → ℕ → ℕ → ℕ → Result ℕ Trap
+accessed unaligned outside a n base len =
+    cond (eqb (fault_of unaligned outside a n base len) 0) (Ok (a - base)) (Err (record { cause = fault_of unaligned outside a n base len; value = a }))
 
 module _ (unaligned outside a n base len : ℕ) where
-  -- cause is what the code found
-  module _ (cause : ℕ) (f : cause ≡ fault_of unaligned outside a n base len) where
-    pub room : 0 < unaligned → 0 < outside → cause ≡ 0 → Inside base len a n
-    room some more h = (fault_fine unaligned outside a n base len some more (sym f ∙ h)).1
+  module _ {at : ℕ} (found : Ok at ≡ accessed unaligned outside a n base len) where
+    -- the access is at the place
+    pub placed : at ≡ a - base
+    placed = go (eqb (fault_of unaligned outside a n base len) 0) _ found
+      where
+        go : (b : Bool) (t : Trap) → Ok at ≡ cond b (Ok (a - base)) (Err t) → at ≡ a - base
+        go true t q = cc q
+        go false t q = let no : Ok at ≡ Err t = q in absurd cc
 
-    module _ (e : Exec) where
-      pub trapped : (cause ≡ 0 → ⊥) → trap cause a ≡ checked unaligned outside a n base len e
-      unfolding checked
-      trapped h = rw (← f, ne_eqb _ _ h) refl
+    passed : (e : Exec) → e ≡ checked unaligned outside a n base len e
+    unfolding checked
+    passed e = go (eqb (fault_of unaligned outside a n base len) 0) _ found
+      where
+        go : (b : Bool) (t : Trap) → Ok at ≡ cond b (Ok (a - base)) (Err t) → e ≡ cond b e (trap t.cause t.value)
+        go true t q = refl
+        go false t q = let no : Ok at ≡ Err t = q in absurd cc
 
-      pub passed : cause ≡ 0 → e ≡ checked unaligned outside a n base len e
-      unfolding checked
-      passed h = rw (← f, eq-eqb _ _ h) refl
+    -- so that the instruction is what it is of an access that doesn't trap
+    pub met_done : (e : Exec) {h : ℕ} {mem after : List ℕ} {r : Result Effect Trap} → Meets h e base mem r after
+        → Meets h (checked unaligned outside a n base len e) base mem r after
+    met_done e {h} {mem} {after} {r} m = subst (λ (x : Exec). Meets h x base mem r after) (passed e) m
 
-      pub met_trap : {h : ℕ} {mem : List ℕ} → (cause ≡ 0 → ⊥) → Meets h (checked unaligned outside a n base len e) base mem (Trap cause a) mem
-      met_trap {h} {mem} is = subst (λ (x : Exec). Meets h x base mem (Trap cause a) mem) (trapped is) (record { answer = refl; memory = refl })
+  -- or it traps, and `?` returns the trap
+  module _ {t : Trap} (found : Err t ≡ accessed unaligned outside a n base len) where
+    trapped : (e : Exec) → trap t.cause t.value ≡ checked unaligned outside a n base len e
+    unfolding checked
+    trapped e = go (eqb (fault_of unaligned outside a n base len) 0) _ found
+      where
+        go : (b : Bool) (s : Trap) → Err t ≡ cond b (Ok (a - base)) (Err s) → trap t.cause t.value ≡ cond b e (trap s.cause s.value)
+        go true s q = let no : Err t ≡ Ok (a - base) = q in absurd cc
+        go false s q = cc q
 
-      pub met_done : {h : ℕ} {mem after : List ℕ} {r : Done} → cause ≡ 0 → Meets h e base mem r after
-          → Meets h (checked unaligned outside a n base len e) base mem r after
-      met_done {h} {mem} {after} {r} is m = subst (λ (x : Exec). Meets h x base mem r after) (passed is) m
+    pub met_trap : (e : Exec) {h : ℕ} {mem : List ℕ} {r : Result Effect Trap} → IsErrAnd r (λ x. x ≡ t)
+        → Meets h (checked unaligned outside a n base len e) base mem r mem
+    met_trap e {h} {mem} {r} is =
+        let p = err_from_is_err_and r is in
+        rw (p.1, p.2) (subst (λ (x : Exec). Meets h x base mem (Err t) mem) (trapped e) (record { answer = refl; memory = refl }))
 
 -- the effect of a compare-and-swap of hart h, from what the code says of its answer and of memory
-pub met_swap : (h : ℕ) (ws : Writes) (to a n old want new base : ℕ) (mem after : List ℕ) (r : Done)
+pub met_swap : (h : ℕ) (ws : Writes) (to a n old want new base : ℕ) (mem after : List ℕ) (r : Result Effect Trap)
     → r ≡ retired ws to (cond (eqb old want) (Write h a n) Quiet)
     → after ≡ cond (eqb old want) (splice mem (a - base) (to_le n new)) mem
     → Meets h (effect ws to (swapped a n old want new)) base mem r after

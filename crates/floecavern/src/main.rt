@@ -5,7 +5,9 @@
 ghost use Rattle.settings.specs.Boards.{BoardRules};
 
 use arguments::{is_given, tell};
-use board_choice::Choice;
+use board_choice::NoBoard;
+use input::read_full;
+use refusal::Refusal;
 use settings::Board;
 
 fn write_lines(rt: &HostRuntime, text: &[u8]) {
@@ -19,29 +21,30 @@ fn run(rt: &HostRuntime, board: Board)
 {
     // one byte more than a case may have, so that a longer file is seen to be longer
     let mut space = [0u8; 65537];
-    let got = input::read_input(&mut rt.stdin(), &mut space);
-    if let Some(e) = got.why {
-        tell(rt, &mut rt.stderr(), b"floecavern", b"standard input", e);
-        return;
-    }
-    let n = got.length;
+    let n = match read_full(&mut rt.stdin(), &mut space) {
+        Ok(n) => n,
+        Err(e) => {
+            tell(rt, &mut rt.stderr(), b"floecavern", b"standard input", e);
+            return;
+        }
+    };
     let mut out = [0u8; 262144];
     let r = report::report_on(board, &space[..n], &mut out);
     write_lines(rt, &out[..r]);
 }
 
 // The line of a settings file that is refused: the case isn't read.
-fn refuse(rt: &HostRuntime, number: usize, place: usize) {
+fn refuse(rt: &HostRuntime, refusal: Refusal) {
     let mut out = [0u8; 50];
-    let r = report::put_refused(&mut out, 0, number as u64, place as u64);
+    let r = report::put_refused(&mut out, 0, refusal);
     write_lines(rt, &out[..r]);
 }
 
 fn run_on_board(rt: &HostRuntime) {
     match board_choice::chosen(rt, &mut rt.stderr(), b"floecavern", 1, 2) {
-        Choice::Told => {}
-        Choice::Refused { number, place } => refuse(rt, number, place),
-        Choice::Chosen(board) => run(rt, board),
+        Ok(board) => run(rt, board),
+        Err(NoBoard::Refused(refusal)) => refuse(rt, refusal),
+        Err(NoBoard::Told) => {}
     }
 }
 

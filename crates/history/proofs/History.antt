@@ -12,30 +12,44 @@ use Rattle.settings.specs.Settings.{DevicesBreak, devices_break}
 use Rattle.settings.specs.declared.Settings.{Settings}
 use Rattle.settings.proofs.SettingsLaws.{devices_exact}
 use Rattle.reserve.specs.Range.{Touch, touches, set_of}
-use Rattle.reserve.specs.Reserve.{covers_of, breaks_of, own_of, observe_of}
+use Rattle.reserve.specs.Reserve.{held, covers_of, breaks_of, own_of, observe_of}
+use Rattle.std.specs.Prelude.{Option, None, Some}
 use Rattle.reserve.specs.declared.Reservation.{Reservation}
-use Rattle.reserve.specs.declared.Reservation.TheVariants.{None, Held}
 use Rattle.reserve.specs.declared.Notice.{Notice}
 use Rattle.reserve.specs.declared.Notice.TheVariants.{Quiet, LoadReserved, ScStored, ScFailed, Write, DeviceWrite, Yield}
 use Rattle.reserve.proofs.RangeLaws.{apart_exact, inside_of_lem, of_inside, none_covers}
 use Rattle.history.specs.History.{observes, Spares, AllSpare, Reserved, Since}
 
-none_held : {a w : ℕ} {P : Type 0} → None ≡ Held a w → P
+none_held : {a w : ℕ} {P : Type 0} → None ≡ held a w → P
 none_held e = absurd (let z : ◌≡◌ {A = ℕ} 0 1 = cc in omega arith)
 
+-- the LR's address and width, or 0
+addr_in : Option Reservation → ℕ
+addr_in None = 0
+addr_in (Some r) = r.addr
+
+width_in : Option Reservation → ℕ
+width_in None = 0
+width_in (Some r) = r.width
+
+-- equal reservations are of the same LR
+held_parts : {a w b v : ℕ} → held b v ≡ held a w → (b ≡ a) × (v ≡ w)
+unfolding addr_in width_in
+held_parts e = (ap addr_in e, ap width_in e)
+
 -- a choice that is held is not None
-not_none : (t : Bool) (r : Reservation) (a w : ℕ) → cond t None r ≡ Held a w → (t ≡ false) × (r ≡ Held a w)
+not_none : (t : Bool) (r : Option Reservation) (a w : ℕ) → cond t None r ≡ held a w → (t ≡ false) × (r ≡ held a w)
 not_none true r a w e = none_held e
 not_none false r a w e = (refl, e)
 
 module _ (settings : Settings) (h a w : ℕ) where
   -- by whether the notice is of hart h itself
-  by_hart_lem : {P : Type 0} (g : ℕ) (x r : Reservation) → cond (eqb g h) x r ≡ Held a w
-      → (g ≡ h → x ≡ Held a w → P) → (g ≢ h → r ≡ Held a w → P) → P
+  by_hart_lem : {P : Type 0} (g : ℕ) (x r : Option Reservation) → cond (eqb g h) x r ≡ held a w
+      → (g ≡ h → x ≡ held a w → P) → (g ≢ h → r ≡ held a w → P) → P
   by_hart_lem g x r e own other =
       bool_cases (eqb g h)
-      (λ t. own (eqb-true g h t) (subst (λ (s : Bool). cond s x r ≡ Held a w) t e))
-      (λ t. other (eqb-false g h t) (subst (λ (s : Bool). cond s x r ≡ Held a w) t e))
+      (λ t. own (eqb-true g h t) (subst (λ (s : Bool). cond s x r ≡ held a w) t e))
+      (λ t. other (eqb-false g h t) (subst (λ (s : Bool). cond s x r ≡ held a w) t e))
 
   -- a write of another hart that did not reach the set
   unreached : (g b n : ℕ) → g ≢ h → (not (eqb g h) && touches b n (set_of settings.size a) settings.size) ≡ false
@@ -47,13 +61,13 @@ module _ (settings : Settings) (h a w : ℕ) where
   untouched b n f d = (apart_exact b n a w).0 (rw ((devices_exact settings).1 d) at f)
 
   -- the LR makes the reservation
-  pub made : (r : Reservation) → observe_of settings h (LoadReserved h a w) r ≡ Held a w
+  pub made : (r : Option Reservation) → observe_of settings h (LoadReserved h a w) r ≡ held a w
   unfolding observe_of breaks_of own_of
   made None = rw (eq-eqb h h refl)
-  made (Held b v) = rw (eq-eqb h h refl)
+  made (Some p) = rw (eq-eqb h h refl)
 
   -- what spares it keeps it
-  pub kept : (n : Notice) → Spares settings h a w n → observe_of settings h n (Held a w) ≡ Held a w
+  pub kept : (n : Notice) → Spares settings h a w n → observe_of settings h n (held a w) ≡ held a w
   unfolding observe_of breaks_of own_of Spares
   kept Quiet s = refl
   kept (LoadReserved g b v) s = rw (ne_eqb g h s)
@@ -66,78 +80,78 @@ module _ (settings : Settings) (h a w : ℕ) where
   kept (Yield g) s = rw (ne_eqb g h s)
 
   -- where a reservation that is held after a notice comes from: the notice made it, or spared it
-  Came : Notice → Reservation → Type 0
-  Came n r = (n ≡ LoadReserved h a w) ⊎ ((r ≡ Held a w) × Spares settings h a w n)
+  Came : Notice → Option Reservation → Type 0
+  Came n r = (n ≡ LoadReserved h a w) ⊎ ((r ≡ held a w) × Spares settings h a w n)
 
-  came_by : (n : Notice) (r : Reservation) → breaks_of settings h n r ≡ false → own_of h n r ≡ Held a w → Came n r
+  came_by : (n : Notice) (r : Option Reservation) → breaks_of settings h n r ≡ false → own_of h n r ≡ held a w → Came n r
   unfolding Came breaks_of own_of Spares
   came_by Quiet r f e = inr (e, tt)
-  came_by (LoadReserved g b v) r f e = by_hart_lem g (Held b v) r e (λ s q. inl (cc)) (λ d q. inr (q, d))
+  came_by (LoadReserved g b v) r f e = by_hart_lem g (held b v) r e (λ s q. let p = held_parts q in inl (rw (s, p.0, p.1) refl)) (λ d q. inr (q, d))
   came_by (ScStored g b n) r f e =
       by_hart_lem g None r e (λ s q. none_held q)
-      (λ d q. inr (q, (d, unreached g b n d (subst (λ (x : Reservation). breaks_of settings h (ScStored g b n) x ≡ false) q f))))
+      (λ d q. inr (q, (d, unreached g b n d (subst (λ (x : Option Reservation). breaks_of settings h (ScStored g b n) x ≡ false) q f))))
   came_by (ScFailed g) r f e = by_hart_lem g None r e (λ s q. none_held q) (λ d q. inr (q, d))
   came_by (Write g b n) r f e =
-      inr (e, λ d. unreached g b n d (subst (λ (x : Reservation). breaks_of settings h (Write g b n) x ≡ false) e f))
+      inr (e, λ d. unreached g b n d (subst (λ (x : Option Reservation). breaks_of settings h (Write g b n) x ≡ false) e f))
   came_by (DeviceWrite b n) r f e =
-      inr (e, untouched b n (subst (λ (x : Reservation). breaks_of settings h (DeviceWrite b n) x ≡ false) e f))
+      inr (e, untouched b n (subst (λ (x : Option Reservation). breaks_of settings h (DeviceWrite b n) x ≡ false) e f))
   came_by (Yield g) r f e = by_hart_lem g None r e (λ s q. none_held q) (λ d q. inr (q, d))
 
-  pub came : (n : Notice) (r : Reservation) → observe_of settings h n r ≡ Held a w → (n ≡ LoadReserved h a w) ⊎ ((r ≡ Held a w) × Spares settings h a w n)
+  pub came : (n : Notice) (r : Option Reservation) → observe_of settings h n r ≡ held a w → (n ≡ LoadReserved h a w) ⊎ ((r ≡ held a w) × Spares settings h a w n)
   unfolding observe_of Came
   came n r e = let s = not_none (breaks_of settings h n r) (own_of h n r) a w e in came_by n r s.0 s.1
 
-  pub all_kept : (ns : List Notice) → AllSpare settings h a w ns → observes settings h ns (Held a w) ≡ Held a w
+  pub all_kept : (ns : List Notice) → AllSpare settings h a w ns → observes settings h ns (held a w) ≡ held a w
   all_kept [] s = refl
-  all_kept (n ∷ ns) s = ap (λ (r : Reservation). observes settings h ns r) (kept n s.0) ∙ all_kept ns s.1
+  all_kept (n ∷ ns) s = ap (λ (r : Option Reservation). observes settings h ns r) (kept n s.0) ∙ all_kept ns s.1
 
   -- an LR and notices that spare what it reserved leave the reservation, whatever came before
-  pub holds : (before since : List Notice) → AllSpare settings h a w since → (r : Reservation)
-      → observes settings h (before ++ LoadReserved h a w ∷ since) r ≡ Held a w
-  holds [] since s r = ap (λ (x : Reservation). observes settings h since x) (made r) ∙ all_kept since s
+  pub holds : (before since : List Notice) → AllSpare settings h a w since → (r : Option Reservation)
+      → observes settings h (before ++ LoadReserved h a w ∷ since) r ≡ held a w
+  holds [] since s r = ap (λ (x : Option Reservation). observes settings h since x) (made r) ∙ all_kept since s
   holds (n ∷ before) since s r = holds before since s (observe_of settings h n r)
 
   -- from any start: the trace made it, or it was there and all spared it
-  pub from_any : (trace : List Notice) (r : Reservation) → observes settings h trace r ≡ Held a w
-      → Reserved settings h a w trace ⊎ ((r ≡ Held a w) × AllSpare settings h a w trace)
+  pub from_any : (trace : List Notice) (r : Option Reservation) → observes settings h trace r ≡ held a w
+      → Reserved settings h a w trace ⊎ ((r ≡ held a w) × AllSpare settings h a w trace)
   unfolding Came
   from_any [] r e = inr (e, tt)
   from_any (n ∷ ns) r e =
       ⊎_elim
       (λ (q : Reserved settings h a w ns).
       inl (record { before = n ∷ q.before; since = q.since; split = ap (λ l. n ∷ l) q.split; spared = q.spared }))
-      (λ (q : (observe_of settings h n r ≡ Held a w) × AllSpare settings h a w ns).
+      (λ (q : (observe_of settings h n r ≡ held a w) × AllSpare settings h a w ns).
       ⊎_elim (λ (m : n ≡ LoadReserved h a w). inl (record { before = []; since = ns; split = ap (λ x. x ∷ ns) m; spared = q.1 }))
-      (λ (m : (r ≡ Held a w) × Spares settings h a w n). inr (m.0, (m.1, q.1))) (came n r q.0))
+      (λ (m : (r ≡ held a w) × Spares settings h a w n). inr (m.0, (m.1, q.1))) (came n r q.0))
       (from_any ns (observe_of settings h n r) e)
 
   -- Of a hart that started without a reservation: it holds that of w bytes at a exactly if its latest retired LR was of these and nothing since
   -- then broke the reservation, in 01's words ("What breaks a reservation").
-  pub history : (trace : List Notice) → (observes settings h trace None ≡ Held a w) ↔ Reserved settings h a w trace
+  pub history : (trace : List Notice) → (observes settings h trace None ≡ held a w) ↔ Reserved settings h a w trace
   history trace = (
-    λ e. ⊎_elim (λ (q : Reserved settings h a w trace). q) (λ (q : (None ≡ Held a w) × AllSpare settings h a w trace). none_held q.0)
+    λ e. ⊎_elim (λ (q : Reserved settings h a w trace). q) (λ (q : (None ≡ held a w) × AllSpare settings h a w trace). none_held q.0)
         (from_any trace None e),
-    λ q. subst (λ (l : List Notice). observes settings h l None ≡ Held a w) (sym q.split) (holds q.before q.since q.spared None),
+    λ q. subst (λ (l : List Notice). observes settings h l None ≡ held a w) (sym q.split) (holds q.before q.since q.spared None),
   )
 
 -- 01: "Retired either way, it drops the reservation."
 module _ (settings : Settings) (h : ℕ) where
-  pub stored_drops : (b n : ℕ) (r : Reservation) → observe_of settings h (ScStored h b n) r ≡ None
+  pub stored_drops : (b n : ℕ) (r : Option Reservation) → observe_of settings h (ScStored h b n) r ≡ None
   unfolding observe_of breaks_of own_of
   stored_drops b n None = rw (eq-eqb h h refl)
-  stored_drops b n (Held a w) = rw (eq-eqb h h refl)
+  stored_drops b n (Some p) = rw (eq-eqb h h refl)
 
-  pub failed_drops : (r : Reservation) → observe_of settings h (ScFailed h) r ≡ None
+  pub failed_drops : (r : Option Reservation) → observe_of settings h (ScFailed h) r ≡ None
   unfolding observe_of breaks_of own_of
   failed_drops None = rw (eq-eqb h h refl)
-  failed_drops (Held a w) = rw (eq-eqb h h refl)
+  failed_drops (Some p) = rw (eq-eqb h h refl)
 
 module _ (settings : Settings) (h b n : ℕ) where
-  found : (trace : List Notice) (r : Reservation) → observes settings h trace None ≡ r → covers_of settings r b n ≡ true → Since settings h b n trace
+  found : (trace : List Notice) (r : Option Reservation) → observes settings h trace None ≡ r → covers_of settings r b n ≡ true → Since settings h b n trace
   unfolding covers_of
   found trace None q e = contrary e (none_covers settings b n)
-  found trace (Held a w) q e =
-      record { addr = a; width = w; reserved = (history settings h a w trace).0 q; inside = inside_of_lem (set_of settings.size a) settings.size b n e }
+  found trace (Some p) q e =
+      record { addr = p.addr; width = p.width; reserved = (history settings h p.addr p.width trace).0 q; inside = inside_of_lem (set_of settings.size p.addr) settings.size b n e }
 
   -- From a start without reservations, an SC of n bytes at b that doesn't trap succeeds exactly if the history since its hart's latest retired LR
   -- allows it: the set around that LR's address has all the bytes, and nothing since then broke the reservation.
@@ -146,6 +160,6 @@ module _ (settings : Settings) (h b n : ℕ) where
   sc_exact trace = (
     λ e. found trace (observes settings h trace None) refl e,
     λ s.
-        subst (λ (r : Reservation). covers_of settings r b n ≡ true) (sym ((history settings h s.addr s.width trace).1 s.reserved))
+        subst (λ (r : Option Reservation). covers_of settings r b n ≡ true) (sym ((history settings h s.addr s.width trace).1 s.reserved))
         (of_inside (set_of settings.size s.addr) settings.size b n s.inside),
   )

@@ -1,6 +1,6 @@
 -- The history that a reservation stands for, in 01's words and without tests. The size of the set and the version of A are settings.
 -- RULES 5.
-use Rattle.std.specs.Prelude.{ℕ, ◌≡◌, ◌≢◌, List, [], ◌∷◌, ◌++◌}
+use Rattle.std.specs.Prelude.{ℕ, ◌≡◌, ◌≢◌, List, [], ◌∷◌, ◌++◌, Option}
 use Rattle.settings.specs.Settings.{DevicesBreak}
 use Rattle.settings.specs.declared.Settings.{Settings}
 use Rattle.reserve.specs.Range.{Touch, Inside, set_of}
@@ -10,7 +10,7 @@ use Rattle.reserve.specs.declared.Notice.{Notice}
 use Rattle.reserve.specs.declared.Notice.TheVariants.{Quiet, LoadReserved, ScStored, ScFailed, Write, DeviceWrite, Yield}
 
 -- hart h's reservation after a list of notices, the first one first
-abbrev pub observes : Settings → ℕ → List Notice → Reservation → Reservation
+abbrev pub observes : Settings → ℕ → List Notice → Option Reservation → Option Reservation
 observes settings h [] r = r
 observes settings h (n ∷ ns) r = observes settings h ns (observe_of settings h n r)
 

@@ -1,7 +1,7 @@
 // What a program is given by a reader, with a read that fails told apart from the end of the input.
 #![tactic(auto)]
 
-ghost use Rattle.std.specs.Prelude.{◌≡◌, true, false, ◌<◌, ◌↔◌, IsSome, IfOk, OnErr, length, take};
+ghost use Rattle.std.specs.Prelude.{◌≡◌, ◌<◌, IsSome, IfOk, OnErr, length, take};
 ghost use Rattle.std.specs.Io.{ReadsAtMost};
 ghost use Rattle.std.specs.Io.KnownBytes.{Consumes, IsAtEnd};
 ghost use Rattle.io.specs.Counts.{IsPrefixLen};
@@ -9,11 +9,10 @@ ghost use Rattle.io.specs.Counts.{IsPrefixLen};
 use std::io;
 use std::io::{Error, Read};
 
-// How many bytes were read, and whether a read failed before the end, and then why.
+// How many bytes were read, and why a read failed before the end, if one did.
 #[derive(Drop)]
 pub struct Input {
     pub length: usize,
-    pub failed: bool,
     pub why: Option<Error>,
 }
 
@@ -21,11 +20,11 @@ pub struct Input {
 // that no failure behind it is told.
 pub fn read_input<R: Read>(reader: &mut R, buf: &mut [u8]) -> Input
     ensures prefix_len { IsPrefixLen result.length buf.new }
-    ensures length_in_bounds { result.failed ≡ true → result.length < length buf.new }
-    ensures why { result.failed ≡ true ↔ IsSome result.why }
+    ensures length_in_bounds { IsSome result.why → result.length < length buf.new }
     ensures bytes { Consumes (R.remaining reader.old) (R.remaining reader.new) (take result.length buf.new) }
-    ensures end { result.failed ≡ false → result.length < length buf.new → IsAtEnd (R.remaining reader.new) }
+    ensures end { result.why ≡ None → result.length < length buf.new → IsAtEnd (R.remaining reader.new) }
 {
+    // A while: how many bytes a read gives decides where the next one begins, and how many reads there are.
     let mut length = 0;
     while length < buf.len() {
         match reader.read(&mut buf[length..]) {
@@ -36,17 +35,12 @@ pub fn read_input<R: Read>(reader: &mut R, buf: &mut [u8]) -> Input
             Err(e) => {
                 return Input {
                     length,
-                    failed: true,
                     why: Some(e),
                 };
             }
         }
     }
-    Input {
-        length,
-        failed: false,
-        why: None,
-    }
+    Input { length, why: None }
 }
 
 // The same, with a read that fails as an error: how many bytes were read.

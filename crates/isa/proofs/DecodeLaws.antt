@@ -12,6 +12,9 @@ use Rattle.word.proofs.ChooseLaws.{cond_all, select_rows, select_all, ◌also◌
 use Rattle.isa.specs.Fields.{bits, rd_of, rs1_of, rs2_of, funct3_of, funct5_of, funct6_of, funct7_of, imm_i, imm_s, imm_u, low_b, low_j}
 use Rattle.isa.specs.Decode as D
 use Rattle.isa.specs.Wf.{Regs, Imms, Pairs}
+use Rattle.std.specs.Prelude.{Option, Some, None}
+use Rattle.isa.specs.declared.class.Class.{Class}
+use Rattle.isa.specs.declared.class.Class.TheVariants as C
 use Rattle.isa.specs.declared.LoadOp.{LoadOp}
 use Rattle.isa.specs.declared.StoreOp.{StoreOp}
 use Rattle.isa.specs.declared.BranchOp.{BranchOp}
@@ -128,13 +131,26 @@ module _ (P : Instr → Type 0) (w : ℕ)
       also from_rmw _ also from_rmw _ also from_rmw _ also from_rmw _ also from_rmw _ also tt)
       illegal
 
+  by_class : (class : Option Class) → P (D.in_class class w)
+  by_class None = illegal
+  by_class (Some C.Load) = from_load
+  by_class (Some C.MiscMem) = from_misc_mem
+  by_class (Some C.OpImm) = from_op_imm
+  by_class (Some C.Auipc) = auipc
+  by_class (Some C.OpImm32) = from_op_imm_32
+  by_class (Some C.Store) = from_store
+  by_class (Some C.Amo) = from_atomic
+  by_class (Some C.Op) = from_op
+  by_class (Some C.Lui) = lui
+  by_class (Some C.Op32) = from_op_32
+  by_class (Some C.Branch) = from_branch
+  by_class (Some C.Jalr) = from_jalr
+  by_class (Some C.Jal) = jal
+  by_class (Some C.System) = from_system
+
   pub decoded : P (D.decode_of w)
   unfolding D.decode_of
-  decoded =
-      select_rows P (D.class_of w) D.decoders (D.of w) Illegal
-      (from_load also from_misc_mem also from_op_imm also auipc also from_op_imm_32 also from_store also from_atomic
-      also from_op also lui also from_op_32 also from_branch also from_jalr also jal also from_system also tt)
-      illegal
+  decoded = by_class (D.class_of w)
 
 pub regs_below : (w : ℕ) → Regs (D.decode_of w)
 regs_below w =

@@ -20,6 +20,9 @@ use Rattle.isa.specs.Decode.{key, decode_of, is_even}
 use Rattle.isa.specs.Narrow.{if_kept, kept_load, kept_store, kept_imm, narrowed, decode_at, is_double, is_cas}
 use Rattle.isa.specs.Legal32.{◌one_of◌, Legal32, is_load, is_fence, is_op_imm, is_shift_left, is_shift_right, is_auipc, is_store}
 use Rattle.isa.specs.Legal32.{is_atomic, is_lr, is_pair, is_op, is_sub_or_sra, is_lui, is_branch, is_jalr, is_jal, is_system}
+use Rattle.std.specs.Prelude.{Option, Some, None}
+use Rattle.isa.specs.declared.class.Class.{Class}
+use Rattle.isa.specs.declared.class.Class.TheVariants as C
 use Rattle.isa.specs.declared.AtomicOp.{AtomicOp}
 use Rattle.isa.specs.declared.AtomicOp.TheVariants.{Lr, Sc, Cas, CasPair, Rmw}
 use Rattle.isa.specs.declared.Width.{Width}
@@ -182,7 +185,7 @@ module _ (w : ℕ) where
   jalr_exact = zero_exact (Jalr (rd_of w) (rs1_of w) (imm_i w)) tt
 
   -- OP
-  from_op : D.class_of w ≡ D.OP → To (D.op_of w)
+  from_op : D.class_of w ≡ Some C.Op → To (D.op_of w)
   unfolding D.op_of narrowed
   from_op c =
       select_keyed To (key (funct7_of w) (funct3_of w)) D.ops (D.op_as w) Illegal
@@ -215,7 +218,7 @@ module _ (w : ℕ) where
   short : (i : Instr) → T (legal (if_kept (leb (bits 25 20 w) 31) i)) → bits 25 20 w ≤ 31
   short i l = leb-true (bits 25 20 w) 31 (tested (λ j. T (legal j)) (leb (bits 25 20 w) 31) i (λ l. l) l)
 
-  from_shift : D.class_of w ≡ D.OP-IMM → To (D.shift_of w)
+  from_shift : D.class_of w ≡ Some C.OpImm → To (D.shift_of w)
   unfolding D.shift_of narrowed
   from_shift c =
       select_keyed To (key (funct6_of w) (funct3_of w)) D.shifts (D.shift_as w) Illegal
@@ -242,7 +245,7 @@ module _ (w : ℕ) where
   to_right f o = ⊎_elim (λ z. to_shift 0 5 z f _ tt (λ l. l)) (⊎_elim (λ z. to_shift 0x10 5 z f _ tt (λ l. l)) (λ none. absurd none)) o
 
   -- OP-IMM
-  from_op_imm : D.class_of w ≡ D.OP-IMM → To (D.op_imm_of w)
+  from_op_imm : D.class_of w ≡ Some C.OpImm → To (D.op_imm_of w)
   unfolding D.op_imm_of narrowed
   from_op_imm c =
       select_keyed To (funct3_of w) D.op_imms (D.of w) Illegal
@@ -263,7 +266,7 @@ module _ (w : ℕ) where
       (tt also tt also tt also tt also tt also tt also tt) o
 
   -- AMO
-  module _ (c : D.class_of w ≡ D.AMO) where
+  module _ (c : D.class_of w ≡ Some C.Amo) where
     from_sized : (a : AtomicOp) → T (inside (D.atomic_as w a) (2 ∷ []) D.widths) → Kept (D.sized_of a w) → funct3_of w ≡ 2
     unfolding D.sized_of narrowed
     from_sized a t l = ⊎_elim (λ e. e) (λ none. absurd none) (listed (funct3_of w) (D.atomic_as w a) (2 ∷ []) D.widths t l)
@@ -345,53 +348,55 @@ module _ (w : ℕ) where
 
   from_decode : To (decode_of w)
   unfolding decode_of D.op_imm32_of D.shift32_of D.op32_of narrowed
-  from_decode =
-      select_keyed To (D.class_of w) D.decoders (D.of w) Illegal
-      ((λ c l. is_load c (load_exact.only l))
-      also (λ c l. is_fence c (fence_exact.0 l))
-      also from_op_imm
-      also (λ c l. is_auipc c)
-      also (λ c. cond_all To (eqb (funct3_of w) 0) _ (D.shift32_of w) (λ l. absurd l)
-      (select_all To (key (funct7_of w) (funct3_of w)) D.shifts32 (D.shift32_as w) Illegal (λ a l. absurd l) (λ l. absurd l)))
-      also (λ c l. is_store c (store_exact.only l))
-      also from_atomic
-      also from_op
-      also (λ c l. is_lui c)
-      also (λ c. select_all To (key (funct7_of w) (funct3_of w)) D.ops32 (D.op32_as w) Illegal (λ a l. absurd l) (λ l. absurd l))
-      also (λ c l. is_branch c (branch_exact.only l))
-      also (λ c l. is_jalr c (jalr_exact.0 l))
-      also (λ c l. is_jal c)
-      also (λ c l. is_system (system_exact.only l))
-      also tt)
-      (λ o l. absurd l)
+  from_decode = go (D.class_of w) refl
+    where
+      go : (class : Option Class) → D.class_of w ≡ class → To (D.in_class class w)
+      go None c l = absurd l
+      go (Some C.Load) c l = is_load c (load_exact.only l)
+      go (Some C.MiscMem) c l = is_fence c (fence_exact.0 l)
+      go (Some C.OpImm) c l = from_op_imm c l
+      go (Some C.Auipc) c l = is_auipc c
+      go (Some C.OpImm32) c l =
+          cond_all To (eqb (funct3_of w) 0) _ (D.shift32_of w) (λ l. absurd l)
+          (select_all To (key (funct7_of w) (funct3_of w)) D.shifts32 (D.shift32_as w) Illegal (λ a l. absurd l) (λ l. absurd l)) l
+      go (Some C.Store) c l = is_store c (store_exact.only l)
+      go (Some C.Amo) c l = from_atomic c l
+      go (Some C.Op) c l = from_op c l
+      go (Some C.Lui) c l = is_lui c
+      go (Some C.Op32) c l =
+          select_all To (key (funct7_of w) (funct3_of w)) D.ops32 (D.op32_as w) Illegal (λ a l. absurd l) (λ l. absurd l) l
+      go (Some C.Branch) c l = is_branch c (branch_exact.only l)
+      go (Some C.Jalr) c l = is_jalr c (jalr_exact.0 l)
+      go (Some C.Jal) c l = is_jal c
+      go (Some C.System) c l = is_system (system_exact.only l)
 
-  system_class : w one_of (0x00000073 ∷ 0x00100073 ∷ []) → D.class_of w ≡ D.SYSTEM
+  system_class : w one_of (0x00000073 ∷ 0x00100073 ∷ []) → D.class_of w ≡ Some C.System
   unfolding D.class_of
-  system_class o = each_of (λ n. D.class_of n ≡ D.SYSTEM) w (0x00000073 ∷ 0x00100073 ∷ []) (refl also refl also tt) o
+  system_class o = each_of (λ n. D.class_of n ≡ Some C.System) w (0x00000073 ∷ 0x00100073 ∷ []) (refl also refl also tt) o
 
-  class_at_lem : (n : ℕ) → D.class_of w ≡ n → Kept (select n D.decoders (D.of w) Illegal) → Kept (decode_of w)
+  class_at_lem : (class : Class) → D.class_of w ≡ Some class → Kept (D.in_class (Some class) w) → Kept (decode_of w)
   unfolding decode_of
-  class_at_lem = keyed D.decoders (D.of w) (D.class_of w)
+  class_at_lem class e l = subst (λ (c : Option Class). Kept (D.in_class c w)) (sym e) l
 
   to_decode : Legal32 w → Kept (decode_of w)
   unfolding narrowed
-  to_decode (is_load c o) = class_at_lem D.LOAD c (load_exact.each o)
-  to_decode (is_fence c z) = class_at_lem D.MISC-MEM c (fence_exact.1 z)
-  to_decode (is_op_imm c o) = class_at_lem D.OP-IMM c (to_op_imm o)
-  to_decode (is_shift_left c f z) = class_at_lem D.OP-IMM c (op_imm_at 1 f (to_left f z))
-  to_decode (is_shift_right c f o) = class_at_lem D.OP-IMM c (op_imm_at 5 f (to_right f o))
-  to_decode (is_auipc c) = class_at_lem D.AUIPC c tt
-  to_decode (is_store c o) = class_at_lem D.STORE c (store_exact.each o)
-  to_decode (is_atomic c f o) = class_at_lem D.AMO c (to_atomic f o)
-  to_decode (is_lr c f e z) = class_at_lem D.AMO c (atomic_at_lem 2 e (to_lr f z))
-  to_decode (is_pair c f e d s) = class_at_lem D.AMO c (atomic_at_lem 5 e (to_pair f d s))
-  to_decode (is_op c z) = class_at_lem D.OP c (to_op 0 all_three z (tt also tt also tt also tt also tt also tt also tt also tt also tt) three_bits)
-  to_decode (is_sub_or_sra c z o) = class_at_lem D.OP c (to_op 0x20 (0 ∷ 5 ∷ []) z (tt also tt also tt) o)
-  to_decode (is_lui c) = class_at_lem D.LUI c tt
-  to_decode (is_branch c o) = class_at_lem D.BRANCH c (branch_exact.each o)
-  to_decode (is_jalr c z) = class_at_lem D.JALR c (jalr_exact.1 z)
-  to_decode (is_jal c) = class_at_lem D.JAL c tt
-  to_decode (is_system o) = class_at_lem D.SYSTEM (system_class o) (system_exact.each o)
+  to_decode (is_load c o) = class_at_lem C.Load c (load_exact.each o)
+  to_decode (is_fence c z) = class_at_lem C.MiscMem c (fence_exact.1 z)
+  to_decode (is_op_imm c o) = class_at_lem C.OpImm c (to_op_imm o)
+  to_decode (is_shift_left c f z) = class_at_lem C.OpImm c (op_imm_at 1 f (to_left f z))
+  to_decode (is_shift_right c f o) = class_at_lem C.OpImm c (op_imm_at 5 f (to_right f o))
+  to_decode (is_auipc c) = class_at_lem C.Auipc c tt
+  to_decode (is_store c o) = class_at_lem C.Store c (store_exact.each o)
+  to_decode (is_atomic c f o) = class_at_lem C.Amo c (to_atomic f o)
+  to_decode (is_lr c f e z) = class_at_lem C.Amo c (atomic_at_lem 2 e (to_lr f z))
+  to_decode (is_pair c f e d s) = class_at_lem C.Amo c (atomic_at_lem 5 e (to_pair f d s))
+  to_decode (is_op c z) = class_at_lem C.Op c (to_op 0 all_three z (tt also tt also tt also tt also tt also tt also tt also tt also tt) three_bits)
+  to_decode (is_sub_or_sra c z o) = class_at_lem C.Op c (to_op 0x20 (0 ∷ 5 ∷ []) z (tt also tt also tt) o)
+  to_decode (is_lui c) = class_at_lem C.Lui c tt
+  to_decode (is_branch c o) = class_at_lem C.Branch c (branch_exact.each o)
+  to_decode (is_jalr c z) = class_at_lem C.Jalr c (jalr_exact.1 z)
+  to_decode (is_jal c) = class_at_lem C.Jal c tt
+  to_decode (is_system o) = class_at_lem C.System (system_class o) (system_exact.each o)
 
 -- a word is legal exactly if a line of Legal32 has it
 pub legal_32 : (w : ℕ) → (decode_at 32 w ≢ Illegal) ↔ Legal32 w

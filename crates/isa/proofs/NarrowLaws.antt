@@ -96,6 +96,25 @@ lacked_gone i t = narrowed_by 32 i ∙ rw t
 pub had_paired : (i : Instr) → lacks i ≡ false → narrowed i ≡ paired_by true i
 had_paired i f = narrowed_by 32 i ∙ rw f
 
+-- all but an atomic one is as it was
+pub unpaired : (narrow : Bool) (i : Instr) → ((a : Atomic) → i ≡ Amo a → ⊥) → paired_by narrow i ≡ i
+unpaired narrow (Amo a) other = absurd (other a refl)
+unpaired narrow Illegal other = refl
+unpaired narrow (Lui rd imm) other = refl
+unpaired narrow (Auipc rd imm) other = refl
+unpaired narrow (Jal rd imm) other = refl
+unpaired narrow (Jalr rd rs1 imm) other = refl
+unpaired narrow (Branch op rs1 rs2 imm) other = refl
+unpaired narrow (Load op rd rs1 imm) other = refl
+unpaired narrow (Store op rs1 rs2 imm) other = refl
+unpaired narrow (OpImm op rd rs1 imm) other = refl
+unpaired narrow (OpImm32 op rd rs1 imm) other = refl
+unpaired narrow (Op op rd rs1 rs2) other = refl
+unpaired narrow (Op32 op rd rs1 rs2) other = refl
+unpaired narrow (Fence rd rs1 imm) other = refl
+unpaired narrow Ecall other = refl
+unpaired narrow Ebreak other = refl
+
 -- what holds of an instruction, of Illegal and of a pair of words holds of it narrowed
 module _ (P : Instr → Type 0) (illegal : P Illegal) (pair : (a : Atomic) → P (Amo a) → P (as_pair a)) where
   kept : (t : Bool) (i : Instr) → P i → P (if_kept t i)

@@ -2,9 +2,11 @@
 -- table has is Illegal.
 -- RULES: `classes` 4.1.1; loads and stores 4.2; jumps and branches 4.3; integer words 4.1.4; FENCE, ECALL, EBREAK 4.1.5; atomics 4.4; which words are
 -- legal 4.1.3.
-use Rattle.std.specs.Prelude.{ℕ, ◌+◌, ◌*◌, ◌%◌, Bool, cond, ◌&&◌, List, [], ◌∷◌, eqb}
+use Rattle.std.specs.Prelude.{ℕ, ◌+◌, ◌*◌, ◌%◌, Bool, cond, ◌&&◌, List, [], ◌∷◌, Option, Some, None, eqb}
 use Rattle.word.specs.Choose.{Row, ◌⇒◌, select}
 use Rattle.isa.specs.Fields.{bits, rd_of, rs1_of, rs2_of, funct3_of, funct5_of, funct6_of, funct7_of, imm_i, imm_s, imm_b, imm_u, imm_j}
+use Rattle.isa.specs.declared.class.Class.{Class}
+use Rattle.isa.specs.declared.class.Class.TheVariants as C
 use Rattle.isa.specs.declared.LoadOp.{LoadOp}
 use Rattle.isa.specs.declared.LoadOp.TheVariants.{Lb, Lh, Lw, Ld, Lbu, Lhu, Lwu}
 use Rattle.isa.specs.declared.StoreOp.{StoreOp}
@@ -22,78 +24,35 @@ use Rattle.isa.specs.declared.Instr.{Instr}
 use Rattle.isa.specs.declared.Instr.TheVariants.{Illegal, Lui, Auipc, Jal, Jalr, Branch, Load, Store}
 use Rattle.isa.specs.declared.Instr.TheVariants.{OpImm, OpImm32, Op, Op32, Fence, Ecall, Ebreak, Amo}
 
--- The classes: the names of the manual's "RISC-V base opcode map", numbered in its order. 0 is every other value.
-abbrev pub LOAD : ℕ
-LOAD = 1
-
-abbrev pub MISC-MEM : ℕ
-MISC-MEM = 2
-
-abbrev pub OP-IMM : ℕ
-OP-IMM = 3
-
-abbrev pub AUIPC : ℕ
-AUIPC = 4
-
-abbrev pub OP-IMM-32 : ℕ
-OP-IMM-32 = 5
-
-abbrev pub STORE : ℕ
-STORE = 6
-
-abbrev pub AMO : ℕ
-AMO = 7
-
-abbrev pub OP : ℕ
-OP = 8
-
-abbrev pub LUI : ℕ
-LUI = 9
-
-abbrev pub OP-32 : ℕ
-OP-32 = 10
-
-abbrev pub BRANCH : ℕ
-BRANCH = 11
-
-abbrev pub JALR : ℕ
-JALR = 12
-
-abbrev pub JAL : ℕ
-JAL = 13
-
-abbrev pub SYSTEM : ℕ
-SYSTEM = 14
-
--- the opcode map: the class of each value of bits 6 to 2
-abbrev pub classes : List (Row ℕ)
+-- the opcode map: the class of each value of bits 6 to 2, by the names of the manual's "RISC-V base opcode map"
+abbrev pub classes : List (Row Class)
 classes =
-    0 ⇒ LOAD ∷
-    3 ⇒ MISC-MEM ∷
-    4 ⇒ OP-IMM ∷
-    5 ⇒ AUIPC ∷
-    6 ⇒ OP-IMM-32 ∷
-    8 ⇒ STORE ∷
-    11 ⇒ AMO ∷
-    12 ⇒ OP ∷
-    13 ⇒ LUI ∷
-    14 ⇒ OP-32 ∷
-    24 ⇒ BRANCH ∷
-    25 ⇒ JALR ∷
-    27 ⇒ JAL ∷
-    28 ⇒ SYSTEM ∷
+    0 ⇒ C.Load ∷
+    3 ⇒ C.MiscMem ∷
+    4 ⇒ C.OpImm ∷
+    5 ⇒ C.Auipc ∷
+    6 ⇒ C.OpImm32 ∷
+    8 ⇒ C.Store ∷
+    11 ⇒ C.Amo ∷
+    12 ⇒ C.Op ∷
+    13 ⇒ C.Lui ∷
+    14 ⇒ C.Op32 ∷
+    24 ⇒ C.Branch ∷
+    25 ⇒ C.Jalr ∷
+    27 ⇒ C.Jal ∷
+    28 ⇒ C.System ∷
     []
 
 -- of a table whose rows are the answers
 abbrev pub same : {A : Type 0} → A → A
 same a = a
 
-abbrev pub class_at : ℕ → ℕ
-class_at n = select n classes same 0
+abbrev pub class_at : ℕ → Option Class
+class_at n = select n classes Some None
 
 -- 01: "The classes of the 32 values of bits 6 to 2 are one table; bits 1 and 0 are both 1"
-unfoldable pub class_of : ℕ → ℕ
-class_of w = cond (eqb (bits 1 0 w) 3) (class_at (bits 6 2 w)) 0
+unfoldable pub class_of : ℕ → Option Class
+class_of w = cond (eqb (bits 1 0 w) 3) (class_at (bits 6 2 w)) None
 
 -- LUI, AUIPC, JAL
 abbrev pub lui_of : ℕ → Instr
@@ -287,23 +246,22 @@ unfoldable pub atomic_of : ℕ → Instr
 atomic_of w = select (funct5_of w) atomics (of w) Illegal
 
 -- The word by its class.
-abbrev pub decoders : List (Row (ℕ → Instr))
-decoders =
-    LOAD ⇒ load_of ∷
-    MISC-MEM ⇒ misc_mem_of ∷
-    OP-IMM ⇒ op_imm_of ∷
-    AUIPC ⇒ auipc_of ∷
-    OP-IMM-32 ⇒ op_imm32_of ∷
-    STORE ⇒ store_of ∷
-    AMO ⇒ atomic_of ∷
-    OP ⇒ op_of ∷
-    LUI ⇒ lui_of ∷
-    OP-32 ⇒ op32_of ∷
-    BRANCH ⇒ branch_of ∷
-    JALR ⇒ jalr_of ∷
-    JAL ⇒ jal_of ∷
-    SYSTEM ⇒ system_of ∷
-    []
+abbrev pub in_class : Option Class → ℕ → Instr
+in_class None w = Illegal
+in_class (Some C.Load) w = load_of w
+in_class (Some C.MiscMem) w = misc_mem_of w
+in_class (Some C.OpImm) w = op_imm_of w
+in_class (Some C.Auipc) w = auipc_of w
+in_class (Some C.OpImm32) w = op_imm32_of w
+in_class (Some C.Store) w = store_of w
+in_class (Some C.Amo) w = atomic_of w
+in_class (Some C.Op) w = op_of w
+in_class (Some C.Lui) w = lui_of w
+in_class (Some C.Op32) w = op32_of w
+in_class (Some C.Branch) w = branch_of w
+in_class (Some C.Jalr) w = jalr_of w
+in_class (Some C.Jal) w = jal_of w
+in_class (Some C.System) w = system_of w
 
 unfoldable pub decode_of : ℕ → Instr
-decode_of w = select (class_of w) decoders (of w) Illegal
+decode_of w = in_class (class_of w) w

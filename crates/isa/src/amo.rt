@@ -2,9 +2,9 @@
 ghost use Rattle.std.specs.Prelude.{◌≡◌, ◌&&◌};
 ghost use Rattle.isa.specs.Fields.{rd_of, rs2_of};
 ghost use Rattle.isa.specs.Decode.{atomic_as, is_even};
-ghost use Rattle.isa.specs.Tables.{refuses, atomic_by, atomic_in};
+ghost use Rattle.isa.specs.Tables.{refuses, atomic_in};
 
-use crate::{Atomic, AtomicOp, Instr, Width, fields, ops, tables};
+use crate::{Atomic, AtomicOp, Instr, Width, fields, tables};
 
 fn atomic_as(op: AtomicOp, width: Width, word: u32) -> Instr
     ensures { result ≡ atomic_as word op width }
@@ -27,28 +27,22 @@ fn even_pair(word: u32) -> bool
     (fields::rd(word) % 2 == 0) & (fields::rs2(word) % 2 == 0)
 }
 
-// No operation, an LR with rs2 not 0, or an AMOCAS.Q with an odd rd or rs2.
-fn refuses(n: u8, word: u32) -> bool
-    ensures { result ≡ refuses n word }
+// An LR with rs2 not 0, or an AMOCAS.Q with an odd rd or rs2.
+fn refuses(op: AtomicOp, word: u32) -> bool
+    ensures { result ≡ refuses op word }
 {
-    (n == 0)
-        | ((n == ops::LR) & (fields::rs2(word) != 0))
-        | ((n == ops::CAS_PAIR) & !even_pair(word))
-}
-
-fn atomic_by(e: u8, word: u32) -> Instr
-    ensures { result ≡ atomic_by e word }
-{
-    let n = e % 16;
-    if refuses(n, word) {
-        Instr::Illegal
-    } else {
-        atomic_as(ops::atomic_op(n), ops::width_of(e / 16), word)
+    match op {
+        AtomicOp::Lr => fields::rs2(word) != 0,
+        AtomicOp::CasPair => !even_pair(word),
+        _ => false,
     }
 }
 
 pub fn atomic(word: u32) -> Instr
     ensures { result ≡ atomic_in word }
 {
-    atomic_by(tables::atomic_entry(word), word)
+    match tables::atomic_entry(word) {
+        Some((op, width)) if !refuses(op, word) => atomic_as(op, width, word),
+        _ => Instr::Illegal,
+    }
 }

@@ -1,11 +1,12 @@
-// The classes of RV64I. e is a word's entry in the first table.
-ghost use Rattle.std.specs.Prelude.{◌≡◌, ◌%◌};
+// The classes of RV64I.
+ghost use Rattle.std.specs.Prelude.{◌≡◌};
 ghost use Rattle.isa.specs.Fields.{bits, rd_of, rs1_of, imm_i};
 ghost use Rattle.isa.specs.Decode.{lui_of, auipc_of, jal_of, branch_as, load_as, store_as, system_of, shift_as, op_imm_as, shift32_as, op_as, op32_as};
-ghost use Rattle.isa.specs.Tables.{load_op, store_op, branch_op, shift_by, op_imm_by, shift32_by, op_imm32_by, op_by, op32_by};
-ghost use Rattle.isa.specs.declared.Instr.TheVariants.{Jalr, Fence};
+ghost use Rattle.isa.specs.Tables.{by_funct7};
+ghost use Rattle.isa.specs.declared.Instr.TheVariants.{Jalr, OpImm32, Fence};
+ghost use Rattle.isa.specs.declared.AluOp.TheVariants.{Add};
 
-use crate::{AluOp, BranchOp, Instr, LoadOp, StoreOp, fields, ops};
+use crate::{AluOp, BranchOp, Instr, LoadOp, StoreOp, fields};
 
 pub fn lui(word: u32) -> Instr
     ensures { result ≡ lui_of word }
@@ -44,7 +45,7 @@ pub fn jalr(word: u32) -> Instr
     }
 }
 
-fn branch_as(op: BranchOp, word: u32) -> Instr
+pub fn branch(op: BranchOp, word: u32) -> Instr
     ensures { result ≡ branch_as word op }
 {
     Instr::Branch {
@@ -55,13 +56,7 @@ fn branch_as(op: BranchOp, word: u32) -> Instr
     }
 }
 
-pub fn branch(e: u8, word: u32) -> Instr
-    ensures { result ≡ branch_as word (branch_op (e % 16)) }
-{
-    branch_as(ops::branch_op(e % 16), word)
-}
-
-fn load_as(op: LoadOp, word: u32) -> Instr
+pub fn load(op: LoadOp, word: u32) -> Instr
     ensures { result ≡ load_as word op }
 {
     Instr::Load {
@@ -72,13 +67,7 @@ fn load_as(op: LoadOp, word: u32) -> Instr
     }
 }
 
-pub fn load(e: u8, word: u32) -> Instr
-    ensures { result ≡ load_as word (load_op (e % 16)) }
-{
-    load_as(ops::load_op(e % 16), word)
-}
-
-fn store_as(op: StoreOp, word: u32) -> Instr
+pub fn store(op: StoreOp, word: u32) -> Instr
     ensures { result ≡ store_as word op }
 {
     Instr::Store {
@@ -89,36 +78,7 @@ fn store_as(op: StoreOp, word: u32) -> Instr
     }
 }
 
-pub fn store(e: u8, word: u32) -> Instr
-    ensures { result ≡ store_as word (store_op (e % 16)) }
-{
-    store_as(ops::store_op(e % 16), word)
-}
-
-fn shift_as(op: AluOp, word: u32) -> Instr
-    ensures { result ≡ shift_as word op }
-{
-    Instr::OpImm {
-        op,
-        rd: fields::rd(word),
-        rs1: fields::rs1(word),
-        imm: ((word >> 20) % 64) as u64,
-    }
-}
-
-// The shifts of OP-IMM, whose amount has 6 bits: funct6 with a bit 0 behind it stands for funct7.
-fn shift(e: u8, word: u32) -> Instr
-    ensures { result ≡ shift_by (e % 16) word }
-{
-    let op = ops::with_funct7(e % 16, fields::funct6(word) * 2);
-    if op == ops::NONE {
-        Instr::Illegal
-    } else {
-        shift_as(ops::alu_op(op), word)
-    }
-}
-
-fn op_imm_as(op: AluOp, word: u32) -> Instr
+pub fn op_imm(op: AluOp, word: u32) -> Instr
     ensures { result ≡ op_imm_as op word }
 {
     Instr::OpImm {
@@ -129,56 +89,40 @@ fn op_imm_as(op: AluOp, word: u32) -> Instr
     }
 }
 
-pub fn op_imm(e: u8, word: u32) -> Instr
-    ensures { result ≡ op_imm_by (e % 16) word }
+pub fn shift(op: AluOp, word: u32) -> Instr
+    ensures { result ≡ shift_as word op }
 {
-    let n = e % 16;
-    if (n == ops::SLL) | (n == ops::SRL) {
-        shift(e, word)
-    } else {
-        op_imm_as(ops::alu_op(n), word)
+    Instr::OpImm {
+        op,
+        rd: fields::rd(word),
+        rs1: fields::rs1(word),
+        imm: u64::from((word >> 20) % 64),
     }
 }
 
-fn shift_32_as(op: AluOp, word: u32) -> Instr
+pub fn add_imm_32(word: u32) -> Instr
+    ensures { result ≡ OpImm32 Add (rd_of word) (rs1_of word) (imm_i word) }
+{
+    Instr::OpImm32 {
+        op: AluOp::Add,
+        rd: fields::rd(word),
+        rs1: fields::rs1(word),
+        imm: fields::imm_i(word),
+    }
+}
+
+pub fn shift_32(op: AluOp, word: u32) -> Instr
     ensures { result ≡ shift32_as word op }
 {
     Instr::OpImm32 {
         op,
         rd: fields::rd(word),
         rs1: fields::rs1(word),
-        imm: ((word >> 20) % 32) as u64,
+        imm: u64::from((word >> 20) % 32),
     }
 }
 
-fn shift_32(e: u8, word: u32) -> Instr
-    ensures { result ≡ shift32_by (e % 16) word }
-{
-    let op = ops::with_funct7(e % 16, fields::funct7(word));
-    if op == ops::NONE {
-        Instr::Illegal
-    } else {
-        shift_32_as(ops::alu_op(op), word)
-    }
-}
-
-// ADDIW and the shifts.
-pub fn op_imm_32(e: u8, word: u32) -> Instr
-    ensures { result ≡ op_imm32_by (e % 16) word }
-{
-    if e % 16 == ops::ADD {
-        Instr::OpImm32 {
-            op: AluOp::Add,
-            rd: fields::rd(word),
-            rs1: fields::rs1(word),
-            imm: fields::imm_i(word),
-        }
-    } else {
-        shift_32(e, word)
-    }
-}
-
-fn op_as(op: AluOp, word: u32) -> Instr
+pub fn op(op: AluOp, word: u32) -> Instr
     ensures { result ≡ op_as word op }
 {
     Instr::Op {
@@ -189,18 +133,7 @@ fn op_as(op: AluOp, word: u32) -> Instr
     }
 }
 
-pub fn op(e: u8, word: u32) -> Instr
-    ensures { result ≡ op_by (e % 16) word }
-{
-    let op = ops::with_funct7(e % 16, fields::funct7(word));
-    if op == ops::NONE {
-        Instr::Illegal
-    } else {
-        op_as(ops::alu_op(op), word)
-    }
-}
-
-fn op_32_as(op: AluOp, word: u32) -> Instr
+pub fn op_32(op: AluOp, word: u32) -> Instr
     ensures { result ≡ op32_as word op }
 {
     Instr::Op32 {
@@ -211,27 +144,17 @@ fn op_32_as(op: AluOp, word: u32) -> Instr
     }
 }
 
-pub fn op_32(e: u8, word: u32) -> Instr
-    ensures { result ≡ op32_by (e % 16) word }
-{
-    let op = ops::with_funct7(e % 16, fields::funct7(word));
-    if op == ops::NONE {
-        Instr::Illegal
-    } else {
-        op_32_as(ops::alu_op(op), word)
-    }
-}
-
 pub fn fence(word: u32) -> Instr
     ensures { result ≡ Fence (rd_of word) (rs1_of word) (bits 31 20 word) }
 {
     Instr::Fence {
         rd: fields::rd(word),
         rs1: fields::rs1(word),
-        imm: (word >> 20) as u64,
+        imm: u64::from(word >> 20),
     }
 }
 
+#[tactic(auto, unfolding(crate::specs::Decode::system_of))]
 pub fn system(word: u32) -> Instr
     ensures { result ≡ system_of word }
 {
@@ -239,5 +162,22 @@ pub fn system(word: u32) -> Instr
         0x00000073 => Instr::Ecall,
         0x00100073 => Instr::Ebreak,
         _ => Instr::Illegal,
+    }
+}
+
+// The operation at a funct7, of the two that an entry has. Both tests are met by nearly every word, and which of the two operations it is is no branch,
+// since that can hardly be foreseen where ADD and SUB mix.
+pub fn by_funct7(first: AluOp, second: Option<AluOp>, funct7: u32) -> Option<AluOp>
+    ensures { result ≡ by_funct7 first second funct7 }
+{
+    let (other, last) = match second {
+        Some(op) => (op, 0x20),
+        None => (first, 0),
+    };
+    let op = if funct7 == 0 { first } else { other };
+    if (funct7 % 0x20 == 0) & (funct7 <= last) {
+        Some(op)
+    } else {
+        None
     }
 }

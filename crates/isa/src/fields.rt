@@ -27,7 +27,7 @@ pub fn funct3(word: u32) -> u32
 }
 
 pub fn funct5(word: u32) -> u32
-    ensures { result ≡ funct5_of word }
+    ensures { (result ≡ funct5_of word) × (result < 32) }
 {
     word >> 27
 }
@@ -47,13 +47,13 @@ pub fn funct7(word: u32) -> u32
 pub fn imm_i(word: u32) -> u64
     ensures { result ≡ imm_i word }
 {
-    word::num::sign_extend((word >> 20) as u64, 12, 64)
+    word::num::sign_extend(u64::from(word >> 20), 12, 64)
 }
 
 pub fn imm_s(word: u32) -> u64
     ensures { result ≡ imm_s word }
 {
-    word::num::sign_extend(((word >> 25) * 32 + (word >> 7) % 32) as u64, 12, 64)
+    word::num::sign_extend(u64::from((word >> 25) * 32 + (word >> 7) % 32), 12, 64)
 }
 
 // Bits 11 to 0 of a branch's offset.
@@ -66,13 +66,13 @@ fn low_b(word: u32) -> u32
 pub fn imm_b(word: u32) -> u64
     ensures { result ≡ imm_b word }
 {
-    word::num::sign_extend(((word >> 31) * 4096 + low_b(word)) as u64, 13, 64)
+    word::num::sign_extend(u64::from((word >> 31) * 4096 + low_b(word)), 13, 64)
 }
 
 pub fn imm_u(word: u32) -> u64
     ensures { result ≡ imm_u word }
 {
-    word::num::sign_extend(((word >> 12) * 4096) as u64, 32, 64)
+    word::num::sign_extend(u64::from((word >> 12) * 4096), 32, 64)
 }
 
 // Bits 19 to 0 of a jump's offset.
@@ -85,5 +85,5 @@ fn low_j(word: u32) -> u32
 pub fn imm_j(word: u32) -> u64
     ensures { result ≡ imm_j word }
 {
-    word::num::sign_extend(((word >> 31) * 1048576 + low_j(word)) as u64, 21, 64)
+    word::num::sign_extend(u64::from((word >> 31) * 1048576 + low_j(word)), 21, 64)
 }

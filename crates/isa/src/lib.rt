@@ -5,14 +5,16 @@ ghost use Rattle.std.specs.Prelude.{◌≡◌, ◌≤◌, ◌<◌};
 ghost use Rattle.isa.specs.Width.{bits_of, bytes_of, pair_bytes};
 ghost use Rattle.isa.specs.Decode.{decode_of};
 ghost use Rattle.isa.specs.Narrow.{decode_at};
+ghost use Rattle.isa.specs.Tables.{decide_of};
 
 mod amo;
 mod base;
 pub mod class;
 pub mod fields;
 pub mod narrow;
-mod ops;
 mod tables;
+
+use tables::Entry;
 
 #[derive(Clone, Copy)]
 pub enum LoadOp {
@@ -204,37 +206,59 @@ pub fn pair_bytes_of(w: Width) -> usize
     }
 }
 
-// What a word is; Illegal is every word that document 01 gives cause 2. That AMO is asked for apart, before the others, saves time: in memory its instruction
-// has fields of one byte where every other has a number of 8, and one match that made both would have the compiler merge the two layouts for every word.
+// What a word is by its entry of the first table. funct6 with a bit 0 behind it stands for funct7 where a shift's amount has 6 bits.
+#[tactic(auto, unfolding(crate::specs::Tables::decide_of))]
+fn decide(e: Entry, word: u32) -> Instr
+    ensures { result ≡ decide_of e word }
+{
+    let f7 = fields::funct7(word);
+    match e {
+        Entry::Illegal => Instr::Illegal,
+        Entry::Load(op) => base::load(op, word),
+        Entry::Fence => base::fence(word),
+        Entry::OpImm(op) => base::op_imm(op, word),
+        Entry::Shift(first, second) => base::by_funct7(
+            first,
+            second,
+            fields::funct6(word) * 2,
+        ).map_or(Instr::Illegal, |op| base::shift(op, word)),
+        Entry::Auipc => base::auipc(word),
+        Entry::AddImm32 => base::add_imm_32(word),
+        Entry::Shift32(first, second) => base::by_funct7(first, second, f7).map_or(
+            Instr::Illegal,
+            |op| base::shift_32(op, word),
+        ),
+        Entry::Store(op) => base::store(op, word),
+        Entry::Amo => amo::atomic(word),
+        Entry::Op(first, second) => base::by_funct7(first, second, f7).map_or(
+            Instr::Illegal,
+            |op| base::op(op, word),
+        ),
+        Entry::Lui => base::lui(word),
+        Entry::Op32(first, second) => base::by_funct7(first, second, f7).map_or(
+            Instr::Illegal,
+            |op| base::op_32(op, word),
+        ),
+        Entry::Branch(op) => base::branch(op, word),
+        Entry::Jalr => base::jalr(word),
+        Entry::Jal => base::jal(word),
+        Entry::System => base::system(word),
+    }
+}
+
+// What a word is; Illegal is every word that document 01 gives cause 2.
 pub fn decode(word: u32) -> Instr
     ensures { result ≡ decode_of word }
 {
-    if word % 4 != 3 {
-        return Instr::Illegal;
-    }
-    let e = tables::opcode_entry(word);
-    if e / 16 == class::AMO {
-        return amo::atomic(word);
-    }
-    match e / 16 {
-        class::LOAD => base::load(e, word),
-        class::MISC_MEM => base::fence(word),
-        class::OP_IMM => base::op_imm(e, word),
-        class::AUIPC => base::auipc(word),
-        class::OP_IMM_32 => base::op_imm_32(e, word),
-        class::STORE => base::store(e, word),
-        class::OP => base::op(e, word),
-        class::LUI => base::lui(word),
-        class::OP_32 => base::op_32(e, word),
-        class::BRANCH => base::branch(e, word),
-        class::JALR => base::jalr(word),
-        class::JAL => base::jal(word),
-        class::SYSTEM => base::system(word),
-        _ => Instr::Illegal,
+    if word % 4 == 3 {
+        decide(tables::opcode_entry(word), word)
+    } else {
+        Instr::Illegal
     }
 }
 
 // What a word is where registers have so many bits, 32 or 64. The width is asked for first, so that at 64 the decoder's answer isn't copied.
+#[tactic(auto, unfolding(crate::specs::Narrow::decode_at))]
 pub fn decode_at(word: u32, xlen: u32) -> Instr
     ensures { result ≡ decode_at xlen word }
 {

@@ -7,26 +7,13 @@ use crate::{AluOp, Atomic, AtomicOp, Instr, LoadOp, StoreOp, Width};
 pub fn kept_load(op: LoadOp) -> bool
     ensures { result ≡ kept_load op }
 {
-    match op {
-        LoadOp::Lb => true,
-        LoadOp::Lh => true,
-        LoadOp::Lw => true,
-        LoadOp::Ld => false,
-        LoadOp::Lbu => true,
-        LoadOp::Lhu => true,
-        LoadOp::Lwu => false,
-    }
+    !matches!(op, LoadOp::Ld | LoadOp::Lwu)
 }
 
 pub fn kept_store(op: StoreOp) -> bool
     ensures { result ≡ kept_store op }
 {
-    match op {
-        StoreOp::Sb => true,
-        StoreOp::Sh => true,
-        StoreOp::Sw => true,
-        StoreOp::Sd => false,
-    }
+    !matches!(op, StoreOp::Sd)
 }
 
 // A shift's amount has 5 bits.
@@ -34,38 +21,21 @@ pub fn kept_imm(op: AluOp, imm: u64) -> bool
     ensures { result ≡ kept_imm op imm }
 {
     match op {
-        AluOp::Add => true,
-        AluOp::Sub => true,
-        AluOp::Sll => imm <= 31,
-        AluOp::Slt => true,
-        AluOp::Sltu => true,
-        AluOp::Xor => true,
-        AluOp::Srl => imm <= 31,
-        AluOp::Sra => imm <= 31,
-        AluOp::Or => true,
-        AluOp::And => true,
+        AluOp::Sll | AluOp::Srl | AluOp::Sra => imm <= 31,
+        _ => true,
     }
 }
 
 fn is_double(w: Width) -> bool
     ensures { result ≡ is_double w }
 {
-    match w {
-        Width::Word => false,
-        Width::Double => true,
-    }
+    matches!(w, Width::Double)
 }
 
 fn is_cas(op: AtomicOp) -> bool
     ensures { result ≡ is_cas op }
 {
-    match op {
-        AtomicOp::Lr => false,
-        AtomicOp::Sc => false,
-        AtomicOp::Cas => true,
-        AtomicOp::CasPair => false,
-        AtomicOp::Rmw(_) => false,
-    }
+    matches!(op, AtomicOp::Cas)
 }
 
 // Whether an atomic instruction becomes a pair of words: AMOCAS.D, whose registers are even.
@@ -82,37 +52,12 @@ pub fn lacks(i: Instr) -> bool
     ensures { result ≡ lacks i }
 {
     match i {
-        Instr::Illegal => false,
-        Instr::Lui { .. } => false,
-        Instr::Auipc { .. } => false,
-        Instr::Jal { .. } => false,
-        Instr::Jalr { .. } => false,
-        Instr::Branch { .. } => false,
-        Instr::Load {
-            op,
-            rd: _,
-            rs1: _,
-            imm: _,
-        } => !kept_load(op),
-        Instr::Store {
-            op,
-            rs1: _,
-            rs2: _,
-            imm: _,
-        } => !kept_store(op),
-        Instr::OpImm {
-            op,
-            rd: _,
-            rs1: _,
-            imm,
-        } => !kept_imm(op, imm),
-        Instr::OpImm32 { .. } => true,
-        Instr::Op { .. } => false,
-        Instr::Op32 { .. } => true,
-        Instr::Fence { .. } => false,
-        Instr::Ecall => false,
-        Instr::Ebreak => false,
+        Instr::Load { op, .. } => !kept_load(op),
+        Instr::Store { op, .. } => !kept_store(op),
+        Instr::OpImm { op, imm, .. } => !kept_imm(op, imm),
+        Instr::OpImm32 { .. } | Instr::Op32 { .. } => true,
         Instr::Amo(a) => double_lacked(a),
+        _ => false,
     }
 }
 
@@ -131,22 +76,8 @@ pub fn narrow(i: Instr) -> Instr
         return Instr::Illegal;
     }
     match i {
-        Instr::Illegal => i,
-        Instr::Lui { .. } => i,
-        Instr::Auipc { .. } => i,
-        Instr::Jal { .. } => i,
-        Instr::Jalr { .. } => i,
-        Instr::Branch { .. } => i,
-        Instr::Load { .. } => i,
-        Instr::Store { .. } => i,
-        Instr::OpImm { .. } => i,
-        Instr::OpImm32 { .. } => i,
-        Instr::Op { .. } => i,
-        Instr::Op32 { .. } => i,
-        Instr::Fence { .. } => i,
-        Instr::Ecall => i,
-        Instr::Ebreak => i,
         Instr::Amo(a) => Instr::Amo(paired_if(pairs(a), a)),
+        _ => i,
     }
 }
 

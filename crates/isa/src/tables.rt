@@ -1,255 +1,240 @@
-// The two tables of 256 entries that the decoder reads, and how it reads them.
-ghost use Rattle.std.specs.Prelude.{◌≡◌, ◌*◌, ◌/◌, ◌%◌, ◌^◌, ◌<◌};
-ghost use Rattle.word.specs.Bytes.{le};
-ghost use Rattle.word.specs.Memory.{part};
+// The two tables of 256 entries that the decoder reads, each a row of 8 for each of 32 numbers, and how it reads them. They are statics: a constant of this
+// type is built in memory, all of it, at each reading.
+ghost use Rattle.std.specs.Prelude.{◌≡◌};
 ghost use Rattle.isa.specs.Fields.{bits, funct3_of, funct5_of};
-ghost use Rattle.isa.specs.Decode.{key};
-ghost use Rattle.isa.specs.Tables.{opcode_table, opcode_at, atomic_table, atomic_at};
+ghost use Rattle.isa.specs.Tables.{opcode_at, atomic_at};
 
-use crate::fields;
-use word::bytes::load_at;
+use crate::{AluOp, AmoOp, AtomicOp, BranchOp, LoadOp, StoreOp, Width, fields};
 
-// The eight entries of a row of the first table as one number, that of funct3 0 the lowest byte. The indices are literals: an array that is read at a computed
-// index is built in memory, all of it, at each reading, and one that is read at literals stays a constant of the program.
-fn opcode_row(row: u32) -> u64
-    ensures { result ≡ le (part opcode_table (row * 8) 8) }
-{
-    let t = OPCODE_TABLE;
-    match row {
-        0 => load_at(&t, 0, 8),
-        1 => load_at(&t, 8, 8),
-        2 => load_at(&t, 16, 8),
-        3 => load_at(&t, 24, 8),
-        4 => load_at(&t, 32, 8),
-        5 => load_at(&t, 40, 8),
-        6 => load_at(&t, 48, 8),
-        7 => load_at(&t, 56, 8),
-        8 => load_at(&t, 64, 8),
-        9 => load_at(&t, 72, 8),
-        10 => load_at(&t, 80, 8),
-        11 => load_at(&t, 88, 8),
-        12 => load_at(&t, 96, 8),
-        13 => load_at(&t, 104, 8),
-        14 => load_at(&t, 112, 8),
-        15 => load_at(&t, 120, 8),
-        16 => load_at(&t, 128, 8),
-        17 => load_at(&t, 136, 8),
-        18 => load_at(&t, 144, 8),
-        19 => load_at(&t, 152, 8),
-        20 => load_at(&t, 160, 8),
-        21 => load_at(&t, 168, 8),
-        22 => load_at(&t, 176, 8),
-        23 => load_at(&t, 184, 8),
-        24 => load_at(&t, 192, 8),
-        25 => load_at(&t, 200, 8),
-        26 => load_at(&t, 208, 8),
-        27 => load_at(&t, 216, 8),
-        28 => load_at(&t, 224, 8),
-        29 => load_at(&t, 232, 8),
-        30 => load_at(&t, 240, 8),
-        31 => load_at(&t, 248, 8),
-        _ => 0,
-    }
+// What bits 6 to 2 and funct3 say of a word: its class, and its operation where funct3 tells it. Where funct7 or funct6 decides too, an entry has the
+// operation at funct7 0 and that at 0x20, if there is one.
+#[derive(Clone, Copy)]
+pub enum Entry {
+    // No word there has an instruction.
+    Illegal,
+    Load(LoadOp),
+    Fence,
+    OpImm(AluOp),
+    Shift(AluOp, Option<AluOp>),
+    Auipc,
+    AddImm32,
+    Shift32(AluOp, Option<AluOp>),
+    Store(StoreOp),
+    // The second table decides.
+    Amo,
+    Op(AluOp, Option<AluOp>),
+    Lui,
+    Op32(AluOp, Option<AluOp>),
+    Branch(BranchOp),
+    Jalr,
+    Jal,
+    // The whole word decides.
+    System,
 }
 
-// The same of the second table.
-fn atomic_row(row: u32) -> u64
-    ensures { result ≡ le (part atomic_table (row * 8) 8) }
+// The entry of a word in the first table.
+pub fn opcode_entry(word: u32) -> Entry
+    ensures { result ≡ opcode_at (bits 6 2 word) (funct3_of word) }
 {
-    let t = ATOMIC_TABLE;
-    match row {
-        0 => load_at(&t, 0, 8),
-        1 => load_at(&t, 8, 8),
-        2 => load_at(&t, 16, 8),
-        3 => load_at(&t, 24, 8),
-        4 => load_at(&t, 32, 8),
-        5 => load_at(&t, 40, 8),
-        6 => load_at(&t, 48, 8),
-        7 => load_at(&t, 56, 8),
-        8 => load_at(&t, 64, 8),
-        9 => load_at(&t, 72, 8),
-        10 => load_at(&t, 80, 8),
-        11 => load_at(&t, 88, 8),
-        12 => load_at(&t, 96, 8),
-        13 => load_at(&t, 104, 8),
-        14 => load_at(&t, 112, 8),
-        15 => load_at(&t, 120, 8),
-        16 => load_at(&t, 128, 8),
-        17 => load_at(&t, 136, 8),
-        18 => load_at(&t, 144, 8),
-        19 => load_at(&t, 152, 8),
-        20 => load_at(&t, 160, 8),
-        21 => load_at(&t, 168, 8),
-        22 => load_at(&t, 176, 8),
-        23 => load_at(&t, 184, 8),
-        24 => load_at(&t, 192, 8),
-        25 => load_at(&t, 200, 8),
-        26 => load_at(&t, 208, 8),
-        27 => load_at(&t, 216, 8),
-        28 => load_at(&t, 224, 8),
-        29 => load_at(&t, 232, 8),
-        30 => load_at(&t, 240, 8),
-        31 => load_at(&t, 248, 8),
-        _ => 0,
-    }
+    OPCODE_TABLE[((word >> 2) % 32) as usize][fields::funct3(word) as usize]
 }
 
-// The entry of a funct3 in its row.
-fn in_row(entries: u64, funct3: u32) -> u8
-    requires { funct3 < 8 }
-    ensures { result ≡ entries / 2 ^ (funct3 * 8) % 256 }
+// The entry of a word in the second table: the operation and its width, None where there is no operation.
+pub fn atomic_entry(word: u32) -> Option<(AtomicOp, Width)>
+    ensures { result ≡ atomic_at (funct5_of word) (funct3_of word) }
 {
-    ((entries >> (funct3 * 8)) % 256) as u8
+    ATOMIC_TABLE[fields::funct5(word) as usize][fields::funct3(word) as usize]
 }
 
-// The entry of a word in the first table, at bits 6 to 2 times 8 plus funct3.
-pub fn opcode_entry(word: u32) -> u8
-    ensures { result ≡ opcode_at (key (bits 6 2 word) (funct3_of word)) }
-{
-    in_row(opcode_row((word >> 2) % 32), fields::funct3(word))
-}
+const NO_CLASS: [Entry; 8] = [Entry::Illegal; 8];
 
-// The entry of a word in the second table, at funct5 times 8 plus funct3.
-pub fn atomic_entry(word: u32) -> u8
-    ensures { result ≡ atomic_at (key (funct5_of word) (funct3_of word)) }
-{
-    in_row(atomic_row(fields::funct5(word)), fields::funct3(word))
-}
-
-// A row for each value of bits 6 to 2, and in it an entry for each funct3. The upper digit is the class, as `class` numbers it; the lower one the operation,
-// as `ops` numbers it, and 0 where the class has none; where funct7 or funct6 decides too, the operation that it has at 0. An entry of 0 says that no word
-// there has an instruction.
-const OPCODE_TABLE: [u8; 256] = [
-    // 0, LOAD: LB LH LW LD LBU LHU LWU none
-    0x10, 0x11, 0x12, 0x13, 0x14, 0x15, 0x16, 0x00,
-    // 1: no class
-    0x00, 0x00, 0x00, 0x00, 0x00, 0x00, 0x00, 0x00,
-    // 2: no class
-    0x00, 0x00, 0x00, 0x00, 0x00, 0x00, 0x00, 0x00,
-    // 3, MISC-MEM: FENCE, then none
-    0x20, 0x00, 0x00, 0x00, 0x00, 0x00, 0x00, 0x00,
-    // 4, OP-IMM: ADDI SLLI SLTI SLTIU XORI SRLI/SRAI ORI ANDI
-    0x30, 0x32, 0x33, 0x34, 0x35, 0x36, 0x38, 0x39,
+// A row for each value of bits 6 to 2, and in it an entry for each funct3.
+static OPCODE_TABLE: [[Entry; 8]; 32] = [
+    // 0, LOAD
+    [
+        Entry::Load(LoadOp::Lb),
+        Entry::Load(LoadOp::Lh),
+        Entry::Load(LoadOp::Lw),
+        Entry::Load(LoadOp::Ld),
+        Entry::Load(LoadOp::Lbu),
+        Entry::Load(LoadOp::Lhu),
+        Entry::Load(LoadOp::Lwu),
+        Entry::Illegal,
+    ],
+    NO_CLASS,
+    NO_CLASS,
+    // 3, MISC-MEM
+    [
+        Entry::Fence,
+        Entry::Illegal,
+        Entry::Illegal,
+        Entry::Illegal,
+        Entry::Illegal,
+        Entry::Illegal,
+        Entry::Illegal,
+        Entry::Illegal,
+    ],
+    // 4, OP-IMM
+    [
+        Entry::OpImm(AluOp::Add),
+        Entry::Shift(AluOp::Sll, None),
+        Entry::OpImm(AluOp::Slt),
+        Entry::OpImm(AluOp::Sltu),
+        Entry::OpImm(AluOp::Xor),
+        Entry::Shift(AluOp::Srl, Some(AluOp::Sra)),
+        Entry::OpImm(AluOp::Or),
+        Entry::OpImm(AluOp::And),
+    ],
     // 5, AUIPC
-    0x40, 0x40, 0x40, 0x40, 0x40, 0x40, 0x40, 0x40,
-    // 6, OP-IMM-32: ADDIW SLLIW none none none SRLIW/SRAIW none none
-    0x50, 0x52, 0x00, 0x00, 0x00, 0x56, 0x00, 0x00,
-    // 7: no class
-    0x00, 0x00, 0x00, 0x00, 0x00, 0x00, 0x00, 0x00,
-    // 8, STORE: SB SH SW SD, then none
-    0x60, 0x61, 0x62, 0x63, 0x00, 0x00, 0x00, 0x00,
-    // 9: no class
-    0x00, 0x00, 0x00, 0x00, 0x00, 0x00, 0x00, 0x00,
-    // 10: no class
-    0x00, 0x00, 0x00, 0x00, 0x00, 0x00, 0x00, 0x00,
-    // 11, AMO: the second table decides
-    0x70, 0x70, 0x70, 0x70, 0x70, 0x70, 0x70, 0x70,
-    // 12, OP: ADD/SUB SLL SLT SLTU XOR SRL/SRA OR AND
-    0x80, 0x82, 0x83, 0x84, 0x85, 0x86, 0x88, 0x89,
+    [Entry::Auipc; 8],
+    // 6, OP-IMM-32
+    [
+        Entry::AddImm32,
+        Entry::Shift32(AluOp::Sll, None),
+        Entry::Illegal,
+        Entry::Illegal,
+        Entry::Illegal,
+        Entry::Shift32(AluOp::Srl, Some(AluOp::Sra)),
+        Entry::Illegal,
+        Entry::Illegal,
+    ],
+    NO_CLASS,
+    // 8, STORE
+    [
+        Entry::Store(StoreOp::Sb),
+        Entry::Store(StoreOp::Sh),
+        Entry::Store(StoreOp::Sw),
+        Entry::Store(StoreOp::Sd),
+        Entry::Illegal,
+        Entry::Illegal,
+        Entry::Illegal,
+        Entry::Illegal,
+    ],
+    NO_CLASS,
+    NO_CLASS,
+    // 11, AMO
+    [Entry::Amo; 8],
+    // 12, OP
+    [
+        Entry::Op(AluOp::Add, Some(AluOp::Sub)),
+        Entry::Op(AluOp::Sll, None),
+        Entry::Op(AluOp::Slt, None),
+        Entry::Op(AluOp::Sltu, None),
+        Entry::Op(AluOp::Xor, None),
+        Entry::Op(AluOp::Srl, Some(AluOp::Sra)),
+        Entry::Op(AluOp::Or, None),
+        Entry::Op(AluOp::And, None),
+    ],
     // 13, LUI
-    0x90, 0x90, 0x90, 0x90, 0x90, 0x90, 0x90, 0x90,
-    // 14, OP-32: ADDW/SUBW SLLW none none none SRLW/SRAW none none
-    0xA0, 0xA2, 0x00, 0x00, 0x00, 0xA6, 0x00, 0x00,
-    // 15: no class
-    0x00, 0x00, 0x00, 0x00, 0x00, 0x00, 0x00, 0x00,
-    // 16: no class
-    0x00, 0x00, 0x00, 0x00, 0x00, 0x00, 0x00, 0x00,
-    // 17: no class
-    0x00, 0x00, 0x00, 0x00, 0x00, 0x00, 0x00, 0x00,
-    // 18: no class
-    0x00, 0x00, 0x00, 0x00, 0x00, 0x00, 0x00, 0x00,
-    // 19: no class
-    0x00, 0x00, 0x00, 0x00, 0x00, 0x00, 0x00, 0x00,
-    // 20: no class
-    0x00, 0x00, 0x00, 0x00, 0x00, 0x00, 0x00, 0x00,
-    // 21: no class
-    0x00, 0x00, 0x00, 0x00, 0x00, 0x00, 0x00, 0x00,
-    // 22: no class
-    0x00, 0x00, 0x00, 0x00, 0x00, 0x00, 0x00, 0x00,
-    // 23: no class
-    0x00, 0x00, 0x00, 0x00, 0x00, 0x00, 0x00, 0x00,
-    // 24, BRANCH: BEQ BNE none none BLT BGE BLTU BGEU
-    0xB0, 0xB1, 0x00, 0x00, 0xB2, 0xB3, 0xB4, 0xB5,
-    // 25, JALR: JALR, then none
-    0xC0, 0x00, 0x00, 0x00, 0x00, 0x00, 0x00, 0x00,
-    // 26: no class
-    0x00, 0x00, 0x00, 0x00, 0x00, 0x00, 0x00, 0x00,
+    [Entry::Lui; 8],
+    // 14, OP-32
+    [
+        Entry::Op32(AluOp::Add, Some(AluOp::Sub)),
+        Entry::Op32(AluOp::Sll, None),
+        Entry::Illegal,
+        Entry::Illegal,
+        Entry::Illegal,
+        Entry::Op32(AluOp::Srl, Some(AluOp::Sra)),
+        Entry::Illegal,
+        Entry::Illegal,
+    ],
+    NO_CLASS,
+    NO_CLASS,
+    NO_CLASS,
+    NO_CLASS,
+    NO_CLASS,
+    NO_CLASS,
+    NO_CLASS,
+    NO_CLASS,
+    NO_CLASS,
+    // 24, BRANCH
+    [
+        Entry::Branch(BranchOp::Eq),
+        Entry::Branch(BranchOp::Ne),
+        Entry::Illegal,
+        Entry::Illegal,
+        Entry::Branch(BranchOp::Lt),
+        Entry::Branch(BranchOp::Ge),
+        Entry::Branch(BranchOp::Ltu),
+        Entry::Branch(BranchOp::Geu),
+    ],
+    // 25, JALR
+    [
+        Entry::Jalr,
+        Entry::Illegal,
+        Entry::Illegal,
+        Entry::Illegal,
+        Entry::Illegal,
+        Entry::Illegal,
+        Entry::Illegal,
+        Entry::Illegal,
+    ],
+    NO_CLASS,
     // 27, JAL
-    0xD0, 0xD0, 0xD0, 0xD0, 0xD0, 0xD0, 0xD0, 0xD0,
-    // 28, SYSTEM: the whole word decides
-    0xE0, 0xE0, 0xE0, 0xE0, 0xE0, 0xE0, 0xE0, 0xE0,
-    // 29: no class
-    0x00, 0x00, 0x00, 0x00, 0x00, 0x00, 0x00, 0x00,
-    // 30: no class
-    0x00, 0x00, 0x00, 0x00, 0x00, 0x00, 0x00, 0x00,
-    // 31: no class
-    0x00, 0x00, 0x00, 0x00, 0x00, 0x00, 0x00, 0x00,
+    [Entry::Jal; 8],
+    // 28, SYSTEM
+    [Entry::System; 8],
+    NO_CLASS,
+    NO_CLASS,
+    NO_CLASS,
 ];
 
-// A row for each funct5, and in it an entry for each funct3. The upper digit is the width, 0 for W, 1 for D and Q; the lower one the operation. 0 is none.
-const ATOMIC_TABLE: [u8; 256] = [
-    // 0, AMOADD: none none W D then none
-    0x00, 0x00, 0x06, 0x16, 0x00, 0x00, 0x00, 0x00,
-    // 1, AMOSWAP: none none W D then none
-    0x00, 0x00, 0x05, 0x15, 0x00, 0x00, 0x00, 0x00,
-    // 2, LR: none none W D then none
-    0x00, 0x00, 0x01, 0x11, 0x00, 0x00, 0x00, 0x00,
-    // 3, SC: none none W D then none
-    0x00, 0x00, 0x02, 0x12, 0x00, 0x00, 0x00, 0x00,
-    // 4, AMOXOR: none none W D then none
-    0x00, 0x00, 0x07, 0x17, 0x00, 0x00, 0x00, 0x00,
-    // 5, AMOCAS: none none W D Q, then none
-    0x00, 0x00, 0x03, 0x13, 0x14, 0x00, 0x00, 0x00,
-    // 6: no operation
-    0x00, 0x00, 0x00, 0x00, 0x00, 0x00, 0x00, 0x00,
-    // 7: no operation
-    0x00, 0x00, 0x00, 0x00, 0x00, 0x00, 0x00, 0x00,
-    // 8, AMOOR: none none W D then none
-    0x00, 0x00, 0x09, 0x19, 0x00, 0x00, 0x00, 0x00,
-    // 9: no operation
-    0x00, 0x00, 0x00, 0x00, 0x00, 0x00, 0x00, 0x00,
-    // 10: no operation
-    0x00, 0x00, 0x00, 0x00, 0x00, 0x00, 0x00, 0x00,
-    // 11: no operation
-    0x00, 0x00, 0x00, 0x00, 0x00, 0x00, 0x00, 0x00,
-    // 12, AMOAND: none none W D then none
-    0x00, 0x00, 0x08, 0x18, 0x00, 0x00, 0x00, 0x00,
-    // 13: no operation
-    0x00, 0x00, 0x00, 0x00, 0x00, 0x00, 0x00, 0x00,
-    // 14: no operation
-    0x00, 0x00, 0x00, 0x00, 0x00, 0x00, 0x00, 0x00,
-    // 15: no operation
-    0x00, 0x00, 0x00, 0x00, 0x00, 0x00, 0x00, 0x00,
-    // 16, AMOMIN: none none W D then none
-    0x00, 0x00, 0x0A, 0x1A, 0x00, 0x00, 0x00, 0x00,
-    // 17: no operation
-    0x00, 0x00, 0x00, 0x00, 0x00, 0x00, 0x00, 0x00,
-    // 18: no operation
-    0x00, 0x00, 0x00, 0x00, 0x00, 0x00, 0x00, 0x00,
-    // 19: no operation
-    0x00, 0x00, 0x00, 0x00, 0x00, 0x00, 0x00, 0x00,
-    // 20, AMOMAX: none none W D then none
-    0x00, 0x00, 0x0B, 0x1B, 0x00, 0x00, 0x00, 0x00,
-    // 21: no operation
-    0x00, 0x00, 0x00, 0x00, 0x00, 0x00, 0x00, 0x00,
-    // 22: no operation
-    0x00, 0x00, 0x00, 0x00, 0x00, 0x00, 0x00, 0x00,
-    // 23: no operation
-    0x00, 0x00, 0x00, 0x00, 0x00, 0x00, 0x00, 0x00,
-    // 24, AMOMINU: none none W D then none
-    0x00, 0x00, 0x0C, 0x1C, 0x00, 0x00, 0x00, 0x00,
-    // 25: no operation
-    0x00, 0x00, 0x00, 0x00, 0x00, 0x00, 0x00, 0x00,
-    // 26: no operation
-    0x00, 0x00, 0x00, 0x00, 0x00, 0x00, 0x00, 0x00,
-    // 27: no operation
-    0x00, 0x00, 0x00, 0x00, 0x00, 0x00, 0x00, 0x00,
-    // 28, AMOMAXU: none none W D then none
-    0x00, 0x00, 0x0D, 0x1D, 0x00, 0x00, 0x00, 0x00,
-    // 29: no operation
-    0x00, 0x00, 0x00, 0x00, 0x00, 0x00, 0x00, 0x00,
-    // 30: no operation
-    0x00, 0x00, 0x00, 0x00, 0x00, 0x00, 0x00, 0x00,
-    // 31: no operation
-    0x00, 0x00, 0x00, 0x00, 0x00, 0x00, 0x00, 0x00,
+const NO_ATOMIC: [Option<(AtomicOp, Width)>; 8] = [None; 8];
+
+// The row of an operation that has both widths: funct3 2 is W, and 3 is D.
+macro_rules! sized {
+    ($op:expr) => {
+        [None, None, Some(($op, Width::Word)), Some(($op, Width::Double)), None, None, None, None]
+    };
+}
+
+// A row for each funct5, and in it an entry for each funct3.
+static ATOMIC_TABLE: [[Option<(AtomicOp, Width)>; 8]; 32] = [
+    sized!(AtomicOp::Rmw(AmoOp::Add)),
+    sized!(AtomicOp::Rmw(AmoOp::Swap)),
+    sized!(AtomicOp::Lr),
+    sized!(AtomicOp::Sc),
+    sized!(AtomicOp::Rmw(AmoOp::Xor)),
+    // 5, AMOCAS, which has Q too
+    [
+        None,
+        None,
+        Some((AtomicOp::Cas, Width::Word)),
+        Some((AtomicOp::Cas, Width::Double)),
+        Some((AtomicOp::CasPair, Width::Double)),
+        None,
+        None,
+        None,
+    ],
+    NO_ATOMIC,
+    NO_ATOMIC,
+    sized!(AtomicOp::Rmw(AmoOp::Or)),
+    NO_ATOMIC,
+    NO_ATOMIC,
+    NO_ATOMIC,
+    // 12
+    sized!(AtomicOp::Rmw(AmoOp::And)),
+    NO_ATOMIC,
+    NO_ATOMIC,
+    NO_ATOMIC,
+    // 16
+    sized!(AtomicOp::Rmw(AmoOp::Min)),
+    NO_ATOMIC,
+    NO_ATOMIC,
+    NO_ATOMIC,
+    // 20
+    sized!(AtomicOp::Rmw(AmoOp::Max)),
+    NO_ATOMIC,
+    NO_ATOMIC,
+    NO_ATOMIC,
+    // 24
+    sized!(AtomicOp::Rmw(AmoOp::Minu)),
+    NO_ATOMIC,
+    NO_ATOMIC,
+    NO_ATOMIC,
+    // 28
+    sized!(AtomicOp::Rmw(AmoOp::Maxu)),
+    NO_ATOMIC,
+    NO_ATOMIC,
+    NO_ATOMIC,
 ];

@@ -8,16 +8,14 @@ use native.Mathlib.Omega.{arith}
 use lib.Dec.{eqb, lit<}
 use lib.ListN.{length, get_or, take, drop, length-take, length-drop, get_or-append}
 use lib.Seq.{length-take-le, take_at, take-append-le, drop-append-le, drop-append-add, get_or-append-add, get_or-take, ext_get_or}
+use Rattle.std.specs.Prelude.{Option, None, Some}
 use Rattle.word.specs.Bytes.{le, to_le, IsBytes}
 use Rattle.word.specs.Memory.{part, splice}
 use Rattle.word.proofs.BytesLaws.{length-to_le, le-to_le, to_le-le}
 use Rattle.word.proofs.ChooseLaws.{cond_all}
 use Rattle.word.proofs.MemoryLaws.{bytes_part, part_lt, length_part, length-splice, part-splice_before, part-splice_after}
 use Rattle.word.proofs.WordLaws.{split_lt}
-use Rattle.reserve.specs.Reserve.{slot}
 use Rattle.reserve.specs.declared.Reservation.{Reservation}
-use Rattle.reserve.specs.declared.Reservation.TheVariants.{None, Held}
-use Rattle.reserve.specs.declared.Slot.{Slot}
 use Rattle.machine.specs.Rules.{Shaped}
 use Rattle.machine.specs.declared.State.{State}
 use Rattle.layout.specs.Layout.{state_size, word_at, reservation_at, settings_in, table, state_in, word_bytes, reservation_words, slot_words, state_over}
@@ -61,43 +59,43 @@ module _ (mem : List ℕ) (place : ℕ) (vs : List ℕ) (fit : place + 8 * lengt
 -- ---- reservations
 
 -- number j of the reservation k
-slot_word : (l : List Slot) (k j : ℕ) (d : Slot) → k < length l → j < 3
-    → get_or (slot_words l) (3 * k + j) 0 ≡ get_or (reservation_words (get_or l k d).reservation) j 0
+slot_word : (l : List (Option Reservation)) (k j : ℕ) (d : Option Reservation) → k < length l → j < 3
+    → get_or (slot_words l) (3 * k + j) 0 ≡ get_or (reservation_words (get_or l k d)) j 0
 unfolding slot_words
 slot_word [] k j d h g = absurd (omega arith)
 slot_word (s ∷ l) zero j d h g =
     let e : 3 * 0 + j ≡ j = omega arith in
-    ap (λ (n : ℕ). get_or (reservation_words s.reservation ++ slot_words l) n 0) e
-    ∙ get_or-append (reservation_words s.reservation) (slot_words l) 0 j (omega (arith, length_reservation s.reservation))
+    ap (λ (n : ℕ). get_or (reservation_words s ++ slot_words l) n 0) e
+    ∙ get_or-append (reservation_words s) (slot_words l) 0 j (omega (arith, length_reservation s))
 slot_word (s ∷ l) (suc k) j d h g =
-    let e : 3 * suc k + j ≡ length (reservation_words s.reservation) + (3 * k + j) = omega (arith, length_reservation s.reservation) in
-    ap (λ (n : ℕ). get_or (reservation_words s.reservation ++ slot_words l) n 0) e
-    ∙ get_or-append-add (reservation_words s.reservation) (slot_words l) (3 * k + j) 0
+    let e : 3 * suc k + j ≡ length (reservation_words s) + (3 * k + j) = omega (arith, length_reservation s) in
+    ap (λ (n : ℕ). get_or (reservation_words s ++ slot_words l) n 0) e
+    ∙ get_or-append-add (reservation_words s) (slot_words l) (3 * k + j) 0
     ∙ slot_word l k j d (omega arith) g
 
-number_small : (r : Reservation) → Fits64 r → (j : ℕ) → get_or (reservation_words r) j 0 < 2 ^ 64
+number_small : (r : Option Reservation) → Fits64 r → (j : ℕ) → get_or (reservation_words r) j 0 < 2 ^ 64
 number_small None n zero = lit< tt
 number_small None n (suc zero) = lit< tt
 number_small None n (suc (suc zero)) = lit< tt
 number_small None n (suc (suc (suc j))) = lit< tt
-number_small (Held a w) n zero = lit< tt
-number_small (Held a w) n (suc zero) = n.0
-number_small (Held a w) n (suc (suc zero)) = n.1
-number_small (Held a w) n (suc (suc (suc j))) = lit< tt
+number_small (Some r) n zero = lit< tt
+number_small (Some r) n (suc zero) = n.0
+number_small (Some r) n (suc (suc zero)) = n.1
+number_small (Some r) n (suc (suc (suc j))) = lit< tt
 
 -- a reservation is what its three numbers say
-reservation_of_lem : (bytes : List ℕ) (place : ℕ) (r : Reservation)
+reservation_of_lem : (bytes : List ℕ) (place : ℕ) (r : Option Reservation)
     → ((j : ℕ) → j < 3 → word_at bytes (place + 8 * j) ≡ get_or (reservation_words r) j 0) → reservation_at bytes place ≡ r
 unfolding reservation_at
 reservation_of_lem bytes place None f =
     let e : place + 8 * 0 ≡ place = omega arith in
     let held : word_at bytes place ≡ 0 = ap (word_at bytes) (sym e) ∙ f 0 (lit< tt) in
     rw held
-reservation_of_lem bytes place (Held a w) f =
+reservation_of_lem bytes place (Some r) f =
     let e : place + 8 * 0 ≡ place = omega arith in
     let held : word_at bytes place ≡ 1 = ap (word_at bytes) (sym e) ∙ f 0 (lit< tt) in
-    let addr : word_at bytes (place + 8) ≡ a = f 1 (lit< tt) in
-    let width : word_at bytes (place + 16) ≡ w = f 2 (lit< tt) in
+    let addr : word_at bytes (place + 8) ≡ r.addr = f 1 (lit< tt) in
+    let width : word_at bytes (place + 16) ≡ r.width = f 2 (lit< tt) in
     rw (held, addr, width)
 
 reservation_same : (bytes other : List ℕ) (place : ℕ) → ((j : ℕ) → j < 3 → part bytes (place + 8 * j) 8 ≡ part other (place + 8 * j) 8)
@@ -130,16 +128,16 @@ module _ (bytes : List ℕ) where
   unfolding state_in
   pc_in h l = table_at (λ k. word_at bytes (2056 + 8 * k)) 8 h 0 l
 
-  pub reservation_in_lem : (h : ℕ) → h < 8 → (get_or (state_in bytes).res h (slot None)).reservation ≡ reservation_at bytes (2120 + 24 * h)
+  pub reservation_in_lem : (h : ℕ) → h < 8 → (get_or (state_in bytes).res h None) ≡ reservation_at bytes (2120 + 24 * h)
   unfolding state_in
-  reservation_in_lem h l = ap (λ (q : Slot). q.reservation) (table_at (λ k. slot (reservation_at bytes (2120 + 24 * k))) 8 h (slot None) l)
+  reservation_in_lem h l = table_at (λ k. reservation_at bytes (2120 + 24 * k)) 8 h None l
 
   pub shaped_in : Shaped (state_in bytes)
   unfolding state_in
   shaped_in = record {
     registers = length-table (λ k. word_at bytes (8 + 8 * k)) 256;
     pcs = length-table (λ k. word_at bytes (2056 + 8 * k)) 8;
-    reservations = length-table (λ k. slot (reservation_at bytes (2120 + 24 * k))) 8;
+    reservations = length-table (λ k. reservation_at bytes (2120 + 24 * k)) 8;
   }
 
   module _ (isBytes : IsBytes bytes) where
@@ -157,7 +155,7 @@ module _ (bytes : List ℕ) where
       shaped = shaped_in;
       registers = table_all (λ (v : ℕ). v < 2 ^ 64) (λ k. word_at bytes (8 + 8 * k)) 256 0 (lit< tt) (λ k. word_small (8 + 8 * k));
       pcs = table_all (λ (v : ℕ). v < 2 ^ 64) (λ k. word_at bytes (2056 + 8 * k)) 8 0 (lit< tt) (λ k. word_small (2056 + 8 * k));
-      reservations = table_all (λ (q : Slot). Fits64 q.reservation) (λ k. slot (reservation_at bytes (2120 + 24 * k))) 8 (slot None) tt
+      reservations = table_all (λ (q : Option Reservation). Fits64 q) (λ k. reservation_at bytes (2120 + 24 * k)) 8 None tt
           (λ k. reservation_small (2120 + 24 * k));
     }
 
@@ -220,7 +218,7 @@ module _ (bytes : List ℕ) (whole : length bytes ≡ state_size) (s : State) (s
 
   -- number j of a used hart's reservation
   pub reservation_put : (h j : ℕ) → h < s.count → h < 8 → j < 3
-      → part (state_over bytes s) (2120 + 24 * h + 8 * j) 8 ≡ to_le 8 (get_or (reservation_words (get_or s.res h (slot None)).reservation) j 0)
+      → part (state_over bytes s) (2120 + 24 * h + 8 * j) 8 ≡ to_le 8 (get_or (reservation_words (get_or s.res h None)) j 0)
   unfolding state_over
   reservation_put h j u l k =
       let words = slot_words (take s.count s.res) in
@@ -229,8 +227,8 @@ module _ (bytes : List ℕ) (whole : length bytes ≡ state_size) (s : State) (s
       ap (λ (b : ℕ). part (state_over bytes s) b 8) e
       ∙ part_of (two bytes s) 2120 words (omega (arith, n, many, length_two)) (3 * h + j) (omega (arith, n, many))
       ∙ ap (to_le 8)
-      (slot_word (take s.count s.res) h j (slot None) (omega (arith, many)) k
-      ∙ ap (λ (q : Slot). get_or (reservation_words q.reservation) j 0) (get_or-take s.count s.res h (slot None) u))
+      (slot_word (take s.count s.res) h j None (omega (arith, many)) k
+      ∙ ap (λ (q : Option Reservation). get_or (reservation_words q) j 0) (get_or-take s.count s.res h None u))
 
   -- the range behind the reservations of used harts
   behind_used : (b n : ℕ) → 2120 + 24 * min s.count 8 ≤ b → part (state_over bytes s) b n ≡ part bytes b n
@@ -280,11 +278,11 @@ word_back v h = le-to_le 8 v ∙ mod-eq_of_lt h
 module _ (bytes : List ℕ) (whole : length bytes ≡ state_size) (s : State) (ranged : Ranged s)
     (count : word_at bytes 0 ≡ s.count) (settings : settings_in bytes ≡ s.settings) where
   used_back : (h : ℕ) → h < s.count → h < 8
-      → reservation_at (state_over bytes s) (2120 + 24 * h) ≡ (get_or s.res h (slot None)).reservation
+      → reservation_at (state_over bytes s) (2120 + 24 * h) ≡ (get_or s.res h None)
   used_back h u l =
-      reservation_of_lem (state_over bytes s) (2120 + 24 * h) (get_or s.res h (slot None)).reservation
+      reservation_of_lem (state_over bytes s) (2120 + 24 * h) (get_or s.res h None)
       (λ j k. ap le (reservation_put bytes whole s ranged.shaped h j u l k)
-      ∙ word_back _ (number_small (get_or s.res h (slot None)).reservation (ranged.reservations h) j))
+      ∙ word_back _ (number_small (get_or s.res h None) (ranged.reservations h) j))
 
   unused_back : (h : ℕ) → s.count ≤ h → reservation_at (state_over bytes s) (2120 + 24 * h) ≡ reservation_at bytes (2120 + 24 * h)
   unused_back h u =
@@ -292,12 +290,12 @@ module _ (bytes : List ℕ) (whole : length bytes ≡ state_size) (s : State) (r
       (λ j k. reservation_kept bytes whole s ranged.shaped h (8 * j) 8 u (omega arith))
 
   slot_back : (h : ℕ) → h < 8
-      → ((k : ℕ) → s.count ≤ k → k < 8 → (get_or s.res k (slot None)).reservation ≡ reservation_at bytes (2120 + 24 * k))
-      → reservation_at (state_over bytes s) (2120 + 24 * h) ≡ (get_or s.res h (slot None)).reservation
+      → ((k : ℕ) → s.count ≤ k → k < 8 → (get_or s.res k None) ≡ reservation_at bytes (2120 + 24 * k))
+      → reservation_at (state_over bytes s) (2120 + 24 * h) ≡ (get_or s.res h None)
   slot_back h l unused = ⊎_elim (λ (u : h < s.count). used_back h u l) (λ (u : s.count ≤ h). unused_back h u ∙ sym (unused h u l)) (split_lt h s.count)
 
   -- Bytes that a state of their count and settings was put over read back as that state, if the reservations of its unused harts are those of the bytes.
-  pub read_back : ((k : ℕ) → s.count ≤ k → k < 8 → (get_or s.res k (slot None)).reservation ≡ reservation_at bytes (2120 + 24 * k))
+  pub read_back : ((k : ℕ) → s.count ≤ k → k < 8 → (get_or s.res k None) ≡ reservation_at bytes (2120 + 24 * k))
       → state_in (state_over bytes s) ≡ s
   unfolding state_in
   read_back unused =
@@ -305,7 +303,7 @@ module _ (bytes : List ℕ) (whole : length bytes ≡ state_size) (s : State) (r
       let shaped = ranged.shaped in
       let x : ℕ → ℕ = λ i. word_at over (8 + 8 * i) in
       let pc : ℕ → ℕ = λ h. word_at over (2056 + 8 * h) in
-      let res : ℕ → Slot = λ h. slot (reservation_at over (2120 + 24 * h)) in
+      let res : ℕ → Option Reservation = λ h. reservation_at over (2120 + 24 * h) in
       states (state_in over) s
       (ap le (count_kept bytes whole s shaped) ∙ count)
       (settings_same bytes whole s shaped ∙ settings)
@@ -317,7 +315,7 @@ module _ (bytes : List ℕ) (whole : length bytes ≡ state_size) (s : State) (r
       (λ i h.
       let l : i < 8 = omega (arith, length-table pc 8) in
       table_at pc 8 i 0 l ∙ ap le (pc_put bytes whole s shaped i l) ∙ word_back (get_or s.pc i 0) (ranged.pcs i)))
-      (ext_get_or (slot None) (table res 8) s.res (length-table res 8 ∙ sym shaped.reservations)
+      (ext_get_or None (table res 8) s.res (length-table res 8 ∙ sym shaped.reservations)
       (λ i h.
       let l : i < 8 = omega (arith, length-table res 8) in
-      table_at res 8 i (slot None) l ∙ ap slot (slot_back i l unused)))
+      table_at res 8 i None l ∙ slot_back i l unused))

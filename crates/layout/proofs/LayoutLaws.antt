@@ -6,6 +6,7 @@ use Prim.Native.Nat.{ℕ, zero, suc, ◌+◌, ◌*◌, ◌≤◌, ◌<◌, min}
 use native.Mathlib.Omega.{arith}
 use lib.ListN.{length, get_or, take, length-append}
 use lib.Seq.{length-take-le, take-suc, take_all}
+use Rattle.std.specs.Prelude.{Option, None, Some}
 use Rattle.word.specs.Bytes.{to_le}
 use Rattle.word.specs.Memory.{splice}
 use Rattle.word.specs.Each.{each}
@@ -14,8 +15,6 @@ use Rattle.word.proofs.MemoryLaws.{splice_none, splice-append}
 use Rattle.word.proofs.WordLaws.{split_lt}
 use Rattle.settings.specs.declared.Settings.{Settings}
 use Rattle.reserve.specs.declared.Reservation.{Reservation}
-use Rattle.reserve.specs.declared.Reservation.TheVariants.{None, Held}
-use Rattle.reserve.specs.declared.Slot.{Slot}
 use Rattle.machine.specs.declared.State.{State}
 use Rattle.layout.specs.Layout.{table, word_bytes, reservation_words, slot_words}
 
@@ -83,54 +82,54 @@ words_turn mem place i vs l fit =
 
 -- ---- reservations as numbers
 
-pub length_reservation : (r : Reservation) → length (reservation_words r) ≡ 3
+pub length_reservation : (r : Option Reservation) → length (reservation_words r) ≡ 3
 length_reservation None = refl
-length_reservation (Held a w) = refl
+length_reservation (Some r) = refl
 
-pub length-slot_words : (l : List Slot) → length (slot_words l) ≡ 3 * length l
+pub length-slot_words : (l : List (Option Reservation)) → length (slot_words l) ≡ 3 * length l
 unfolding slot_words
 length-slot_words [] = refl
 length-slot_words (s ∷ l) = simp (length-append, length_reservation) (omega (arith, length-slot_words l))
 
-slot_words-append : (l m : List Slot) → slot_words (l ++ m) ≡ slot_words l ++ slot_words m
+slot_words-append : (l m : List (Option Reservation)) → slot_words (l ++ m) ≡ slot_words l ++ slot_words m
 unfolding slot_words
 slot_words-append [] m = refl
 slot_words-append (s ∷ l) m =
-    ap (λ (t : List ℕ). reservation_words s.reservation ++ t) (slot_words-append l m)
-    ∙ sym (append_assoc (reservation_words s.reservation) (slot_words l) (slot_words m))
+    ap (λ (t : List ℕ). reservation_words s ++ t) (slot_words-append l m)
+    ∙ sym (append_assoc (reservation_words s) (slot_words l) (slot_words m))
 
-slot_words_one : (s : Slot) → slot_words (s ∷ []) ≡ reservation_words s.reservation
+slot_words_one : (s : Option Reservation) → slot_words (s ∷ []) ≡ reservation_words s
 unfolding slot_words
-slot_words_one s = append-nil (reservation_words s.reservation)
+slot_words_one s = append-nil (reservation_words s)
 
 pub slots_none : (mem : List ℕ) (place : ℕ) → splice mem place (word_bytes (slot_words [])) ≡ mem
 unfolding slot_words
 slots_none mem place = words_none mem place
 
 -- the bytes of the first k reservations
-pub length_slots : (l : List Slot) (k : ℕ) → k ≤ length l → length (word_bytes (slot_words (take k l))) ≡ 24 * k
+pub length_slots : (l : List (Option Reservation)) (k : ℕ) → k ≤ length l → length (word_bytes (slot_words (take k l))) ≡ 24 * k
 length_slots l k h = omega (arith, length-word_bytes (slot_words (take k l)), length-slot_words (take k l), length-take-le k l h)
 
 -- one reservation more
-pub slots_turn : (mem : List ℕ) (place k : ℕ) (l : List Slot) (d : Slot) → k < length l → place + 24 * length l ≤ length mem
-    → splice (splice mem place (word_bytes (slot_words (take k l)))) (place + 24 * k) (word_bytes (reservation_words (get_or l k d).reservation))
+pub slots_turn : (mem : List ℕ) (place k : ℕ) (l : List (Option Reservation)) (d : Option Reservation) → k < length l → place + 24 * length l ≤ length mem
+    → splice (splice mem place (word_bytes (slot_words (take k l)))) (place + 24 * k) (word_bytes (reservation_words (get_or l k d)))
     ≡ splice mem place (word_bytes (slot_words (take (suc k) l)))
 slots_turn mem place k l d h fit =
     let before = word_bytes (slot_words (take k l)) in
-    let new = word_bytes (reservation_words (get_or l k d).reservation) in
+    let new = word_bytes (reservation_words (get_or l k d)) in
     let n : length before ≡ 24 * k = length_slots l k (omega arith) in
-    let m : length new ≡ 24 = omega (arith, length-word_bytes (reservation_words (get_or l k d).reservation), length_reservation (get_or l k d).reservation) in
+    let m : length new ≡ 24 = omega (arith, length-word_bytes (reservation_words (get_or l k d)), length_reservation (get_or l k d)) in
     ap (λ (j : ℕ). splice (splice mem place before) (place + j) new) (sym n)
     ∙ splice-append mem place before new (omega arith)
     ∙ ap (splice mem place)
-    (sym (word_bytes-append (slot_words (take k l)) (reservation_words (get_or l k d).reservation))
+    (sym (word_bytes-append (slot_words (take k l)) (reservation_words (get_or l k d)))
     ∙ ap word_bytes
     (ap (λ (t : List ℕ). slot_words (take k l) ++ t) (sym (slot_words_one (get_or l k d)))
     ∙ sym (slot_words-append (take k l) (get_or l k d ∷ []))
     ∙ ap slot_words (sym (take-suc l k d h))))
 
 -- the first of a list of at most n elements
-pub take_most : (l : List Slot) (count n : ℕ) → length l ≡ n → take (min count n) l ≡ take count l
+pub take_most : (l : List (Option Reservation)) (count n : ℕ) → length l ≡ n → take (min count n) l ≡ take count l
 take_most l count n e = go (split_lt count n)
   where
     go : (count < n) ⊎ (n ≤ count) → take (min count n) l ≡ take count l
@@ -144,4 +143,4 @@ pub states : (s t : State) → s.count ≡ t.count → s.settings ≡ t.settings
 states s t c g x p r =
     ap₂ (λ (a : ℕ) (b : Settings). record { count = a; settings = b; x = s.x; pc = s.pc; res = s.res }) c g
     ∙ ap₂ (λ (a b : List ℕ). record { count = t.count; settings = t.settings; x = a; pc = b; res = s.res }) x p
-    ∙ ap (λ (a : List Slot). record { count = t.count; settings = t.settings; x = t.x; pc = t.pc; res = a }) r
+    ∙ ap (λ (a : List (Option Reservation)). record { count = t.count; settings = t.settings; x = t.x; pc = t.pc; res = a }) r

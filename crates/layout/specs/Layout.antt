@@ -8,15 +8,12 @@
 --   2320   the version of A
 --   2328   the kind of the core
 --   2336   misaligned: 0 where a misaligned LR, SC, AMO or AMOCAS gives cause 4 or 6, 1 where it gives 5 or 7
-use Rattle.std.specs.Prelude.{ℕ, zero, suc, ◌+◌, ◌*◌, List, [], ◌∷◌, ◌++◌, take}
+use Rattle.std.specs.Prelude.{ℕ, zero, suc, ◌+◌, ◌*◌, cond, eqb, Option, None, Some, List, [], ◌∷◌, ◌++◌, take}
 use Rattle.word.specs.Bytes.{le, to_le}
 use Rattle.word.specs.Memory.{part, splice}
 use Rattle.settings.specs.declared.Settings.{Settings}
-use Rattle.reserve.specs.Reserve.{slot}
-use Rattle.reserve.specs.Packed.{held_by}
+use Rattle.reserve.specs.Reserve.{held}
 use Rattle.reserve.specs.declared.Reservation.{Reservation}
-use Rattle.reserve.specs.declared.Reservation.TheVariants.{None, Held}
-use Rattle.reserve.specs.declared.Slot.{Slot}
 use Rattle.machine.specs.declared.State.{State}
 
 abbrev pub state_size : ℕ
@@ -28,8 +25,12 @@ state_size = 2344
 abbrev pub word_at : List ℕ → ℕ → ℕ
 word_at bytes place = le (part bytes place 8)
 
+-- what three numbers mean
+abbrev pub held_by : ℕ → ℕ → ℕ → Option Reservation
+held_by some addr width = cond (eqb some 0) None (held addr width)
+
 -- the reservation at a place
-unfoldable pub reservation_at : List ℕ → ℕ → Reservation
+unfoldable pub reservation_at : List ℕ → ℕ → Option Reservation
 reservation_at bytes place = held_by (word_at bytes place) (word_at bytes (place + 8)) (word_at bytes (place + 16))
 
 -- the settings, one number after another
@@ -55,7 +56,7 @@ state_in bytes =
       settings = settings_in bytes;
       x = table (λ i. word_at bytes (8 + 8 * i)) 256;
       pc = table (λ h. word_at bytes (2056 + 8 * h)) 8;
-      res = table (λ h. slot (reservation_at bytes (2120 + 24 * h))) 8;
+      res = table (λ h. reservation_at bytes (2120 + 24 * h)) 8;
     }
 
 -- ---- a state put over bytes
@@ -66,13 +67,13 @@ word_bytes [] = []
 word_bytes (v ∷ vs) = to_le 8 v ++ word_bytes vs
 
 -- the three numbers of a reservation
-abbrev pub reservation_words : Reservation → List ℕ
+abbrev pub reservation_words : Option Reservation → List ℕ
 reservation_words None = 0 ∷ 0 ∷ 0 ∷ []
-reservation_words (Held addr width) = 1 ∷ addr ∷ width ∷ []
+reservation_words (Some r) = 1 ∷ r.addr ∷ r.width ∷ []
 
-unfoldable pub slot_words : List Slot → List ℕ
+unfoldable pub slot_words : List (Option Reservation) → List ℕ
 slot_words [] = []
-slot_words (s ∷ l) = reservation_words s.reservation ++ slot_words l
+slot_words (r ∷ l) = reservation_words r ++ slot_words l
 
 -- The bytes with the registers and the pc of every hart in their places, and the reservations of the harts that the state uses. The reservations of
 -- unused harts, the count and the settings keep their bytes: no event changes them.

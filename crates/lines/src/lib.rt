@@ -12,10 +12,10 @@ use events::Event;
 use machine::State;
 use model::advance::advance;
 use model::{Outcome, Reply};
-use reserve::packed;
 use text::{put_byte, put_bytes, put_decimal, put_hex};
 
 // Whose event it is.
+#[tactic(auto, using(text::proofs::PutLaws::then))]
 fn put_who(out: &mut [u8], at: usize, e: Event) -> usize
     requires { at + 21 ≤ length out.old }
     ensures put { Put out.old at (who_of e) out.new result }
@@ -35,6 +35,7 @@ fn put_who(out: &mut [u8], at: usize, e: Event) -> usize
 }
 
 // A trap's cause and value.
+#[tactic(auto, using(text::proofs::PutLaws::then))]
 pub fn put_trap(out: &mut [u8], at: usize, cause: u64, value: u64) -> usize
     requires { at + 43 ≤ length out.old }
     ensures put { Put out.old at (said_of (Outcome.Trap cause value)) out.new result }
@@ -47,6 +48,7 @@ pub fn put_trap(out: &mut [u8], at: usize, cause: u64, value: u64) -> usize
 }
 
 // What came of the event.
+#[tactic(auto, using(text::proofs::PutLaws::then))]
 fn put_said(out: &mut [u8], at: usize, o: Outcome) -> usize
     requires { at + 43 ≤ length out.old }
     ensures put { Put out.old at (said_of o) out.new result }
@@ -65,6 +67,7 @@ fn put_said(out: &mut [u8], at: usize, o: Outcome) -> usize
 }
 
 // The harts whose reservation the event broke, if there are any.
+#[tactic(auto, using(text::proofs::PutLaws::then, text::proofs::PutLaws::none), unfolding(crate::specs::Lines::broke_text))]
 fn put_broke(out: &mut [u8], at: usize, broke: u64) -> usize
     requires { at + 9 ≤ length out.old }
     ensures put { Put out.old at (broke_text broke) out.new result }
@@ -78,22 +81,23 @@ fn put_broke(out: &mut [u8], at: usize, broke: u64) -> usize
 }
 
 // The line of event number k.
+#[tactic(auto, using(text::proofs::PutLaws::then), unfolding(crate::specs::Lines::line_of))]
 fn put_line(out: &mut [u8], at: usize, k: u64, e: Event, r: Reply) -> usize
     requires { at + 95 ≤ length out.old }
     ensures put { Put out.old at (line_of k e r) out.new result }
     ensures upper_bound { result ≤ at + 95 }
 {
-    let outcome = r.outcome;
     let p = put_decimal(out, at, k);
     let q = put_byte(out, p, b' ');
     let s = put_who(out, q, e);
-    let t = put_said(out, s, outcome);
+    let t = put_said(out, s, r.outcome);
     let u = put_broke(out, t, r.broke);
     put_byte(out, u, b'\n')
 }
 
 // A line for each event of a body that refusal 11 does not name, performed one after another from a state and a memory that refusals 1 and 2 do
 // not refuse. The memory is what stands in the buffer from `from` on, which the lines don't reach.
+#[tactic(auto, using(crate::proofs::BehindLaws::back_within))]
 pub fn put_lines(out: &mut [u8], at: usize, from: usize, s: State, base: u64, body: &[u8]) -> usize
     requires body_bound { (at + 95 * (length body.now / 24) ≤ from) × (from ≤ length out.old) }
     requires s_value { refusal_of base (length out.old - from) s ≡ 0 }
@@ -101,30 +105,13 @@ pub fn put_lines(out: &mut [u8], at: usize, from: usize, s: State, base: u64, bo
     ensures upper_bound { result ≤ at + 95 * (length body.now / 24) }
     ensures out_after { drop from out.new ≡ (run_of base (behind s from out.old) (events_of body.now)).mem }
 {
-    let count = s.count;
-    let settings = s.settings;
-    let mut x = s.x;
-    let mut pc = s.pc;
-    let res = s.res;
-    let mut t = packed::pack(res);
-    let n = body.len() / 24;
+    let mut state = s;
     let mut p = at;
-    let mut i: usize = 0;
-    while i < n {
+    for i in 0..body.len() / 24 {
         let start = i * 24;
         let e = events::read_event(&body[start..start + 24]);
-        let r = advance(
-            &mut x,
-            &mut pc,
-            &mut t,
-            count,
-            settings,
-            base,
-            &mut out[from..],
-            e,
-        );
+        let r = advance(&mut state, base, &mut out[from..], e);
         p = put_line(&mut out[..from], p, i as u64, e, r);
-        i += 1;
     }
     p
 }

@@ -2,7 +2,7 @@
 use mathlib.Core.Path.{◌≡◌, ap}
 use mathlib.Core.List.{List, ◌∷◌, ◌++◌}
 use Prim.Native.Nat.{ℕ}
-use native.Mathlib.Omega.{arith}
+use Rattle.std.specs.Prelude.{Ok}
 use Rattle.events.specs.declared.Event.TheVariants.{Step}
 use Rattle.model.specs.Perform.{Machine, outcome_at, next_of}
 use Rattle.model.specs.Retired.{IsRetired}
@@ -12,29 +12,16 @@ use Rattle.steplog.specs.Row.{row_of}
 use Rattle.steplog.specs.declared.Row.{Row}
 use Rattle.replay_words.specs.Written.{model_row, log_of}
 use Rattle.log_maker.specs.Made.{made_by, made_of}
-use Rattle.log_maker.specs.declared.Made.{Made}
-use Rattle.log_maker.specs.declared.Made.TheVariants as M
 
--- the row in what was made
-abbrev row_from : Row → Made → Row
-row_from row (M.Logged r) = r
-row_from row (M.Trap cause value) = row
-row_from row (M.Refused number) = row
-
-abbrev rows_in : Made → ℕ
-rows_in (M.Logged r) = 1
-rows_in (M.Trap cause value) = 0
-rows_in (M.Refused number) = 0
-
-logged : (o : Outcome) (row r : Row) → made_by o row ≡ M.Logged r → IsRetired o × (row ≡ r)
+logged : (o : Outcome) (row r : Row) → made_by o row ≡ Ok r → IsRetired o × (row ≡ r)
 unfolding made_by
-logged O.Retired row r e = (tt, ap (row_from row) e)
-logged O.ScStored row r e = (tt, ap (row_from row) e)
-logged O.ScFailed row r e = (tt, ap (row_from row) e)
-logged (O.Trap cause value) row r e = absurd (omega (arith, ap rows_in e))
-logged (O.Refused number) row r e = absurd (omega (arith, ap rows_in e))
+logged O.Retired row r e = (tt, cc)
+logged O.ScStored row r e = (tt, cc)
+logged O.ScFailed row r e = (tt, cc)
+logged (O.Trap cause value) row r e = absurd cc
+logged (O.Refused number) row r e = absurd cc
 
-module _ (base : ℕ) (m : Machine) (h : ℕ) (r : Row) (made : made_of base m h ≡ M.Logged r) where
+module _ (base : ℕ) (m : Machine) (h : ℕ) (r : Row) (made : made_of base m h ≡ Ok r) where
   -- A row is made of a step that retires, and it is the model's.
   pub made_row : IsRetired (outcome_at base m (Step h)) × (model_row base m h ≡ r)
   made_row = logged (outcome_at base m (Step h)) (model_row base m h) r made

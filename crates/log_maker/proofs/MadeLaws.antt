@@ -4,6 +4,7 @@ use mathlib.Core.Bool.{true}
 use Prim.Native.Nat.{ℕ, ◌%◌}
 use native.Mathlib.Omega.{arith}
 use lib.ListN.{length, get_or}
+use Rattle.std.specs.Prelude.{Ok}
 use Rattle.reserve.specs.Range.{inside_of}
 use Rattle.reserve.proofs.RangeLaws.{of_inside}
 use Rattle.isa.specs.Narrow.{decode_at}
@@ -21,14 +22,13 @@ use Rattle.rows.specs.Row.{pc_at, word_at}
 use Rattle.replay_words.specs.Written.{model_row}
 use Rattle.replay_words.proofs.Written.{retired_valid, retired_fetched}
 use Rattle.log_maker.specs.Made.{made_by, made_of}
-use Rattle.log_maker.specs.declared.Made.TheVariants.{Logged}
 
 -- only a row of a step that retires is made
 made_same : (o : Outcome) (r r' : Row) → (IsRetired o → r ≡ r') → made_by o r ≡ made_by o r'
 unfolding made_by
-made_same O.Retired r r' f = ap Logged (f tt)
-made_same O.ScStored r r' f = ap Logged (f tt)
-made_same O.ScFailed r r' f = ap Logged (f tt)
+made_same O.Retired r r' f = ap Ok (f tt)
+made_same O.ScStored r r' f = ap Ok (f tt)
+made_same O.ScFailed r r' f = ap Ok (f tt)
 made_same (O.Trap cause value) r r' f = refl
 made_same (O.Refused number) r r' f = refl
 

@@ -10,6 +10,7 @@ use retry::LoopAnswer;
 use text::{put_byte, put_bytes, put_decimal};
 
 // The line of a block that is not accepted.
+#[tactic(auto, using(text::proofs::PutLaws::then))]
 fn put_rejected(out: &mut [u8], place: usize, reason: usize) -> usize
     requires { 51 ≤ length out.old }
     ensures put { Put out.old 0 (loop_line (LoopAnswer.Rejected place reason)) out.new result }
@@ -23,6 +24,7 @@ fn put_rejected(out: &mut [u8], place: usize, reason: usize) -> usize
 }
 
 // The line of a block that is refused.
+#[tactic(auto, using(text::proofs::PutLaws::then))]
 fn put_refused(out: &mut [u8], number: usize) -> usize
     requires { 51 ≤ length out.old }
     ensures put { Put out.old 0 (loop_line (LoopAnswer.Refused number)) out.new result }
@@ -33,22 +35,14 @@ fn put_refused(out: &mut [u8], number: usize) -> usize
     put_byte(out, q, b'\n')
 }
 
-fn put_line(out: &mut [u8], answer: LoopAnswer) -> usize
-    requires { 51 ≤ length out.old }
-    ensures put { Put out.old 0 (loop_line answer) out.new result }
-    ensures upper_bound { result ≤ 51 }
+// The line of an answer: the first r bytes of out.
+pub fn line(answer: LoopAnswer, out: &mut [u8; 51]) -> usize
+    ensures prefix_len { IsPrefixLen result out.new }
+    ensures out_after { take result out.new ≡ loop_line answer }
 {
     match answer {
         LoopAnswer::Accepted => put_bytes(out, 0, b"accepted\n"),
         LoopAnswer::Rejected { place, reason } => put_rejected(out, place, reason),
         LoopAnswer::Refused { number } => put_refused(out, number),
     }
-}
-
-// The line of an answer: the first r bytes of out.
-pub fn line(answer: LoopAnswer, out: &mut [u8; 51]) -> usize
-    ensures prefix_len { IsPrefixLen result out.new }
-    ensures out_after { take result out.new ≡ loop_line answer }
-{
-    put_line(out, answer)
 }

@@ -3,35 +3,37 @@
 // 32: a line `accepted`, `rejected PLACE REASON` or `refused NUMBER`. What can't be read or written is told on standard error.
 #![tactic(auto)]
 
+ghost use Rattle.std.specs.Io.{ReadsAtMost};
+ghost use Rattle.std.specs.Prelude.{IfOk, IfSome, ◌≤◌, length};
+
 use arguments::{argument, is_given, tell};
-use input::{Input, read_input};
+use input::read_full;
 use settings::Settings;
-use std::io::Error;
+use std::io;
 
-// What the length of the whole input leaves when it is divided by 4, and why a read of it failed, if one did.
-#[derive(Drop)]
-struct Whole {
-    left: usize,
-    why: Option<Error>,
-}
-
-// The whole input, whose first part has been read. The rest is read and dropped: so long a block is refused, whatever its words. The bound on
-// the turns is beyond any input.
-fn read_rest(rt: &HostRuntime, first: Input) -> Whole {
+// What the length of the whole input leaves when it is divided by 4. The first n bytes have been read. The rest is read and dropped: so long a block is
+// refused, whatever its words. The bound on the turns is beyond any input.
+fn read_rest(rt: &HostRuntime, n: usize) -> io::Result<usize> {
     let mut space = [0u8; 65536];
-    let mut left = first.length % 4;
-    let mut why = first.why;
-    let mut turns: u64 = 0;
-    while turns < 1000000000000 && why.is_none() {
-        let more = read_input(&mut rt.stdin(), &mut space);
-        why = more.why;
-        if more.length == 0 {
+    let mut left = n % 4;
+    for _ in 0..1000000000000u64 {
+        let more = read_full(&mut rt.stdin(), &mut space)?;
+        if more == 0 {
             break;
         }
-        left = (left + more.length % 4) % 4;
-        turns += 1;
+        left = (left + more % 4) % 4;
     }
-    Whole { left, why }
+    Ok(left)
+}
+
+// How many bytes the block has that is put at the start of buf: the whole input, or as much as there is room for. No block where the length of the whole
+// input is not a multiple of 4.
+fn read_block(rt: &HostRuntime, buf: &mut [u8]) -> io::Result<Option<usize>>
+    ensures { IfOk result (λ block. IfSome block (λ n. n ≤ length buf.new)) }
+{
+    let n = read_full(&mut rt.stdin(), buf)?;
+    let left = read_rest(rt, n)?;
+    Ok(if left == 0 { Some(n) } else { None })
 }
 
 fn write_line(rt: &HostRuntime, line: &[u8]) {
@@ -42,28 +44,24 @@ fn write_line(rt: &HostRuntime, line: &[u8]) {
 
 fn check(rt: &HostRuntime, settings: Settings) {
     let mut space = [0u8; 65536];
-    let first = read_input(&mut rt.stdin(), &mut space);
-    let n = first.length;
-    let whole = read_rest(rt, first);
-    if let Some(e) = whole.why {
-        tell(rt, &mut rt.stderr(), b"loopcheck", b"standard input", e);
-        return;
+    match read_block(rt, &mut space) {
+        Ok(Some(n)) => {
+            let mut out = [0u8; 51];
+            let r = loop_line::line(retry::check_bytes(settings, &space[..n]), &mut out);
+            write_line(rt, &out[..r]);
+        }
+        Ok(None) => write_line(rt, b"bad input: length is not a multiple of 4\n"),
+        Err(e) => tell(rt, &mut rt.stderr(), b"loopcheck", b"standard input", e),
     }
-    if whole.left != 0 {
-        write_line(rt, b"bad input: length is not a multiple of 4\n");
-        return;
-    }
-    let mut out = [0u8; 51];
-    let r = loop_line::line(retry::check_bytes(settings, &space[..n]), &mut out);
-    write_line(rt, &out[..r]);
 }
 
 fn main(rt: HostRuntime) {
-    let version = argument(&rt, 1, 21);
-    let kind = argument(&rt, 2, 0);
-    if version.said & kind.said & !is_given(&rt, 3) {
-        check(&rt, settings::of_kind(version.value, kind.value));
-    } else {
-        let _ = eprintln!(rt; "use: loopcheck [VERSION [KIND]] < WORDS");
+    match (argument(&rt, 1, 21), argument(&rt, 2, 0)) {
+        (Some(version), Some(kind)) if !is_given(&rt, 3) => {
+            check(&rt, settings::of_kind(version, kind));
+        }
+        _ => {
+            let _ = eprintln!(rt; "use: loopcheck [VERSION [KIND]] < WORDS");
+        }
     }
 }

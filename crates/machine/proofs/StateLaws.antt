@@ -15,12 +15,11 @@ use Rattle.settings.specs.Settings.{xlen_of, size_ok, granule_of, reading_ok, mi
 use Rattle.settings.specs.declared.Settings.{Settings}
 use Rattle.settings.proofs.SettingsLaws.{size_exact, reading_exact, misaligned_exact, granule_whole}
 use Rattle.reserve.specs.Range.{Inside, set_of}
-use Rattle.reserve.specs.Reserve.{slot, covers_of}
+use Rattle.std.specs.Prelude.{Option, None, Some}
+use Rattle.reserve.specs.Reserve.{held, covers_of}
 use Rattle.reserve.specs.declared.Reservation.{Reservation}
-use Rattle.reserve.specs.declared.Reservation.TheVariants.{None, Held}
-use Rattle.reserve.specs.declared.Slot.{Slot}
 use Rattle.reserve.proofs.RangeLaws.{inside_of_lem, of_inside, set_inside, covers_exact, none_covers}
-use Rattle.machine.specs.State.{lent_ok, top_ok, memory_ok, reservation_ok, hart_ok, upper_at, upper_ok, hart_at, state_ok, refusal_of}
+use Rattle.machine.specs.State.{lent_ok, top_ok, memory_ok, reservation_ok, hart_ok, upper_at, upper_ok, hart_at, state_ok, refusal_of, refused}
 use Rattle.machine.specs.Rules.{LentRules, TopRules, MemoryRules, WrongMemory, by_size, by_length_or_base, by_top}
 use Rattle.machine.specs.Rules.{ReservationRules, UpperZero, HartRules, StateRules}
 use Rattle.machine.specs.declared.State.{State}
@@ -85,32 +84,36 @@ module _ (settings : Settings) (base len : ℕ) where
 
   -- since base and length are "multiples of the larger of 64 and the size" (02 [5]), the set of a reservation lies wholly in memory, at every size that is
   -- allowed
-  pub set_in_memory : MemoryRules settings base len → (a w : ℕ) → ReservationRules settings base len (Held a w)
+  pub set_in_memory : MemoryRules settings base len → (a w : ℕ) → ReservationRules settings base len (held a w)
       → Inside base len (set_of settings.size a) settings.size
-  set_in_memory r a w held =
+  set_in_memory r a w rules =
       let whole = granule_whole settings r.0 in
-      let wide : 0 < w = ⊎_elim (λ (e : w ≡ 4). omega arith) (λ (e : w ≡ 8). omega arith) held.0 in
-      set_inside settings.size base len a w (omega (arith, r.0.1)) (whole base r.1.3) (whole len r.1.2) wide held.3
+      let wide : 0 < w = ⊎_elim (λ (e : w ≡ 4). omega arith) (λ (e : w ≡ 8). omega arith) rules.0 in
+      set_inside settings.size base len a w (omega (arith, r.0.1)) (whole base r.1.3) (whole len r.1.2) wide rules.3
 
   -- and so do all bytes that it covers
-  pub covered_in_memory : MemoryRules settings base len → (r : Reservation) → ReservationRules settings base len r
+  pub covered_in_memory : MemoryRules settings base len → (r : Option Reservation) → ReservationRules settings base len r
       → (b n : ℕ) → covers_of settings r b n ≡ true → Inside base len b n
-  covered_in_memory rules None held b n e = contrary e (none_covers settings b n)
-  covered_in_memory rules (Held a w) held b n e =
-      let set = set_in_memory rules a w held in
-      let bytes = (covers_exact settings a w b n).0 e in
+  covered_in_memory rules None kept b n e = contrary e (none_covers settings b n)
+  covered_in_memory rules (Some r) kept b n e =
+      let set = set_in_memory rules r.addr r.width kept in
+      let bytes = (covers_exact settings r.addr r.width b n).0 e in
       (omega (arith, set.0, bytes.0), omega (arith, set.1, bytes.1))
 
-  pub reservation_exact : (r : Reservation) → (reservation_ok settings base len r ≡ true) ↔ ReservationRules settings base len r
+  pub reservation_exact : (r : Option Reservation) → (reservation_ok settings base len r ≡ true) ↔ ReservationRules settings base len r
   unfolding reservation_ok
   reservation_exact None = (λ e. tt, λ r. refl)
-  reservation_exact (Held a w) = (
+  reservation_exact (Some held) = (
     λ e.
+        let a = held.addr in
+        let w = held.width in
         let p = and_both (eqb w 4 || eqb w 8) _ e in
         let n = and_both (leb (8 * w) (xlen_of settings)) _ p.1 in
         let q = and_both (eqb (a % w) 0) _ n.1 in
         ((width_exact w).0 p.0, leb-true (8 * w) (xlen_of settings) n.0, eqb-true (a % w) 0 q.0, inside_of_lem base len a w q.1),
     λ r.
+        let a = held.addr in
+        let w = held.width in
         rw ((width_exact w).1 r.0, le-leb (8 * w) (xlen_of settings) r.1, eq-eqb (a % w) 0 r.2, of_inside base len a w r.3),
   )
 
@@ -120,14 +123,14 @@ module _ (s t : Settings) (same : xlen_of s ≡ xlen_of t) (base len : ℕ) wher
   unfolding top_ok
   top_same = rw same
 
-  reservation_same : (r : Reservation) → reservation_ok s base len r ≡ reservation_ok t base len r
+  reservation_same : (r : Option Reservation) → reservation_ok s base len r ≡ reservation_ok t base len r
   unfolding reservation_ok
   reservation_same None = refl
-  reservation_same (Held a w) = rw same
+  reservation_same (Some r) = rw same
 
-  pub harts_same : (x pc : List ℕ) (res : List Slot) → hart_at s base len x pc res ≡ hart_at t base len x pc res
+  pub harts_same : (x pc : List ℕ) (res : List (Option Reservation)) → hart_at s base len x pc res ≡ hart_at t base len x pc res
   unfolding hart_ok upper_ok
-  harts_same x pc res = fun_ext (λ k. rw (same, reservation_same (get_or res k (slot None)).reservation))
+  harts_same x pc res = fun_ext (λ k. rw (same, reservation_same (get_or res k None)))
 
 module _ (base len : ℕ) (s : State) where
   upper_exact : (k : ℕ) → (upper_ok s.settings s.x s.pc k ≡ true) ↔ (xlen_of s.settings ≡ 32 → UpperZero s k)
@@ -150,7 +153,7 @@ module _ (base len : ℕ) (s : State) where
   hart_exact k =
       let x0 = get_or s.x (k * 32) 0 in
       let pc = get_or s.pc k 0 in
-      let r = (get_or s.res k (slot None)).reservation in
+      let r = get_or s.res k None in
       let held = reservation_exact s.settings base len r in (
         λ e.
             let h = and_both (hart_ok s.settings base len x0 pc r) _ e in
@@ -223,3 +226,12 @@ module _ (base len : ℕ) (s : State) where
         (λ m. let z : ◌≡◌ {A = ℕ} 1 2 = rw m at e in absurd (omega arith)),
     λ r. rw ((memory_exact s.settings base len).1 r.0) (bool_cases (state_ok base len s) (λ t. absurd (r.1 (state_exact.0 t))) (λ f. rw f)),
   )
+
+-- none is refused exactly if the number is 0, and what is refused has the number
+pub refused_none : (n : ℕ) → refused n ≡ None → n ≡ 0
+refused_none n e = bool_cases (eqb n 0) (λ t. eqb-true n 0 t) (λ f. let z : ◌≡◌ {A = Option ℕ} (Some n) None = rw f at e in cc)
+
+pub refused_some : (n : ℕ) (k : ℕ) → refused n ≡ Some k → (k ≡ n) × (eqb n 0 ≡ false)
+refused_some n k e =
+    bool_cases (eqb n 0) (λ t. let z : ◌≡◌ {A = Option ℕ} None (Some k) = rw t at e in cc)
+    (λ f. let z : ◌≡◌ {A = Option ℕ} (Some n) (Some k) = rw f at e in (cc, f))

@@ -1,12 +1,10 @@
 -- The rules of 01, "The machine", with 02 [5], [7], [10] and [11], without tests: what refusals 1 and 2 ask of a memory and a state, its settings among them.
 -- RULES 1.1, 1.2, 1.3, 1.6, 2.1.
-use Rattle.std.specs.Prelude.{◌≡◌, ◌⊎◌, ℕ, ◌+◌, ◌*◌, ◌%◌, ◌^◌, ◌≤◌, ◌<◌, get_or, length}
+use Rattle.std.specs.Prelude.{◌≡◌, ◌⊎◌, ℕ, ◌+◌, ◌*◌, ◌%◌, ◌^◌, ◌≤◌, ◌<◌, Option, None, Some, get_or, length}
 use Rattle.settings.specs.Settings.{xlen_of, SizeRules, ReadingRules, MisalignedRules, granule_of}
 use Rattle.settings.specs.declared.Settings.{Settings}
 use Rattle.reserve.specs.Range.{Inside}
-use Rattle.reserve.specs.Reserve.{slot}
 use Rattle.reserve.specs.declared.Reservation.{Reservation}
-use Rattle.reserve.specs.declared.Reservation.TheVariants.{None, Held}
 use Rattle.machine.specs.declared.State.{State}
 
 -- "One lent memory, 64 to 1,048,576 bytes, .. at a base address that is .. at most 2^40."; 02 [5]: "Memory base and length are now multiples of the larger
@@ -33,9 +31,10 @@ pub data WrongMemory (settings : Settings) (base len : ℕ) : Type 0 where
 
 -- "at most one reservation: the address and width (4 or 8) of the LR that made it", aligned to the width and inside memory; 02 [10], of the 32-bit core:
 -- "A reservation 8 wide is refusal 2 here"
-abbrev pub ReservationRules : Settings → ℕ → ℕ → Reservation → Type 0
+abbrev pub ReservationRules : Settings → ℕ → ℕ → Option Reservation → Type 0
 ReservationRules settings base len None = Unit {0}
-ReservationRules settings base len (Held a w) = ((w ≡ 4) ⊎ (w ≡ 8)) × (8 * w ≤ xlen_of settings) × (a % w ≡ 0) × Inside base len a w
+ReservationRules settings base len (Some r) =
+    ((r.width ≡ 4) ⊎ (r.width ≡ 8)) × (8 * r.width ≤ xlen_of settings) × (r.addr % r.width ≡ 0) × Inside base len r.addr r.width
 
 -- 02 [10]: "Registers and pc of a 32-bit case with a nonzero upper half are refusal 9 too, 2 in the library": hart k's have none
 abbrev pub UpperZero : State → ℕ → Type 0
@@ -46,7 +45,7 @@ abbrev pub HartRules : ℕ → ℕ → State → ℕ → Type 0
 HartRules base len s k =
     (get_or s.x (k * 32) 0 ≡ 0)
     × (get_or s.pc k 0 % 4 ≡ 0)
-    × ReservationRules s.settings base len (get_or s.res k (slot None)).reservation
+    × ReservationRules s.settings base len (get_or s.res k None)
     × (xlen_of s.settings ≡ 32 → UpperZero s k)
 
 -- "1 to 8 harts"; only those below the count are looked at; 02 [7]: "any other version is 2", and so is a kind that is neither of [10]'s; [11]: "any other

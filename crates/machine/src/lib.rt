@@ -1,26 +1,28 @@
 // The state of the machine, and which states and memories are refused.
 #![tactic(auto)]
 
-ghost use Rattle.std.specs.Prelude.{◌≡◌, ◌<◌, ◌≤◌};
+ghost use Rattle.std.specs.Prelude.{◌≡◌, ◌*◌, ◌<◌, ◌≤◌, get_or};
 ghost use Rattle.word.specs.Each.{all_below};
 ghost use Rattle.settings.specs.Settings.{SizeRules};
-ghost use Rattle.machine.specs.State.{lent_ok, top_ok, memory_ok, reservation_ok, hart_ok, upper_ok, hart_at, refusal_of};
+ghost use Rattle.machine.specs.State.{lent_ok, top_ok, memory_ok, reservation_ok, hart_ok, upper_ok, hart_at, refusal_of, refused};
 ghost use Rattle.machine.specs.Rules.{LentRules};
 
-use reserve::{Reservation, Slot};
+use reserve::Reservation;
 use settings::{Settings, remainder};
 
-// count harts are used, all with the same settings. x of hart h stands at 32 * h to 32 * h + 31, its pc and its reservation at h.
+// count harts are used, all with the same settings. x of hart h stands at 32 * h to 32 * h + 31, its pc and its reservation at h. Arrays beside
+// one another and no array of harts: so C keeps a state's bytes (layout), and so the theorems of answers, sc_history and progress read a state.
 #[derive(Clone, Copy)]
 pub struct State {
     pub count: usize,
     pub settings: Settings,
     pub x: [u64; 256],
     pub pc: [u64; 8],
-    pub res: [Slot; 8],
+    pub res: [Option<Reservation>; 8],
 }
 
 // Whether a memory of len bytes at base may be lent, at a set size that is allowed.
+#[tactic(auto, unfolding(crate::specs::State::lent_ok))]
 fn lent_ok(settings: Settings, base: u64, len: usize) -> bool
     requires { SizeRules settings }
     ensures { result ≡ lent_ok settings base len }
@@ -33,6 +35,7 @@ fn lent_ok(settings: Settings, base: u64, len: usize) -> bool
 }
 
 // Whether the end of such a memory is an address of the core's width, or one past the last. At 64 bits it always is.
+#[tactic(auto, unfolding(crate::specs::State::top_ok))]
 pub fn top_ok(settings: Settings, base: u64, len: usize) -> bool
     requires { LentRules settings base len }
     ensures { result ≡ top_ok settings base len }
@@ -44,6 +47,7 @@ pub fn top_ok(settings: Settings, base: u64, len: usize) -> bool
 }
 
 // Whether refusal 1 does not apply. The size is tried first: the rest needs it.
+#[tactic(auto, unfolding(crate::specs::State::memory_ok))]
 fn memory_ok(settings: Settings, base: u64, len: usize) -> bool
     ensures { result ≡ memory_ok settings base len }
 {
@@ -56,12 +60,13 @@ fn memory_ok(settings: Settings, base: u64, len: usize) -> bool
     false
 }
 
-fn reservation_ok(settings: Settings, base: u64, len: usize, r: Reservation) -> bool
+#[tactic(auto, unfolding(crate::specs::State::reservation_ok))]
+fn reservation_ok(settings: Settings, base: u64, len: usize, r: Option<Reservation>) -> bool
     ensures { result ≡ reservation_ok settings base len r }
 {
     match r {
-        Reservation::None => true,
-        Reservation::Held { addr, width } => {
+        None => true,
+        Some(Reservation { addr, width }) => {
             if (width == 4) | (width == 8) {
                 return (8 * width <= settings::xlen(settings) as u64)
                     & ((remainder(addr, width) == 0)
@@ -72,81 +77,60 @@ fn reservation_ok(settings: Settings, base: u64, len: usize, r: Reservation) -> 
     }
 }
 
-fn hart_ok(settings: Settings, base: u64, len: usize, x0: u64, pc: u64, r: Reservation) -> bool
-    ensures { result ≡ hart_ok settings base len x0 pc r }
+// Whether x0 of hart k is zero, its pc is aligned and its reservation may be held.
+#[tactic(auto, unfolding(crate::specs::State::hart_ok))]
+fn hart_ok(base: u64, len: usize, s: &State, k: usize) -> bool
+    requires { k < 8 }
+    ensures { result ≡ hart_ok s.now.settings base len (get_or s.now.x (k * 32) 0) (get_or s.now.pc k 0) (get_or s.now.res k None) }
 {
-    (x0 == 0) & ((pc % 4 == 0) & reservation_ok(settings, base, len, r))
+    (s.x[k * 32] == 0) & ((s.pc[k] % 4 == 0) & reservation_ok(s.settings, base, len, s.res[k]))
 }
 
 // Whether hart k's registers and pc have no upper half, which only the 32-bit core asks. All 32 are looked at without a branch.
-fn upper_ok<'a>(settings: Settings, x: &'a [u64; 256], pc: &'a [u64; 8], k: usize) -> bool
+#[tactic(auto, unfolding(crate::specs::State::upper_ok, word::specs::Each::all_below))]
+fn upper_ok(s: &State, k: usize) -> bool
     requires { k < 8 }
-    ensures { result ≡ upper_ok settings x.now pc.now k }
+    ensures { result ≡ upper_ok s.now.settings s.now.x s.now.pc k }
 {
-    if settings::xlen(settings) != 32 {
+    if settings::xlen(s.settings) != 32 {
         return true;
     }
     let mut ok = true;
-    let mut r: usize = 0;
-    while r < 32 {
-        ok = ok & (x[k * 32 + r] < 4294967296);
-        r += 1;
+    for r in 0..32 {
+        ok = ok & (s.x[k * 32 + r] < 4294967296);
     }
-    ok & (pc[k] < 4294967296)
+    ok & (s.pc[k] < 4294967296)
 }
 
-// Whether each of the first count harts is well formed.
-fn harts_ok<'a>(
-    settings: Settings,
-    base: u64,
-    len: usize,
-    count: usize,
-    x: &'a [u64; 256],
-    pc: &'a [u64; 8],
-    res: [Slot; 8],
-) -> bool
-    requires { count ≤ 8 }
-    ensures { result ≡ all_below (hart_at settings base len x.now pc.now res) count }
+// Whether each of the harts that are used is well formed.
+fn harts_ok(base: u64, len: usize, s: &State) -> bool
+    requires { s.now.count ≤ 8 }
+    ensures { result ≡ all_below (hart_at s.now.settings base len s.now.x s.now.pc s.now.res) s.now.count }
 {
-    let mut k: usize = 0;
-    while k < count {
-        let s = res[k];
-        let r = s.reservation;
-        if !(hart_ok(settings, base, len, x[k * 32], pc[k], r) & upper_ok(settings, x, pc, k)) {
+    for k in 0..s.count {
+        if !(hart_ok(base, len, s, k) & upper_ok(s, k)) {
             return false;
         }
-        k += 1;
     }
     true
 }
 
-// The first of refusals 1 and 2 that applies, or 0.
-pub fn refusal<'a>(
-    base: u64,
-    len: usize,
-    count: usize,
-    settings: Settings,
-    x: &'a [u64; 256],
-    pc: &'a [u64; 8],
-    res: [Slot; 8],
-) -> u64
-    ensures { result ≡ refusal_of base len (record { count = count; settings = settings; x = x.now; pc = pc.now; res = res }) }
+// The first of refusals 1 and 2 that applies.
+#[tactic(auto, unfolding(crate::specs::State::refusal_of, crate::specs::State::state_ok))]
+pub fn refusal(base: u64, len: usize, s: &State) -> Option<u64>
+    ensures { result ≡ refused (refusal_of base len s.now) }
 {
-    if !memory_ok(settings, base, len) {
-        return 1;
+    if !memory_ok(s.settings, base, len) {
+        return Some(1);
     }
-    if count == 0 {
-        return 2;
+    if s.count == 0 || 8 < s.count {
+        return Some(2);
     }
-    if 8 < count {
-        return 2;
+    if !(settings::reading_ok(s.settings) & settings::misaligned_ok(s.settings)) {
+        return Some(2);
     }
-    if !(settings::reading_ok(settings) & settings::misaligned_ok(settings)) {
-        return 2;
+    if !harts_ok(base, len, s) {
+        return Some(2);
     }
-    if harts_ok(settings, base, len, count, x, pc, res) {
-        0
-    } else {
-        2
-    }
+    None // all is as the rules say
 }

@@ -2,146 +2,104 @@
 // no step or whose step traps, which is told on standard error.
 #![tactic(auto)]
 
-ghost use Rattle.std.specs.Prelude.{◌+◌, ◌*◌, ◌≤◌, ◌<◌, length};
-
-use arguments::tell;
-use casefile::Found;
 use events::Event;
-use log_maker::Made;
+use input::read_full;
+use log_maker::NoRow;
 use machine::State;
+use std::io;
+use std::io::Error;
 use steplog::Row;
 
-// Whether the log goes on, and the state for the next event.
+// Why a log ends before its case does.
 #[derive(Drop)]
-struct Reached {
-    going: bool,
-    state: State,
+enum End {
+    NoStep,
+    NoRow(NoRow),
+    // A hart or a register that a row has not the digits for, one and two. No case has one, so nothing is told of it.
+    NoDigits,
+    NotWritten(Error),
 }
 
-// How a line that tells of event i begins.
-fn tell_event(rt: &HostRuntime, i: usize) {
-    let _ = eprint!(rt; "makelog: event {i}");
-}
-
-fn tell_no_step(rt: &HostRuntime, i: usize) {
-    tell_event(rt, i);
-    let _ = eprintln!(rt; " is no step");
-}
-
-fn tell_trap(rt: &HostRuntime, i: usize, cause: u64, value: u64) {
-    tell_event(rt, i);
-    let _ = eprintln!(rt; " traps: cause {cause}, value {value:016x}");
-}
-
-// No event of a case that is read is refused.
-fn tell_refused_step(rt: &HostRuntime, i: usize, number: u64) {
-    tell_event(rt, i);
-    let _ = eprintln!(rt; " is refused: {number}");
-}
-
-fn tell_refused(rt: &HostRuntime, number: u64, place: u64) {
-    let _ = eprintln!(rt; "refused {number} {place}");
-}
-
-// Whether a row was written. A hart has one digit in it, and a register two.
-fn write_row(rt: &HostRuntime, r: Row) -> bool {
-    if r.hart >= 10 {
-        return false;
+impl From<NoRow> for End {
+    fn from(why: NoRow) -> End {
+        End::NoRow(why)
     }
-    if r.rd >= 100 {
-        return false;
+}
+
+impl From<Error> for End {
+    fn from(why: Error) -> End {
+        End::NotWritten(why)
     }
-    let mut space = [0u8; 48];
-    let out: &mut [u8] = &mut space;
-    steplog::put_row(out, 0, r);
-    match rt.write_all(out) {
-        Ok(()) => true,
-        Err(e) => {
-            tell(rt, &mut rt.stderr(), b"makelog", b"standard output", e);
-            false
+}
+
+// What the system says went wrong.
+fn tell(rt: &HostRuntime, what: &[u8], why: Error) {
+    arguments::tell(rt, &mut rt.stderr(), b"makelog", what, why);
+}
+
+// Why the log ends at event i. No event of a case that is read is refused.
+fn tell_end(rt: &HostRuntime, i: usize, end: End) -> io::Result<()> {
+    match end {
+        End::NoStep => eprintln!(rt; "makelog: event {i} is no step"),
+        End::NoRow(NoRow::Trap { cause, value }) => {
+            eprintln!(rt; "makelog: event {i} traps: cause {cause}, value {value:016x}")
+        }
+        End::NoRow(NoRow::Refused { number }) => {
+            eprintln!(rt; "makelog: event {i} is refused: {number}")
+        }
+        End::NoDigits => Ok(()),
+        End::NotWritten(e) => {
+            tell(rt, b"standard output", e);
+            Ok(())
         }
     }
 }
 
-// What is made of event i. The log goes on where it is a row.
-fn write_made(rt: &HostRuntime, i: usize, made: Made) -> bool {
-    match made {
-        Made::Logged(r) => write_row(rt, r),
-        Made::Trap { cause, value } => {
-            tell_trap(rt, i, cause, value);
-            false
-        }
-        Made::Refused { number } => {
-            tell_refused_step(rt, i, number);
-            false
-        }
+fn write_row(rt: &impl Print, r: Row) -> Result<(), End> {
+    if r.hart >= 10 || r.rd >= 100 {
+        return Err(End::NoDigits);
     }
+    let mut out = [0u8; 48];
+    steplog::put_row(&mut out, 0, r);
+    rt.write_all(&out)?;
+    Ok(())
 }
 
-fn log_step(
-    rt: &HostRuntime,
-    i: usize,
-    s: State,
+fn log_event(
+    rt: &impl Print,
+    s: &mut State,
     base: u64,
     mem: &mut [u8],
-    hart: usize,
-) -> Reached {
-    let r = log_maker::make_row(s, base, mem, hart);
-    let made = r.made;
-    let going = write_made(rt, i, made);
-    let state = r.state;
-    Reached { going, state }
-}
-
-fn log_event(rt: &HostRuntime, i: usize, s: State, base: u64, mem: &mut [u8], e: Event) -> Reached {
-    match e {
-        Event::Step { hart } => log_step(rt, i, s, base, mem, hart),
-        _ => {
-            tell_no_step(rt, i);
-            Reached {
-                going: false,
-                state: s,
-            }
-        }
-    }
-}
-
-// All events of a file whose memory and events start at these places.
-fn log_events(
-    rt: &HostRuntime,
-    file: &mut [u8],
-    s: State,
-    base: u64,
-    memory: usize,
-    events: usize,
-    n: usize,
-)
-    requires { (memory ≤ events) × (events + 24 * n ≤ length file.old) }
-{
-    let mut r = Reached {
-        going: true,
-        state: s,
+    e: Event,
+) -> Result<(), End> {
+    let Event::Step { hart } = e else {
+        return Err(End::NoStep);
     };
-    let mut i: usize = 0;
-    while i < n && r.going {
-        let at = events + 24 * i;
-        let e = events::read_event(&file[at..at + 24]);
-        let state = r.state;
-        r = log_event(rt, i, state, base, &mut file[memory..events], e);
-        i += 1;
+    let step = log_maker::make_row(*s, base, mem, hart);
+    *s = step.state;
+    write_row(rt, step.made?)
+}
+
+// All events of a case, up to the one at which the log ends.
+fn log_events(rt: &HostRuntime, s: State, base: u64, mem: &mut [u8], events: &[u8]) {
+    let mut state = s;
+    for (i, event) in events.chunks_exact(24).enumerate() {
+        let e = events::read_event(event);
+        if let Err(end) = log_event(rt, &mut state, base, mem, e) {
+            let _ = tell_end(rt, i, end);
+            return;
+        }
     }
 }
 
 fn log_case(rt: &HostRuntime, file: &mut [u8]) {
-    let c = casefile::read_case(file);
-    let found = c.found;
-    let base = c.base;
-    let s = c.state;
-    match found {
-        Found::Refused { number, place } => tell_refused(rt, number as u64, place as u64),
-        Found::Bodies { memory, events } => {
-            let n = (file.len() - events) / 24;
-            log_events(rt, file, s, base, memory, events, n);
+    match casefile::read_case(file) {
+        Ok(c) => {
+            let (before, events) = file.split_at_mut(c.events);
+            log_events(rt, c.state, c.base, &mut before[c.memory..], events);
+        }
+        Err(r) => {
+            let _ = eprintln!(rt; "refused {} {}", r.number, r.place);
         }
     }
 }
@@ -149,11 +107,8 @@ fn log_case(rt: &HostRuntime, file: &mut [u8]) {
 fn main(rt: HostRuntime) {
     // one byte more than a case may have, so that a longer file is seen to be longer
     let mut space = [0u8; 65537];
-    let got = input::read_input(&mut rt.stdin(), &mut space);
-    if let Some(e) = got.why {
-        tell(&rt, &mut rt.stderr(), b"makelog", b"standard input", e);
-        return;
+    match read_full(&mut rt.stdin(), &mut space) {
+        Ok(n) => log_case(&rt, &mut space[..n]),
+        Err(e) => tell(&rt, b"standard input", e),
     }
-    let n = got.length;
-    log_case(&rt, &mut space[..n]);
 }

@@ -8,13 +8,12 @@ use native.Mathlib.Omega.{arith}
 use lib.Dec.{eqb, ltb}
 use lib.ListN.{length, get_or, set, take}
 use borrow.Author.Tests.{ltb-true}
+use Rattle.std.specs.Prelude.{None, Ok, Err}
 use Rattle.word.specs.Each.{each}
 use Rattle.word.proofs.TestLaws.{bool_cases, contrary}
 use Rattle.settings.specs.Settings.{ReadingRules, MisalignedRules, xlen_of}
 use Rattle.settings.specs.declared.Settings.{Settings}
-use Rattle.reserve.specs.Reserve.{slot, observe_slot, broken_of, observe_all_of}
-use Rattle.reserve.specs.declared.Reservation.TheVariants.{None}
-use Rattle.reserve.specs.declared.Slot.{Slot}
+use Rattle.reserve.specs.Reserve.{observe_slot, broken_of, observe_all_of}
 use Rattle.reserve.specs.declared.Notice.{Notice}
 use Rattle.reserve.specs.declared.Notice.TheVariants.{DeviceWrite, Yield}
 use Rattle.machine.specs.Rules.{Shaped, StateRules, UpperZero}
@@ -23,11 +22,9 @@ use Rattle.machine.specs.declared.State.{State}
 use Rattle.machine.proofs.StateLaws.{state_exact}
 use Rattle.effect.specs.Effect.{Writes, none, one, pair, notice_of}
 use Rattle.effect.specs.Execute.{reg_at}
-use Rattle.events.specs.Events.{checked_of, events_of}
+use Rattle.events.specs.Events.{Checked, checked_of, events_of}
 use Rattle.events.specs.declared.Event.{Event}
 use Rattle.events.specs.declared.Event.TheVariants.{Step, Device, Yield as YieldOf}
-use Rattle.events.specs.declared.Checked.{Checked}
-use Rattle.events.specs.declared.Checked.TheVariants.{Good, Bad}
 use Rattle.model.specs.Act.{Act, refuse, fault, change, put, release, outcome_of, set_reg, written, broken_after, apply, leaves}
 use Rattle.model.specs.Perform.{Machine, step_of, of_exec, act_on, act_of, answer_of, memory_of, reply_at, next_of, run_of}
 use Rattle.model.specs.Run.{performed_count, run_checked, result_of}
@@ -98,14 +95,12 @@ module _ (s t : State) (a : Agree s t) where
 
   module _ (p : Shaped s) (q : Shaped t) where
     slots_same : (settings : Settings) (n : Notice) (k : ℕ) → k < s.count
-        → (get_or (observe_all_of settings s.count n s.res).slots k (slot None)).reservation
-        ≡ (get_or (observe_all_of settings t.count n t.res).slots k (slot None)).reservation
+        → (get_or (observe_all_of settings s.count n s.res).slots k None)
+        ≡ (get_or (observe_all_of settings t.count n t.res).slots k None)
     unfolding observe_all_of
     slots_same settings n k u =
         rw (← a.counts)
-        (ap (λ (c : Slot). c.reservation)
-        (each_same (slot None) (observe_slot settings n) s.count k s.res t.res (p.reservations ∙ sym q.reservations)
-        (ap slot (a.reservations k u))))
+        (each_same None (observe_slot settings n) s.count k s.res t.res (p.reservations ∙ sym q.reservations) (a.reservations k u))
 
     agree_apply : (act : Act) → Agree (apply s act) (apply t act)
     unfolding apply
@@ -237,12 +232,12 @@ module _ (base : ℕ) where
 
 module _ (base : ℕ) (mem : List ℕ) (s t : State) (a : Agree s t) (p : Shaped s) (q : Shaped t) (body : List ℕ) (budget : ℕ) where
   checked_alike : (c : Checked) → AlikeRuns (run_checked c base mem s body budget) (run_checked c base mem t body budget)
-  checked_alike Good =
+  checked_alike (Ok x) =
       let m : Machine = record { state = s; mem = mem } in
       let n : Machine = record { state = t; mem = mem } in
       let end = (agree_run base m n p q (record { memory = refl; states = a }) (take (performed_count body budget) (events_of body))).1 in
       record { verdict = refl; performed = refl; memory = end.memory; states = end.states }
-  checked_alike (Bad place) = record { verdict = refl; performed = refl; memory = refl; states = a }
+  checked_alike (Err place) = record { verdict = refl; performed = refl; memory = refl; states = a }
 
   -- the same verdict, count and memory, and states that agree
   pub agree_result : AlikeRuns (result_of base mem s body budget) (result_of base mem t body budget)

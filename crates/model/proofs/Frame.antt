@@ -11,6 +11,7 @@ use lib.Dec.{eqb, ltb, leb}
 use lib.ListN.{length, get_or, length-set, take-append-drop}
 use lib.Seq.{get_or-set_other}
 use borrow.Author.Tests.{ltb-true, lt-ltb}
+use Rattle.std.specs.Prelude.{Option, None, Some}
 use Rattle.word.specs.Bytes.{le, to_le}
 use Rattle.word.specs.Memory.{part, splice}
 use Rattle.word.proofs.MemoryLaws.{splice_before, splice_after, part-splice_before, part-splice_after}
@@ -20,10 +21,8 @@ use Rattle.word.proofs.TestLaws.{bool_cases}
 use Rattle.word.proofs.EachLaws.{each_at, each_past, length-each}
 use Rattle.reserve.specs.Range.{Touch, Inside, inside_of}
 use Rattle.settings.specs.declared.Settings.{Settings}
-use Rattle.reserve.specs.Reserve.{slot, covers_of, breaks_of, own_of, observe_of, observe_slot, observe_all_of}
+use Rattle.reserve.specs.Reserve.{covers_of, breaks_of, own_of, observe_of, observe_slot, observe_all_of}
 use Rattle.reserve.specs.declared.Reservation.{Reservation}
-use Rattle.reserve.specs.declared.Reservation.TheVariants.{None, Held}
-use Rattle.reserve.specs.declared.Slot.{Slot}
 use Rattle.reserve.specs.declared.Notice.{Notice}
 use Rattle.reserve.specs.declared.Notice.TheVariants.{Quiet, DeviceWrite, Yield}
 use Rattle.reserve.proofs.RangeLaws.{of_inside}
@@ -79,7 +78,7 @@ length-written h none x = refl
 length-written h (one r v) x = length-set_reg h r v x
 length-written h (pair r v r2 v2) x = length-set_reg h r2 v2 (set_reg h r v x) ∙ length-set_reg h r v x
 
-length_slots : (settings : Settings) (count : ℕ) (n : Notice) (l : List Slot) → length (observe_all_of settings count n l).slots ≡ length l
+length_slots : (settings : Settings) (count : ℕ) (n : Notice) (l : List (Option Reservation)) → length (observe_all_of settings count n l).slots ≡ length l
 unfolding observe_all_of
 length_slots settings count n l = length-each (observe_slot settings n) count l
 
@@ -119,16 +118,16 @@ reg_written g (pair r v r2 v2) k q x d = reg_set_reg g r2 v2 k q (set_reg g r v 
 
 -- ---- reservations
 
-pub observe_quiet : (settings : Settings) (h : ℕ) (r : Reservation) → observe_of settings h Quiet r ≡ r
+pub observe_quiet : (settings : Settings) (h : ℕ) (r : Option Reservation) → observe_of settings h Quiet r ≡ r
 unfolding observe_of breaks_of own_of
 observe_quiet settings h None = refl
-observe_quiet settings h (Held a w) = refl
+observe_quiet settings h (Some r) = refl
 
 module _ (s : State) (k : ℕ) where
   slots_at : (n : Notice) → k < s.count → k < length s.res
-      → (get_or (observe_all_of s.settings s.count n s.res).slots k (slot None)).reservation ≡ observe_of s.settings k n (reservation_of s k)
+      → (get_or (observe_all_of s.settings s.count n s.res).slots k None) ≡ observe_of s.settings k n (reservation_of s k)
   unfolding observe_all_of
-  slots_at n u l = ap (λ (c : Slot). c.reservation) (each_at (observe_slot s.settings n) s.count k s.res (slot None) u l)
+  slots_at n u l = each_at (observe_slot s.settings n) s.count k s.res None u l
 
   -- a used hart's reservation follows the notice
   pub res_apply : (act : Act) → k < s.count → k < length s.res
@@ -140,12 +139,12 @@ module _ (s : State) (k : ℕ) where
   res_apply (put a bs) u l = slots_at (DeviceWrite a (length bs)) u l
   res_apply (release g) u l = slots_at (Yield g) u l
 
-  slots_past : (n : Notice) → s.count ≤ k → get_or (observe_all_of s.settings s.count n s.res).slots k (slot None) ≡ get_or s.res k (slot None)
+  slots_past : (n : Notice) → s.count ≤ k → get_or (observe_all_of s.settings s.count n s.res).slots k None ≡ get_or s.res k None
   unfolding observe_all_of
-  slots_past n u = each_past (observe_slot s.settings n) s.count k s.res (slot None) u
+  slots_past n u = each_past (observe_slot s.settings n) s.count k s.res None u
 
   -- an unused hart's never changes
-  pub res_past : (act : Act) → s.count ≤ k → get_or (apply s act).res k (slot None) ≡ get_or s.res k (slot None)
+  pub res_past : (act : Act) → s.count ≤ k → get_or (apply s act).res k None ≡ get_or s.res k None
   unfolding apply
   res_past (refuse number) u = refl
   res_past (fault cause value) u = refl
@@ -237,7 +236,7 @@ module _ (base : ℕ) (m : Machine) (e : Event) where
       acts base m.mem m.state (λ (a : Act). get_or (pcs_after a m.state.pc) k 0 ≡ get_or m.state.pc k 0) (λ n. refl) e (λ c v. refl)
       (λ h q l ws to t. get_or-set_other m.state.pc h k to 0 (omega arith)) (λ a n w d. refl) (λ h q l. refl)
 
-  pub unused_res : (k : ℕ) → m.state.count ≤ k → get_or (next_of base m e).state.res k (slot None) ≡ get_or m.state.res k (slot None)
+  pub unused_res : (k : ℕ) → m.state.count ≤ k → get_or (next_of base m e).state.res k None ≡ get_or m.state.res k None
   unfolding next_of answer_of
   unused_res k u = res_past m.state k (act_of base m.mem m.state e) u
 

@@ -9,6 +9,7 @@ use lib.Dec.{eqb, ltb, leb}
 use lib.ListN.{length, get_or, set, get_or-eq_default}
 use lib.Seq.{get_or-set_other}
 use borrow.Author.Tests.{eqb-false, ltb-true, eq-eqb}
+use Rattle.std.specs.Prelude.{Option, None}
 use Rattle.word.specs.Bytes.{to_le}
 use Rattle.word.specs.Each.{each}
 use Rattle.word.proofs.BytesLaws.{length-to_le, bytes_to_le}
@@ -21,9 +22,8 @@ use Rattle.settings.specs.Settings.{xlen_of}
 use Rattle.settings.specs.declared.Settings.{Settings}
 use Rattle.settings.proofs.SettingsLaws.{xlen_is}
 use Rattle.reserve.specs.Range.{Inside, inside_of, set_of}
-use Rattle.reserve.specs.Reserve.{slot, covers_of, breaks_of, own_of, observe_of, observe_slot, observe_all_of}
+use Rattle.reserve.specs.Reserve.{held, covers_of, breaks_of, own_of, observe_of, observe_slot, observe_all_of}
 use Rattle.reserve.specs.declared.Reservation.{Reservation}
-use Rattle.reserve.specs.declared.Reservation.TheVariants.{None, Held}
 use Rattle.reserve.specs.declared.Notice.{Notice}
 use Rattle.reserve.specs.declared.Notice.TheVariants.{Quiet, LoadReserved, ScStored, ScFailed, Write, DeviceWrite, Yield}
 use Rattle.reserve.proofs.RangeLaws.{inside_of_lem}
@@ -78,39 +78,39 @@ module _ (settings : Settings) (base len : ℕ) where
   -- the reservation that a notice makes is well formed
   NoticeOk : Notice → Type 0
   NoticeOk Quiet = Unit {0}
-  NoticeOk (LoadReserved g a w) = ReservationRules settings base len (Held a w)
+  NoticeOk (LoadReserved g a w) = ReservationRules settings base len (held a w)
   NoticeOk (ScStored g b n) = Unit {0}
   NoticeOk (ScFailed g) = Unit {0}
   NoticeOk (Write g b n) = Unit {0}
   NoticeOk (DeviceWrite b n) = Unit {0}
   NoticeOk (Yield g) = Unit {0}
 
-  own_ok : (h : ℕ) (n : Notice) (r : Reservation) → NoticeOk n → ReservationRules settings base len r → ReservationRules settings base len (own_of h n r)
+  own_ok : (h : ℕ) (n : Notice) (r : Option Reservation) → NoticeOk n → ReservationRules settings base len r → ReservationRules settings base len (own_of h n r)
   unfolding own_of NoticeOk
   own_ok h Quiet r o k = k
-  own_ok h (LoadReserved g a w) r o k = cond_all (ReservationRules settings base len) (eqb g h) (Held a w) r o k
+  own_ok h (LoadReserved g a w) r o k = cond_all (ReservationRules settings base len) (eqb g h) (held a w) r o k
   own_ok h (ScStored g b n) r o k = cond_all (ReservationRules settings base len) (eqb g h) None r tt k
   own_ok h (ScFailed g) r o k = cond_all (ReservationRules settings base len) (eqb g h) None r tt k
   own_ok h (Write g b n) r o k = k
   own_ok h (DeviceWrite b n) r o k = k
   own_ok h (Yield g) r o k = cond_all (ReservationRules settings base len) (eqb g h) None r tt k
 
-  observed_ok : (h : ℕ) (n : Notice) (r : Reservation) → NoticeOk n → ReservationRules settings base len r
+  observed_ok : (h : ℕ) (n : Notice) (r : Option Reservation) → NoticeOk n → ReservationRules settings base len r
       → ReservationRules settings base len (observe_of settings h n r)
   unfolding observe_of
   observed_ok h n r o k = cond_all (ReservationRules settings base len) (breaks_of settings h n r) None (own_of h n r) tt (own_ok h n r o k)
 
   noticed_ok : (s : State) (n : Notice) (k : ℕ) → NoticeOk n → k < s.count → ReservationRules settings base len (reservation_of s k)
-      → ReservationRules settings base len (get_or (observe_all_of settings s.count n s.res).slots k (slot None)).reservation
+      → ReservationRules settings base len (get_or (observe_all_of settings s.count n s.res).slots k None)
   unfolding observe_all_of
   noticed_ok s n k o h r =
       ⊎_elim
-      (λ (l : k < length s.res). rw (each_at (observe_slot settings n) s.count k s.res (slot None) h l)
+      (λ (l : k < length s.res). rw (each_at (observe_slot settings n) s.count k s.res None h l)
       (observed_ok k n (reservation_of s k) o r))
       (λ (g : length s.res ≤ k).
       let l = each (observe_slot settings n) s.count s.res in
       let past : length l ≤ k = rw (length-each (observe_slot settings n) s.count s.res) g in
-      rw (get_or-eq_default l (slot None) {n = k} past) tt)
+      rw (get_or-eq_default l None {n = k} past) tt)
       (split_lt k (length s.res))
 
   access_notice : (h : ℕ) (t : Access) → AccessOk base len t → AccessFits (xlen_of settings) t → NoticeOk (notice_of h t)
@@ -237,7 +237,7 @@ module _ (base : ℕ) (m : Machine) (v : Valid base m) (e : Event) where
       rw length_next (v.0, apply_rules base (length m.mem) m.state (act_of base m.mem m.state e) ok fit v.1)
 
 -- the set of a reservation that a used hart holds lies wholly in memory; after any events too, by valid_run
-pub held_set_inside : (base : ℕ) (m : Machine) → Valid base m → (k a w : ℕ) → k < m.state.count → reservation_of m.state k ≡ Held a w
+pub held_set_inside : (base : ℕ) (m : Machine) → Valid base m → (k a w : ℕ) → k < m.state.count → reservation_of m.state k ≡ held a w
     → Inside base (length m.mem) (set_of (set_size m) a) (set_size m)
 held_set_inside base m v k a w u held =
     set_in_memory m.state.settings base (length m.mem) v.0 a w (subst (ReservationRules m.state.settings base (length m.mem)) held (v.1.2 k u).2)

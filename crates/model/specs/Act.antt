@@ -1,11 +1,11 @@
 -- What an event comes to: decided once, and then told and applied. The outcome, the harts whose reservation it broke and what changes are read off the
 -- decision.
 -- RULES 1.4, 2.3, 3.1 (what a refusal and a trap leave), 3.3, 5.1 (`broken_after`).
-use Rattle.std.specs.Prelude.{ℕ, ◌+◌, ◌-◌, ◌*◌, ◌%◌, cond, List, eqb, length, set}
+use Rattle.std.specs.Prelude.{ℕ, ◌+◌, ◌-◌, ◌*◌, ◌%◌, cond, Option, List, eqb, length, set}
 use Rattle.word.specs.Memory.{splice}
 use Rattle.settings.specs.declared.Settings.{Settings}
 use Rattle.reserve.specs.Reserve.{observe_all_of}
-use Rattle.reserve.specs.declared.Slot.{Slot}
+use Rattle.reserve.specs.declared.Reservation.{Reservation}
 use Rattle.reserve.specs.declared.Notice.{Notice}
 use Rattle.reserve.specs.declared.Notice.TheVariants.{Quiet, LoadReserved, ScStored, ScFailed, Write, DeviceWrite, Yield}
 use Rattle.machine.specs.declared.State.{State}
@@ -71,7 +71,7 @@ pcs_after (put a bs) pc = pc
 pcs_after (release h) pc = pc
 
 -- the reservations of the first count harts follow the notice, by the settings
-abbrev pub slots_after : Settings → ℕ → Act → List Slot → List Slot
+abbrev pub slots_after : Settings → ℕ → Act → List (Option Reservation) → List (Option Reservation)
 slots_after settings count (refuse number) l = l
 slots_after settings count (fault cause value) l = l
 slots_after settings count (change h ws to t) l = (observe_all_of settings count (notice_of h t) l).slots
@@ -79,7 +79,7 @@ slots_after settings count (put a bs) l = (observe_all_of settings count (Device
 slots_after settings count (release h) l = (observe_all_of settings count (Yield h) l).slots
 
 -- 02 [3]: "the set of harts whose reservation it broke, one bit each, bit 0 for hart 0": of the first count harts, by their reservations before
-abbrev pub broken_after : Settings → ℕ → Act → List Slot → ℕ
+abbrev pub broken_after : Settings → ℕ → Act → List (Option Reservation) → ℕ
 broken_after settings count (refuse number) l = 0
 broken_after settings count (fault cause value) l = 0
 broken_after settings count (change h ws to t) l = (observe_all_of settings count (notice_of h t) l).broken

@@ -1,12 +1,11 @@
 -- The machine: what each event does to a state and a memory at a base.
 -- RULES 1.4; `fetch_of` 3.1; `device_of` 1.4, 2.1; the order of refusals 2.2; `answer_of` 1.4, 5.1; `run_of` 11.2.
-use Rattle.std.specs.Prelude.{ℕ, Bool, cond, ◌&&◌, List, [], ◌∷◌, eqb, ltb, leb, length, get_or}
+use Rattle.std.specs.Prelude.{ℕ, Bool, cond, ◌&&◌, Option, None, List, [], ◌∷◌, eqb, ltb, leb, length, get_or}
 use Rattle.word.specs.Bytes.{to_le}
 use Rattle.settings.specs.Settings.{xlen_of}
 use Rattle.reserve.specs.Range.{inside_of}
-use Rattle.reserve.specs.Reserve.{slot, covers_of}
+use Rattle.reserve.specs.Reserve.{covers_of}
 use Rattle.reserve.specs.declared.Reservation.{Reservation}
-use Rattle.reserve.specs.declared.Reservation.TheVariants.{None}
 use Rattle.machine.specs.State.{refusal_of}
 use Rattle.machine.specs.declared.State.{State}
 use Rattle.effect.specs.Effect.{Exec, trap, effect}
@@ -20,8 +19,8 @@ use Rattle.model.specs.declared.Reply.{Reply}
 use Rattle.model.specs.declared.Answer.{Answer}
 
 -- a hart's reservation
-abbrev pub reservation_of : State → ℕ → Reservation
-reservation_of s h = (get_or s.res h (slot None)).reservation
+abbrev pub reservation_of : State → ℕ → Option Reservation
+reservation_of s h = get_or s.res h None
 
 -- 01: cause 1, "the word at pc isn't wholly in memory", value "pc"; then what the word there does at a register width of xlen bits and with the setting
 -- misaligned. x gives the hart's registers

@@ -10,7 +10,7 @@ ghost use Rattle.model.specs.Perform.{answer_of, memory_of};
 
 use events::Event;
 use machine::State;
-use reserve::packed;
+use refusal::Refusal;
 
 // How an event ends. ScStored and ScFailed are the two ends of an SC that does not trap, whatever its rd: 0 and 1.
 #[derive(Clone, Copy)]
@@ -37,17 +37,10 @@ pub struct Answer {
     pub state: State,
 }
 
-// Whether a run performed its events.
-#[derive(Clone, Copy)]
-pub enum Verdict {
-    Performed,
-    Refused { number: u64, place: usize },
-}
-
-// performed counts the events that were.
+// How a run ended: whether its events were performed or refused, how many were, and the state afterwards.
 #[derive(Clone, Copy)]
 pub struct Ran {
-    pub verdict: Verdict,
+    pub verdict: Result<(), Refusal>,
     pub performed: usize,
     pub state: State,
 }
@@ -57,33 +50,19 @@ pub fn perform(s: State, base: u64, mem: &mut [u8], e: Event) -> Answer
     ensures value { result ≡ answer_of base mem.old s e }
     ensures mem_after { mem.new ≡ memory_of base mem.old s e }
 {
-    let count = s.count;
-    let settings = s.settings;
-    let mut x = s.x;
-    let mut pc = s.pc;
-    let res = s.res;
-    let number = machine::refusal(base, mem.len(), count, settings, &x, &pc, res);
-    if number != 0 {
+    if let Some(number) = machine::refusal(base, mem.len(), &s) {
         return Answer {
             outcome: Outcome::Refused { number },
             broke: 0,
             state: s,
         };
     }
-    let mut t = packed::pack(res);
-    let r = advance::advance(&mut x, &mut pc, &mut t, count, settings, base, mem, e);
-    let outcome = r.outcome;
-    let after = packed::unpack(&t);
+    let mut state = s;
+    let r = advance::advance(&mut state, base, mem, e);
     Answer {
-        outcome,
+        outcome: r.outcome,
         broke: r.broke,
-        state: State {
-            count,
-            settings,
-            x,
-            pc,
-            res: after,
-        },
+        state,
     }
 }
 

@@ -1,57 +1,35 @@
 // Runs of an events body, in place.
-ghost use Rattle.std.specs.Prelude.{◌≡◌, ◌*◌, ◌≤◌, min, length};
+ghost use Rattle.std.specs.Prelude.{◌≡◌, ◌*◌, ◌≤◌, Err, length};
 ghost use Rattle.events.specs.Events.{first_events};
 ghost use Rattle.model.specs.Perform.{run_of};
 ghost use Rattle.model.specs.Valid.{Valid};
-ghost use Rattle.model.specs.Advance.{in_parts};
 ghost use Rattle.model.specs.Run.{result_of};
 
+use crate::Ran;
 use crate::advance::advance;
-use crate::{Ran, Verdict};
-use events::Checked;
 use machine::State;
-use reserve::packed;
-use settings::Settings;
-
-fn smaller(a: usize, b: usize) -> usize
-    ensures { result ≡ min a b }
-{
-    if a < b { a } else { b }
-}
+use refusal::Refusal;
 
 fn refused_run(number: u64, place: usize, s: State) -> Ran
-    ensures { result ≡ record { verdict = Verdict.Refused number place; performed = 0; state = s } }
+    ensures { result ≡ record { verdict = Err (record { number = number; place = place }); performed = 0; state = s } }
 {
     Ran {
-        verdict: Verdict::Refused { number, place },
+        verdict: Err(Refusal { number, place }),
         performed: 0,
         state: s,
     }
 }
 
 // The first n events of a body that refusal 11 does not name, in place.
-fn perform_first(
-    x: &mut [u64; 256],
-    pc: &mut [u64; 8],
-    t: &mut [u64; 24],
-    count: usize,
-    settings: Settings,
-    base: u64,
-    mem: &mut [u8],
-    body: &[u8],
-    n: usize,
-)
-    requires valid { Valid base (in_parts count settings x.old pc.old t.old mem.old) }
+fn perform_first(s: &mut State, base: u64, mem: &mut [u8], body: &[u8], n: usize)
+    requires valid { Valid base (record { state = s.old; mem = mem.old }) }
     requires n_in_bounds { n * 24 ≤ length body.now }
-    ensures { in_parts count settings x.new pc.new t.new mem.new
-        ≡ run_of base (in_parts count settings x.old pc.old t.old mem.old) (first_events n body.now) }
+    ensures { record { state = s.new; mem = mem.new } ≡ run_of base (record { state = s.old; mem = mem.old }) (first_events n body.now) }
 {
-    let mut i: usize = 0;
-    while i < n {
+    for i in 0..n {
         let at = i * 24;
         let e = events::read_event(&body[at..at + 24]);
-        advance(x, pc, t, count, settings, base, mem, e);
-        i += 1;
+        advance(s, base, mem, e);
     }
 }
 
@@ -60,33 +38,18 @@ pub fn run(s: State, base: u64, mem: &mut [u8], body: &[u8], budget: usize) -> R
     ensures value { result ≡ (result_of base mem.old s body.now budget).ran }
     ensures mem_after { mem.new ≡ (result_of base mem.old s body.now budget).mem }
 {
-    let count = s.count;
-    let settings = s.settings;
-    let mut x = s.x;
-    let mut pc = s.pc;
-    let res = s.res;
-    let number = machine::refusal(base, mem.len(), count, settings, &x, &pc, res);
-    if number != 0 {
+    if let Some(number) = machine::refusal(base, mem.len(), &s) {
         return refused_run(number, 0, s);
     }
-    match events::check(body, count, base, mem.len()) {
-        Checked::Bad(place) => refused_run(11, place, s),
-        Checked::Good => {
-            let n = smaller(budget, body.len() / 24);
-            let mut t = packed::pack(res);
-            perform_first(&mut x, &mut pc, &mut t, count, settings, base, mem, body, n);
-            let after = packed::unpack(&t);
-            Ran {
-                verdict: Verdict::Performed,
-                performed: n,
-                state: State {
-                    count,
-                    settings,
-                    x,
-                    pc,
-                    res: after,
-                },
-            }
-        }
+    if let Err(place) = events::check(body, s.count, base, mem.len()) {
+        return refused_run(11, place, s);
+    }
+    let n = budget.min(body.len() / 24);
+    let mut state = s;
+    perform_first(&mut state, base, mem, body, n);
+    Ran {
+        verdict: Ok(()),
+        performed: n,
+        state,
     }
 }

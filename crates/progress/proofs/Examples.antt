@@ -18,8 +18,9 @@ use Rattle.settings.specs.Settings.{defaults, of_version, of_kind, at_version, x
 use Rattle.settings.proofs.SettingsLaws.{xlen_64, defaults_64}
 use Rattle.settings.specs.declared.Settings.{Settings}
 use Rattle.reserve.specs.Range.{Touch, touches, inside_of, set_of}
-use Rattle.reserve.specs.Reserve.{slot, covers_of, breaks_of, own_of, observe_of, broken_of, observe_all_of}
-use Rattle.reserve.specs.declared.Reservation.TheVariants.{None, Held}
+use Rattle.reserve.specs.Reserve.{covers_of, breaks_of, own_of, observe_of, broken_of, observe_all_of}
+use Rattle.std.specs.Prelude.{None}
+use Rattle.reserve.specs.Reserve.{held}
 use Rattle.reserve.specs.declared.Notice.{Notice}
 use Rattle.reserve.specs.declared.Notice.TheVariants as N
 use Rattle.isa.specs.Decode.{class_of, branch_of, jalr_of, store_of, system_of, sized_of, lr_of, atomic_of, decode_of}
@@ -91,7 +92,7 @@ begin_with settings words v =
             settings = settings;
             x = registers ++ (registers ++ replicate 192 0);
             pc = 1024 ∷ 1056 ∷ replicate 6 0;
-            res = slot (Held 1144 8) ∷ replicate 7 (slot None);
+            res = held 1144 8 ∷ replicate 7 None;
           };
       mem = code words ++ (replicate (32 - 4 * length words) 0 ++ (to_le 4 0x0082A423 ++ (replicate 36 0 ++ (to_le 4 v ++ replicate 52 0))));
     }
@@ -564,7 +565,7 @@ begin_32 v =
             settings = of_kind 21 1;
             x = 0 ∷ 0 ∷ 0 ∷ 0 ∷ 0 ∷ 0xFFFFFFC0 ∷ 0 ∷ 0 ∷ 9 ∷ replicate 247 0;
             pc = 0xFFFFFFF0 ∷ replicate 7 0;
-            res = replicate 8 (slot None);
+            res = replicate 8 None;
           };
       mem = replicate 64 0 ++ (to_le 4 v ++ (replicate 44 0 ++ code leaving));
     }

@@ -20,8 +20,9 @@ use Rattle.settings.proofs.SettingsLaws.{xlen_is, at_version-xlen}
 use Rattle.settings.specs.declared.Settings.{Settings}
 use Rattle.reserve.specs.Range.{Touch, Inside, set_of}
 use Rattle.reserve.specs.Reserve.{covers_of, observe_of}
+use Rattle.std.specs.Prelude.{Option}
 use Rattle.reserve.specs.declared.Reservation.{Reservation}
-use Rattle.reserve.specs.declared.Reservation.TheVariants.{Held}
+use Rattle.reserve.specs.Reserve.{held}
 use Rattle.reserve.specs.declared.Notice.{Notice}
 use Rattle.reserve.specs.declared.Notice.TheVariants as N
 use Rattle.reserve.proofs.RangeLaws.{covers_exact, reserved_in_set}
@@ -180,7 +181,7 @@ module _ (settings : Settings) (base h p addr : ℕ) (words : List ℕ) (lr : At
     here : hart_pc m h ≡ p + 4 * i
     in_loop : i < length words
     source : i ≤ j → reg_at m.state.x h lr.rs1 ≡ addr
-    holds : 0 < i → i ≤ j → reservation_of m.state h ≡ Held addr (bytes_of lr.width)
+    holds : 0 < i → i ≤ j → reservation_of m.state h ≡ held addr (bytes_of lr.width)
 
   ground_next : (m : Machine) (e : Event) → Ground m → (WritesInto (notice_at base m e) p (4 * length words) → ⊥) → Ground (next_of base m e)
   ground_next m e g d =
@@ -267,7 +268,7 @@ module _ (settings : Settings) (base h p addr : ℕ) (words : List ℕ) (lr : At
     -- it retires and goes to a later place: there, or out of the loop
     module _ (rd i' : ℕ) (t : Access) (mv : Moves exec rd (offset bits p (4 * i')) t) (on : i < i') (short : 4 * i' < 2 ^ 32)
         (quiet : WritesInto (notice_of h t) p (4 * length words) → ⊥) (rs1-kept : i' ≤ j → Keeps lr.rs1 rd)
-        (res-held : i' ≤ j → observe_of m.state.settings h (notice_of h t) (reservation_of m.state h) ≡ Held addr (bytes_of lr.width)) where
+        (res-held : i' ≤ j → observe_of m.state.settings h (notice_of h t) (reservation_of m.state h) ≡ held addr (bytes_of lr.width)) where
       abbrev to : ℕ
       to = offset bits p (4 * i')
 
@@ -428,7 +429,7 @@ module _ (settings : Settings) (base h p addr : ℕ) (words : List ℕ) (lr : At
 
         covered : covers_of m.state.settings (reservation_of m.state h) addr (bytes_of lr.width) ≡ true
         covered =
-            ap (λ (r : Reservation). covers_of m.state.settings r addr (bytes_of lr.width)) (a.holds (omega arith) (omega arith))
+            ap (λ (r : Option Reservation). covers_of m.state.settings r addr (bytes_of lr.width)) (a.holds (omega arith) (omega arith))
             ∙ (covers_exact m.state.settings addr (bytes_of lr.width) addr (bytes_of lr.width)).1 (own_set m a.ground.valid)
 
         act : act_of base m.mem m.state (Step h) ≡ change h (one s.of.rd 0) (next_pc bits (hart_pc m h)) (sc_stored addr new)

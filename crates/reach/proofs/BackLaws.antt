@@ -1,4 +1,4 @@
--- Registers, pc and bytes that were saved before a step and are put back leave all as it was. Assumes nothing.
+-- Registers, pc, reservations and bytes that were saved before a step and are put back leave all as it was. Assumes nothing.
 use mathlib.Core.Path.{◌≡◌, refl, sym, ap, ap₂, subst, ◌∙◌}
 use mathlib.Core.List.{List, ◌++◌, append_assoc}
 use Prim.Native.Nat.{ℕ, ◌+◌, ◌-◌, ◌*◌, ◌%◌, ◌<◌, ◌≤◌, min}
@@ -14,14 +14,15 @@ use Rattle.word.proofs.ChooseLaws.{cond_all}
 use Rattle.word.proofs.TestLaws.{bool_cases}
 use Rattle.reserve.specs.Range.{inside_of}
 use Rattle.reserve.proofs.RangeLaws.{of_inside}
-use Rattle.effect.specs.Effect.{none, one, pair, Access, nothing, reserve, store, sc_stored, sc_failed, Exec, trap, effect, stored, memory_by, done_of}
+use Rattle.effect.specs.Effect.{none, one, pair, Access, nothing, reserve, store, sc_stored, sc_failed, Exec, trap, effect, stored, memory_by}
 use Rattle.effect.specs.Execute.{reg_at}
 use Rattle.effect.specs.Sound.{AccessOk, Sound}
-use Rattle.effect.specs.declared.Done.{Done}
-use Rattle.effect.specs.declared.Done.TheVariants.{Retired, Trap}
-use Rattle.model.specs.Act.{set_reg}
-use Rattle.model.specs.Advance.{registers_by, pcs_by}
-use Rattle.reach.specs.Reach.{window_of}
+use Rattle.model.specs.Act.{set_reg, registers_after, pcs_after, apply, leaves}
+use Rattle.model.specs.Perform.{Machine, xlen, of_exec}
+use Rattle.model.proofs.AdvanceLaws.{leaves_done}
+use Rattle.reach.specs.Reach.{window_of, reach_in}
+use Rattle.reach.specs.Back.{saved_of, put_back}
+use Rattle.reach.specs.declared.Reach.{Reach}
 use Rattle.reach.proofs.ReachLaws.{WritesFrom, Reaches}
 
 -- ---- registers and pc
@@ -66,8 +67,7 @@ module _ (h d : ℕ) (x : List ℕ) where
       ∙ back_one v
 
   -- whatever the step sets, that puts it back
-  pub registers_back : (a : ℕ) (e : Exec) → Reaches d a e → back (registers_by h (done_of h e) x) ≡ x
-  unfolding registers_by set_reg
+  registers_back : (a : ℕ) (e : Exec) → Reaches d a e → back (registers_after (of_exec h e) x) ≡ x
   registers_back a (trap cause value) s = back_none
   registers_back a (effect none to t) s = back_none
   registers_back a (effect (one r v) to t) s = ap (λ (k : ℕ). back (set_reg h k v x)) s.0 ∙ back_one v
@@ -77,10 +77,9 @@ module _ (h d : ℕ) (x : List ℕ) where
       ∙ back_pair v v2 (subst (λ (k : ℕ). k < 32) s.0.0 s.0.1)
 
 -- and the pc
-pub pcs_back : (h : ℕ) (pc : List ℕ) (d : Done) → set (pcs_by h d pc) h (get_or pc h 0) ≡ pc
-unfolding pcs_by
-pcs_back h pc (Retired e) = set-set pc h e.next (get_or pc h 0) ∙ set-get_or pc h 0
-pcs_back h pc (Trap cause value) = set-get_or pc h 0
+pcs_back : (h : ℕ) (pc : List ℕ) (e : Exec) → set (pcs_after (of_exec h e) pc) h (get_or pc h 0) ≡ pc
+pcs_back h pc (trap cause value) = set-get_or pc h 0
+pcs_back h pc (effect ws to t) = set-set pc h to (get_or pc h 0) ∙ set-get_or pc h 0
 
 -- ---- bytes
 
@@ -135,7 +134,7 @@ module _ (mem : List ℕ) where
       ap (λ (n : ℕ). to_le n (le (part mem at 8))) (sym (length_part mem at 8 fit)) ∙ to_le-le (part mem at 8) (bytes_part mem at 8 bytes)
 
   -- 16 bytes put back, as two numbers, where only they have changed
-  pub sixteen_back : (at : ℕ) (m : List ℕ) → IsBytes mem → at + 16 ≤ length mem → Outside mem at (at + 16) m
+  sixteen_back : (at : ℕ) (m : List ℕ) → IsBytes mem → at + 16 ≤ length mem → Outside mem at (at + 16) m
       → splice (splice m at (to_le 8 (le (part mem at 8)))) (at + 8) (to_le 8 (le (part mem (at + 8) 8))) ≡ mem
   sixteen_back at m bytes fit o =
       let first = outside_back at (at + 16) 8 m (omega arith) fit o in
@@ -174,7 +173,21 @@ module _ (base : ℕ) (mem : List ℕ) (a : ℕ) (enough : 16 ≤ length mem) wh
   exec_window d (effect ws to t) o h = access_window t o.1 h.1
 
   -- a step undone: the window's 16 bytes from before, put back
-  pub undone : (d : ℕ) (e : Exec) → IsBytes mem → Sound base (length mem) e → Reaches d a e
+  undone : (d : ℕ) (e : Exec) → IsBytes mem → Sound base (length mem) e → Reaches d a e
       → (let at = window_of base (length mem) a in
       splice (splice (memory_by base mem e) at (to_le 8 (le (part mem at 8)))) (at + 8) (to_le 8 (le (part mem (at + 8) 8))) ≡ mem)
   undone d e bytes o h = sixteen_back mem _ (memory_by base mem e) bytes window_room (exec_window d e o h)
+
+-- ---- the whole machine
+
+-- what hart h's step on a word may change, put back after what it came to
+module _ (base : ℕ) (m : Machine) (h word : ℕ) (bytes : IsBytes m.mem) (enough : 16 ≤ length m.mem) where
+  abbrev c : Reach
+  c = reach_in (xlen m) word (reg_at m.state.x h)
+
+  pub all_back : (e : Exec) → Sound base (length m.mem) e → Reaches c.rd c.at e
+      → put_back (saved_of base m h word) (record { state = apply m.state (of_exec h e); mem = leaves base m.mem (of_exec h e) }) ≡ m
+  unfolding saved_of put_back apply
+  all_back e o r =
+      rw (registers_back h c.rd m.state.x c.at e r, pcs_back h m.state.pc e, ← leaves_done h e base m.mem, undone base m.mem c.at enough c.rd e bytes o r)
+      refl

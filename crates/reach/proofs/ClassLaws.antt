@@ -1,12 +1,14 @@
 -- What the code takes from a word's class is what its instruction has, unless the word always traps. Assumes nothing.
-use mathlib.Core.Path.{◌≡◌, ap}
+use mathlib.Core.Path.{◌≡◌, refl, ap}
 use mathlib.Core.Bool.{◌&&◌}
 use Prim.Native.Nat.{ℕ}
 use lib.Dec.{eqb}
-use Rattle.word.specs.Choose.{select}
-use Rattle.word.proofs.ChooseLaws.{cond_all, select_rows, select_all, select_keyed, ◌also◌}
+use Rattle.std.specs.Prelude.{Option, Some, None}
+use Rattle.word.proofs.ChooseLaws.{cond_all, select_rows, select_all, ◌also◌}
 use Rattle.isa.specs.Fields.{bits, rd_of, rs1_of, rs2_of, funct3_of, funct5_of, funct6_of, funct7_of, imm_i}
 use Rattle.isa.specs.Decode as D
+use Rattle.isa.specs.declared.class.Class.{Class}
+use Rattle.isa.specs.declared.class.Class.TheVariants as C
 use Rattle.isa.specs.Narrow.{decode_at}
 use Rattle.isa.proofs.NarrowLaws.{at_width}
 use Rattle.isa.specs.declared.AluOp.TheVariants.{Add}
@@ -16,7 +18,7 @@ use Rattle.isa.specs.declared.Width.TheVariants.{Double}
 use Rattle.isa.specs.declared.Instr.{Instr}
 use Rattle.isa.specs.declared.Instr.TheVariants.{Illegal, Lui, Auipc, Jal, Jalr, Branch, Load, Store, OpImm, OpImm32, Op, Op32, Fence, Ecall, Ebreak, Amo}
 use Rattle.reach.specs.Rd.{shown_rd}
-use Rattle.reach.specs.Reach.{writes_at, reach_rows, reach_in}
+use Rattle.reach.specs.Reach.{writes_at, reach_by, reach_in}
 use Rattle.reach.specs.declared.Reach.{Reach}
 
 -- what c says of an instruction where registers have xlen bits; nothing is asked of what always traps
@@ -46,9 +48,9 @@ module _ (xlen w : ℕ) (x : ℕ → ℕ) where
   P = Shows xlen c x
 
   -- what the code has for a class
-  at_class : (k : ℕ) → D.class_of w ≡ k → c ≡ select k (reach_rows xlen w x) D.same (record { rd = rd_of w; at = 0 })
+  at_class : (k : Option Class) → D.class_of w ≡ k → c ≡ reach_by xlen k w x
   unfolding reach_in
-  at_class k e = ap (λ (n : ℕ). select n (reach_rows xlen w x) D.same (record { rd = rd_of w; at = 0 })) e
+  at_class k e = ap (λ (q : Option Class). reach_by xlen q w x) e
 
   -- most instructions: their rd, and no memory
   abbrev Plain : Type 0
@@ -91,17 +93,17 @@ module _ (xlen w : ℕ) (x : ℕ → ℕ) where
   unfolding D.jalr_of shown_rd writes_at
   jalrs e = cond_all P (eqb (funct3_of w) 0) (Jalr (rd_of w) (rs1_of w) (imm_i w)) Illegal e tt
 
-  stores : D.class_of w ≡ D.STORE → P (D.store_of w)
+  stores : D.class_of w ≡ Some C.Store → P (D.store_of w)
   unfolding D.store_of shown_rd writes_at
-  stores e = select_all P (funct3_of w) D.stores (D.store_as w) Illegal (λ op. at_class 6 e) tt
+  stores e = select_all P (funct3_of w) D.stores (D.store_as w) Illegal (λ op. at_class _ e) tt
 
-  branches : D.class_of w ≡ D.BRANCH → P (D.branch_of w)
+  branches : D.class_of w ≡ Some C.Branch → P (D.branch_of w)
   unfolding D.branch_of shown_rd writes_at
-  branches e = select_all P (funct3_of w) D.branches (D.branch_as w) Illegal (λ op. at_class 11 e) tt
+  branches e = select_all P (funct3_of w) D.branches (D.branch_as w) Illegal (λ op. at_class _ e) tt
 
-  fences : D.class_of w ≡ D.MISC-MEM → P (D.misc_mem_of w)
+  fences : D.class_of w ≡ Some C.MiscMem → P (D.misc_mem_of w)
   unfolding D.misc_mem_of shown_rd writes_at
-  fences e = cond_all P (eqb (funct3_of w) 0) (Fence (rd_of w) (rs1_of w) (bits 31 20 w)) Illegal (at_class 2 e) tt
+  fences e = cond_all P (eqb (funct3_of w) 0) (Fence (rd_of w) (rs1_of w) (bits 31 20 w)) Illegal (at_class _ e) tt
 
   systems : P (D.system_of w)
   unfolding D.system_of
@@ -131,14 +133,27 @@ module _ (xlen w : ℕ) (x : ℕ → ℕ) where
       also sized e _ also sized e _ also sized e _ also sized e _ also sized e _ also tt)
       tt
 
+  by_class : (k : Option Class) → D.class_of w ≡ k → P (D.in_class k w)
+  unfolding shown_rd writes_at
+  by_class None e = tt
+  by_class (Some C.Load) e = loads (at_class _ e)
+  by_class (Some C.MiscMem) e = fences e
+  by_class (Some C.OpImm) e = op_imms_lem (at_class _ e)
+  by_class (Some C.Auipc) e = at_class _ e
+  by_class (Some C.OpImm32) e = op_imms_32 (at_class _ e)
+  by_class (Some C.Store) e = stores e
+  by_class (Some C.Amo) e = atomics (at_class _ e)
+  by_class (Some C.Op) e = ops (at_class _ e)
+  by_class (Some C.Lui) e = at_class _ e
+  by_class (Some C.Op32) e = ops_32 (at_class _ e)
+  by_class (Some C.Branch) e = branches e
+  by_class (Some C.Jalr) e = jalrs (at_class _ e)
+  by_class (Some C.Jal) e = at_class _ e
+  by_class (Some C.System) e = systems
+
   shows_64 : P (D.decode_of w)
-  unfolding D.decode_of shown_rd writes_at
-  shows_64 =
-      select_keyed P (D.class_of w) D.decoders (D.of w) Illegal
-      ((λ e. loads (at_class 1 e)) also fences also (λ e. op_imms_lem (at_class 3 e)) also (λ e. at_class 4 e) also (λ e. op_imms_32 (at_class 5 e))
-      also stores also (λ e. atomics (at_class 7 e)) also (λ e. ops (at_class 8 e)) also (λ e. at_class 9 e) also (λ e. ops_32 (at_class 10 e))
-      also branches also (λ e. jalrs (at_class 12 e)) also (λ e. at_class 13 e) also (λ e. systems) also tt)
-      (λ o. tt)
+  unfolding D.decode_of
+  shows_64 = by_class (D.class_of w) refl
 
   -- narrowed, it has the same rd and address, or it traps
   pub shows : Shows xlen (reach_in xlen w x) x (decode_at xlen w)

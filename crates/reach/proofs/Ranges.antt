@@ -8,6 +8,7 @@ use lib.Dec.{eqb}
 use lib.Pow.{pow_mono}
 use lib.ListN.{length, get_or}
 use borrow.Author.Tests.{eqb-true}
+use Rattle.std.specs.Prelude.{Option, None}
 use Rattle.word.specs.Bytes.{IsBytes}
 use Rattle.word.specs.Each.{each}
 use Rattle.word.proofs.ChooseLaws.{cond_all}
@@ -16,10 +17,8 @@ use Rattle.word.proofs.WordLaws.{xlen_bounds}
 use Rattle.settings.specs.Settings.{xlen_of}
 use Rattle.settings.proofs.SettingsLaws.{xlen_is}
 use Rattle.settings.specs.declared.Settings.{Settings}
-use Rattle.reserve.specs.Reserve.{slot, breaks_of, own_of, observe_of, observe_slot, observe_all_of}
+use Rattle.reserve.specs.Reserve.{held, breaks_of, own_of, observe_of, observe_slot, observe_all_of}
 use Rattle.reserve.specs.declared.Reservation.{Reservation}
-use Rattle.reserve.specs.declared.Reservation.TheVariants.{None, Held}
-use Rattle.reserve.specs.declared.Slot.{Slot}
 use Rattle.reserve.specs.declared.Notice.{Notice}
 use Rattle.reserve.specs.declared.Notice.TheVariants.{Quiet, LoadReserved, ScStored, ScFailed, Write, DeviceWrite, Yield}
 use Rattle.machine.specs.Rules.{LentRules}
@@ -53,30 +52,29 @@ Small l = (i : ℕ) → get_or l i 0 < 2 ^ 64
 -- what an LR reserves
 abbrev Reserves : Notice → Type 0
 Reserves Quiet = Unit {0}
-Reserves (LoadReserved g a w) = Fits64 (Held a w)
+Reserves (LoadReserved g a w) = Fits64 (held a w)
 Reserves (ScStored g b n) = Unit {0}
 Reserves (ScFailed g) = Unit {0}
 Reserves (Write g b n) = Unit {0}
 Reserves (DeviceWrite b n) = Unit {0}
 Reserves (Yield g) = Unit {0}
 
-own_numbers : (h : ℕ) (n : Notice) (r : Reservation) → Reserves n → Fits64 r → Fits64 (own_of h n r)
+own_numbers : (h : ℕ) (n : Notice) (r : Option Reservation) → Reserves n → Fits64 r → Fits64 (own_of h n r)
 unfolding own_of
 own_numbers h Quiet r o k = k
-own_numbers h (LoadReserved g a w) r o k = cond_all Fits64 (eqb g h) (Held a w) r o k
+own_numbers h (LoadReserved g a w) r o k = cond_all Fits64 (eqb g h) (held a w) r o k
 own_numbers h (ScStored g b n) r o k = cond_all Fits64 (eqb g h) None r tt k
 own_numbers h (ScFailed g) r o k = cond_all Fits64 (eqb g h) None r tt k
 own_numbers h (Write g b n) r o k = k
 own_numbers h (DeviceWrite b n) r o k = k
 own_numbers h (Yield g) r o k = cond_all Fits64 (eqb g h) None r tt k
 
-slot-numbers : (settings : Settings) (count : ℕ) (n : Notice) (l : List Slot) → Reserves n → ((k : ℕ) → Fits64 (get_or l k (slot None)).reservation)
-    → (k : ℕ) → Fits64 (get_or (observe_all_of settings count n l).slots k (slot None)).reservation
+slot-numbers : (settings : Settings) (count : ℕ) (n : Notice) (l : List (Option Reservation)) → Reserves n → ((k : ℕ) → Fits64 (get_or l k None))
+    → (k : ℕ) → Fits64 (get_or (observe_all_of settings count n l).slots k None)
 unfolding observe_all_of observe_of
 slot-numbers settings count n l o q k =
-    each_all (λ (c : Slot). Fits64 c.reservation) (observe_slot settings n) count l (slot None) k
-    (λ j c p. cond_all Fits64 (breaks_of settings j n c.reservation) None (own_of j n c.reservation) tt (own_numbers j n c.reservation o p))
-    (q k)
+    each_all Fits64 (observe_slot settings n) count l None k
+    (λ j r p. cond_all Fits64 (breaks_of settings j n r) None (own_of j n r) tt (own_numbers j n r o p)) (q k)
 
 -- ---- acts
 
@@ -127,8 +125,8 @@ module _ (settings : Settings) (base : ℕ) (mem : List ℕ) (rules : LentRules 
   reserves h (sc_stored a bs) o = tt
   reserves h sc_failed o = tt
 
-  slots_small : (count : ℕ) (act : Act) (l : List Slot) → ActOk base (length mem) act → ((k : ℕ) → Fits64 (get_or l k (slot None)).reservation)
-      → (k : ℕ) → Fits64 (get_or (slots_after settings count act l) k (slot None)).reservation
+  slots_small : (count : ℕ) (act : Act) (l : List (Option Reservation)) → ActOk base (length mem) act → ((k : ℕ) → Fits64 (get_or l k None))
+      → (k : ℕ) → Fits64 (get_or (slots_after settings count act l) k None)
   slots_small count (refuse number) l o q = q
   slots_small count (fault cause value) l o q = q
   slots_small count (change h ws to t) l o q = slot-numbers settings count (notice_of h t) l (reserves h t o.1) q

@@ -1,9 +1,10 @@
 -- Which bytes a step may write, so that they can be put back: what the code saves before a row's step.
-use Rattle.std.specs.Prelude.{ℕ, ◌-◌, min, cond, List, [], ◌∷◌}
-use Rattle.word.specs.Choose.{Row, ◌⇒◌, select}
+use Rattle.std.specs.Prelude.{ℕ, ◌-◌, min, cond, Option, Some, None}
 use Rattle.reserve.specs.Range.{inside_of}
 use Rattle.isa.specs.Fields.{rd_of, rs1_of, imm_s}
-use Rattle.isa.specs.Decode.{MISC-MEM, STORE, AMO, BRANCH, same, class_of}
+use Rattle.isa.specs.Decode.{class_of}
+use Rattle.isa.specs.declared.class.Class.{Class}
+use Rattle.isa.specs.declared.class.Class.TheVariants as C
 use Rattle.isa.specs.declared.Instr.{Instr}
 use Rattle.isa.specs.declared.Instr.TheVariants.{Illegal, Lui, Auipc, Jal, Jalr, Branch, Load, Store, OpImm, OpImm32, Op, Op32, Fence, Ecall, Ebreak, Amo}
 use Rattle.effect.specs.Effect.{offset}
@@ -37,13 +38,22 @@ module _ (xlen : ℕ) where
   writes_at Ebreak x = 0
 
   -- Both by the word's class, as the code has them: it needs no decoded instruction. Of a word that is no instruction they say nothing, since it traps
-  abbrev pub reach_rows : ℕ → (ℕ → ℕ) → List (Row Reach)
-  reach_rows w x =
-      MISC-MEM ⇒ record { rd = 0; at = 0 } ∷
-      STORE ⇒ record { rd = 0; at = offset xlen (x (rs1_of w)) (imm_s w) } ∷
-      AMO ⇒ record { rd = rd_of w; at = x (rs1_of w) } ∷
-      BRANCH ⇒ record { rd = 0; at = 0 } ∷
-      []
+  abbrev pub reach_by : Option Class → ℕ → (ℕ → ℕ) → Reach
+  reach_by (Some C.Store) w x = record { rd = 0; at = offset xlen (x (rs1_of w)) (imm_s w) }
+  reach_by (Some C.Amo) w x = record { rd = rd_of w; at = x (rs1_of w) }
+  reach_by (Some C.MiscMem) w x = record { rd = 0; at = 0 }
+  reach_by (Some C.Branch) w x = record { rd = 0; at = 0 }
+  reach_by (Some C.Load) w x = record { rd = rd_of w; at = 0 }
+  reach_by (Some C.OpImm) w x = record { rd = rd_of w; at = 0 }
+  reach_by (Some C.Auipc) w x = record { rd = rd_of w; at = 0 }
+  reach_by (Some C.OpImm32) w x = record { rd = rd_of w; at = 0 }
+  reach_by (Some C.Op) w x = record { rd = rd_of w; at = 0 }
+  reach_by (Some C.Lui) w x = record { rd = rd_of w; at = 0 }
+  reach_by (Some C.Op32) w x = record { rd = rd_of w; at = 0 }
+  reach_by (Some C.Jalr) w x = record { rd = rd_of w; at = 0 }
+  reach_by (Some C.Jal) w x = record { rd = rd_of w; at = 0 }
+  reach_by (Some C.System) w x = record { rd = rd_of w; at = 0 }
+  reach_by None w x = record { rd = rd_of w; at = 0 }
 
   unfoldable pub reach_in : ℕ → (ℕ → ℕ) → Reach
-  reach_in w x = select (class_of w) (reach_rows w x) same (record { rd = rd_of w; at = 0 })
+  reach_in w x = reach_by (class_of w) w x

@@ -1,18 +1,21 @@
-// What a step may change, saved before it and put back: the register that a row shows of it and the one behind it, the pc, and at most 16
-// bytes, from one address on.
+// What a step may change, saved before it and put back: the register that a row shows of it and the one behind it, the pc, the reservations, and at
+// most 16 bytes, from one address on.
 #![tactic(auto)]
 
-ghost use Rattle.std.specs.Prelude.{◌≡◌, ◌+◌, ◌%◌, ◌<◌, ◌≤◌, length, set};
-ghost use Rattle.word.specs.Bytes.{le, to_le};
-ghost use Rattle.word.specs.Memory.{part, splice};
+ghost use Rattle.std.specs.Prelude.{◌≡◌, ◌+◌, ◌<◌, ◌≤◌, length};
+ghost use Rattle.word.specs.Bytes.{le};
+ghost use Rattle.word.specs.Memory.{part};
 ghost use Rattle.effect.specs.Execute.{reg_at};
-ghost use Rattle.model.specs.Act.{set_reg};
 ghost use Rattle.reach.specs.Reach.{window_of, reach_in};
+ghost use Rattle.reach.specs.Back.{saved_of, put_back};
 
 use alu::integer::add;
 use dispatch::reg;
-use isa::{class, fields};
+use isa::class::{Class, class_of};
+use isa::fields;
+use machine::State;
 use model::advance::set_reg;
+use reserve::Reservation;
 use word::bytes::{load_at, store_at};
 
 // The register that a row shows, and the address from which on the step may write.
@@ -22,30 +25,37 @@ pub struct Reach {
     pub at: u64,
 }
 
-// 16 bytes of memory, from at on, as two numbers.
+// What a step of a hart may change, as it was: rd and the register behind it, the pc, the reservations, and 16 bytes of memory, from at on, as two
+// numbers.
 #[derive(Clone, Copy)]
 pub struct Saved {
+    pub hart: usize,
+    pub rd: usize,
+    pub first: u64,
+    pub second: u64,
+    pub pc: u64,
+    pub res: [Option<Reservation>; 8],
     pub at: usize,
     pub low: u64,
     pub high: u64,
 }
 
 // What hart h's word may change, by its class, where registers have xlen bits. Decoding it here too would cost as much as all else of a row.
+#[tactic(auto, unfolding(crate::specs::Reach::reach_in))]
 pub fn reach_in(xlen: u32, word: u32, x: &[u64; 256], h: usize) -> Reach
     requires { (h < 8) × (xlen ≤ 64) }
     ensures { result ≡ reach_in xlen word (reg_at x.now h) }
 {
-    match class::class_of(word) {
-        class::MISC_MEM => Reach { rd: 0, at: 0 },
-        class::STORE => Reach {
+    match class_of(word) {
+        Some(Class::Store) => Reach {
             rd: 0,
             at: add(reg(x, h, fields::rs1(word)), fields::imm_s(word), xlen),
         },
-        class::AMO => Reach {
+        Some(Class::Amo) => Reach {
             rd: fields::rd(word),
             at: reg(x, h, fields::rs1(word)),
         },
-        class::BRANCH => Reach { rd: 0, at: 0 },
+        Some(Class::MiscMem | Class::Branch) => Reach { rd: 0, at: 0 },
         _ => Reach {
             rd: fields::rd(word),
             at: 0,
@@ -54,54 +64,51 @@ pub fn reach_in(xlen: u32, word: u32, x: &[u64; 256], h: usize) -> Reach
 }
 
 // Where 16 bytes of a memory start that hold those from a on.
+#[tactic(auto, using(reserve::proofs::RangeLaws::inside_of_lem))]
 pub fn window(base: u64, len: usize, a: u64) -> usize
     requires { 16 ≤ len }
     ensures { (result ≡ window_of base len a) × (result + 16 ≤ len) }
 {
     if reserve::inside(base, len as u64, a, 1) {
-        let at = (a - base) as usize;
-        if at < len - 16 {
-            return at;
-        }
-        return len - 16;
+        ((a - base) as usize).min(len - 16)
+    } else {
+        0
     }
-    0
 }
 
-pub fn save(mem: &[u8], at: usize) -> Saved
-    requires { at + 16 ≤ length mem.now }
-    ensures { result ≡ record { at = at; low = le (part mem.now at 8); high = le (part mem.now (at + 8) 8) } }
+// What the word may change that hart h is to step on.
+#[tactic(auto, using(settings::proofs::SettingsLaws::xlen_is, word::proofs::WordLaws::xlen_bounds), unfolding(crate::specs::Back::saved_of))]
+pub fn save(s: &State, h: usize, word: u32, base: u64, mem: &[u8]) -> Saved
+    requires { (h < 8) × (16 ≤ length mem.now) }
+    ensures value { result ≡ saved_of base (record { state = s.now; mem = mem.now }) h word }
+    ensures room { result.at + 16 ≤ length mem.now }
 {
+    let reach = reach_in(settings::xlen(s.settings), word, &s.x, h);
+    let rd = reach.rd;
+    let at = window(base, mem.len(), reach.at);
     Saved {
+        hart: h,
+        rd,
+        first: reg(&s.x, h, rd),
+        second: reg(&s.x, h, rd % 32 + 1),
+        pc: s.pc[h],
+        res: s.res,
         at,
         low: load_at(mem, at, 8),
         high: load_at(mem, at + 8, 8),
     }
 }
 
-pub fn put_back(mem: &mut [u8], s: Saved)
-    requires { s.at + 16 ≤ length mem.old }
-    ensures { mem.new ≡ splice (splice mem.old s.at (to_le 8 s.low)) (s.at + 8) (to_le 8 s.high) }
+// All that is not saved stays.
+#[tactic(auto, unfolding(crate::specs::Back::put_back))]
+pub fn put_back(s: &mut State, mem: &mut [u8], k: &Saved)
+    requires { (k.now.hart < 8) × (k.now.at + 16 ≤ length mem.old) }
+    ensures { record { state = s.new; mem = mem.new } ≡ put_back k.now (record { state = s.old; mem = mem.old }) }
 {
-    store_at(mem, s.at, 8, s.low);
-    store_at(mem, s.at + 8, 8, s.high);
-}
-
-// Registers rd and the one behind it, and the pc, of hart h.
-pub fn put_hart_back(
-    x: &mut [u64; 256],
-    pc: &mut [u64; 8],
-    h: usize,
-    rd: usize,
-    first: u64,
-    second: u64,
-    at: u64,
-)
-    requires { h < 8 }
-    ensures x_after { x.new ≡ set_reg h (rd % 32 + 1) second (set_reg h rd first x.old) }
-    ensures pc_after { pc.new ≡ set pc.old h at }
-{
-    set_reg(x, h, rd, first);
-    set_reg(x, h, rd % 32 + 1, second);
-    pc[h] = at;
+    set_reg(&mut s.x, k.hart, k.rd, k.first);
+    set_reg(&mut s.x, k.hart, k.rd % 32 + 1, k.second);
+    s.pc[k.hart] = k.pc;
+    s.res = k.res;
+    store_at(mem, k.at, 8, k.low);
+    store_at(mem, k.at + 8, 8, k.high);
 }

@@ -3,33 +3,51 @@
 // answer.
 #![tactic(auto)]
 
-ghost use Rattle.std.specs.Prelude.{◌≡◌, ◌+◌, ◌/◌, ◌%◌, ◌^◌, ◌<◌, IfOk, min, length};
+ghost use Rattle.std.specs.Prelude.{◌≡◌, ◌+◌, ◌/◌, ◌%◌, ◌^◌, ◌<◌, ◌≤◌, IfOk, IfSome, length};
 ghost use Rattle.settings.specs.Boards.{BoardRules};
 
 use arguments::{is_given, open_file, read_file, text_of};
-use board_choice::Choice;
-use casefile::Found;
-use input::read_input;
+use board_choice::NoBoard;
+use casefile::Case;
+use input::read_full;
 use machine::State;
+use refusal::Refusal;
 use rows::{Replayed, Stop};
 use settings::Board;
 use std::fs::File;
 use std::io;
 use std::io::{Error, ErrorKind, Seek, SeekFrom, Write};
 
-// Of a log that is read part by part: the next part is due; a row was the last; or the log can't be read as it was before, which is told.
+// Why a log has no answer: the system says what is wrong with it; it can't be read twice; or it isn't as long the second time as it was the first.
 #[derive(Drop)]
-enum Going {
-    On,
-    Stopped,
-    Unread,
+enum NoAnswer {
+    Failed(Error),
+    ReadOnce,
+    Shorter,
+    Longer,
 }
 
-// Where the parts have led.
-#[derive(Drop)]
-struct Reached {
-    going: Going,
-    replayed: Replayed,
+impl From<Error> for NoAnswer {
+    fn from(why: Error) -> NoAnswer {
+        NoAnswer::Failed(why)
+    }
+}
+
+// How many rows a log has, how many of them come before the stop, and the stop.
+#[derive(Clone, Copy)]
+struct Answer {
+    all: u64,
+    rows: u64,
+    stop: Stop,
+}
+
+// The answer of a settings file, a case or a log that is refused.
+fn refused(r: Refusal) -> Answer {
+    Answer {
+        all: 0,
+        rows: 0,
+        stop: Stop::Refused(r),
+    }
 }
 
 // What the system says went wrong with a file.
@@ -37,6 +55,7 @@ fn tell(rt: &HostRuntime, what: &[u8], why: Error) {
     arguments::tell(rt, &mut rt.stderr(), b"replay", what, why);
 }
 
+// What went wrong with a file where the system says nothing. Its path is bytes, so no format writes it.
 fn write_of(rt: &HostRuntime, path: &[u8], what: &[u8]) -> io::Result<()> {
     let mut err = rt.stderr();
     err.write_all(b"replay: ")?;
@@ -44,238 +63,184 @@ fn write_of(rt: &HostRuntime, path: &[u8], what: &[u8]) -> io::Result<()> {
     err.write_all(what)
 }
 
-// What went wrong with a file where the system says nothing.
-fn tell_of(rt: &HostRuntime, path: &[u8], what: &[u8]) {
+fn tell_no_answer(rt: &HostRuntime, path: &[u8], why: NoAnswer) {
+    let what: &[u8] = match why {
+        NoAnswer::Failed(e) => return tell(rt, path, e),
+        NoAnswer::ReadOnce => b" can't be read twice, as a log is\n",
+        NoAnswer::Shorter => b" became shorter while it was read\n",
+        NoAnswer::Longer => b" became longer while it was read\n",
+    };
     let _ = write_of(rt, path, what);
 }
 
-fn write_answer(rt: &HostRuntime, all: u64, k: u64, stop: Stop) {
+fn write_answer(rt: &HostRuntime, a: Answer) {
     let mut out = [0u8; 128];
-    let n = case_replay::answer_text(all, k, stop, &mut out);
+    let n = case_replay::answer_text(a.all, a.rows, a.stop, &mut out);
     if let Err(e) = Print::write_all(rt, &out[..n]) {
         tell(rt, b"standard output", e);
     }
 }
 
-fn write_refusal(rt: &HostRuntime, number: u64, place: usize) {
-    write_answer(rt, 0, 0, Stop::Refused { number, place });
-}
-
-fn going_after(stop: &Stop) -> Going {
-    match stop {
-        Stop::Agreed => Going::On,
-        _ => Going::Stopped,
-    }
-}
-
-fn is_on(r: &Reached) -> bool {
-    match r.going {
-        Going::On => true,
-        _ => false,
-    }
-}
-
-// The first pass: how long the log is, if it can be read, which 12 and 13 ask before any row is looked at. The turns only bound the loop: no file uses them
-// up.
+// The first pass: how long the log is, if it can be read, which 12 and 13 ask before any row is looked at. The bound on the parts is beyond any file.
 fn size_of(log: &mut File) -> io::Result<u64>
     ensures { IfOk result (λ bytes. bytes < 2 ^ 63) }
 {
-    let mut space = [0u8; 65536];
-    let buf: &mut [u8] = &mut space;
-    let mut bytes: u64 = 0;
-    let mut turns: u64 = 0;
-    while turns < 100000000000000 {
-        let got = read_input(log, buf);
-        if let Some(e) = got.why {
-            return Err(e);
+    let mut part = [0u8; 65536];
+    for before in 0..100000000000000u64 {
+        let n = read_full(log, &mut part)?;
+        if n < 65536 {
+            return Ok(before * 65536 + n as u64);
         }
-        bytes += got.length as u64;
-        if got.length < buf.len() {
-            return Ok(bytes);
-        }
-        turns += 1;
     }
     Err(Error::from(ErrorKind::FileTooLarge))
 }
 
+// Back to the start of the log, for the second pass.
+fn rewind(log: &mut File) -> Result<(), NoAnswer> {
+    match log.seek(SeekFrom::Start(0)) {
+        Ok(0) => Ok(()),
+        _ => Err(NoAnswer::ReadOnce),
+    }
+}
+
 // One part of the second pass, before which there are so many rows. The part is as long as its rows.
 fn replay_part(
-    rt: &HostRuntime,
     log: &mut File,
-    path: &[u8],
     part: &mut [u8],
     before: usize,
     s: State,
     base: u64,
     mem: &mut [u8],
-) -> Reached
+) -> Result<Replayed, NoAnswer>
     requires part_bound { before + length part.old / 48 < 2 ^ 64 }
     requires part_len { (length part.old % 48 ≡ 0) × (0 < length part.old) }
 {
-    let got = read_input(log, part);
-    if got.length < part.len() {
-        match got.why {
-            Some(e) => tell(rt, path, e),
-            None => tell_of(rt, path, b" became shorter while it was read\n"),
-        }
-        let stop = Stop::Agreed;
-        let replayed = Replayed {
-            stop,
-            rows: before,
-            state: s,
-        };
-        return Reached {
-            going: Going::Unread,
-            replayed,
-        };
+    let n = read_full(log, part)?;
+    if n < part.len() {
+        return Err(NoAnswer::Shorter);
     }
-    let replayed = case_replay::replay_next(before, s, base, mem, part);
-    let going = going_after(&replayed.stop);
-    Reached { going, replayed }
+    Ok(case_replay::replay_next(before, s, base, mem, part))
 }
 
-fn least(a: usize, b: usize) -> usize
-    ensures { result ≡ min a b }
-{
-    if a < b { a } else { b }
-}
-
-// Where all rows agreed, the log has to end here, as it did in the first pass.
-fn conclude(rt: &HostRuntime, log: &mut File, path: &[u8], all: usize, r: Reached) {
-    let replayed = r.replayed;
-    let stop = replayed.stop;
-    let k = replayed.rows as u64;
-    let going = r.going;
-    match going {
-        Going::Unread => {}
-        Going::Stopped => write_answer(rt, all as u64, k, stop),
-        Going::On => {
-            let mut space = [0u8; 1];
-            let got = read_input(log, &mut space);
-            if let Some(e) = got.why {
-                tell(rt, path, e);
-                return;
-            }
-            if got.length != 0 {
-                tell_of(rt, path, b" became longer while it was read\n");
-                return;
-            }
-            write_answer(rt, all as u64, k, stop);
-        }
+// The log has to end here, as it did in the first pass.
+fn expect_end(log: &mut File) -> Result<(), NoAnswer> {
+    let mut space = [0u8; 1];
+    match read_full(log, &mut space)? {
+        0 => Ok(()),
+        _ => Err(NoAnswer::Longer),
     }
 }
 
 // The second pass: all rows of the log, in parts of 1,365 rows, 65,520 bytes.
 fn replay_parts(
-    rt: &HostRuntime,
     log: &mut File,
-    path: &[u8],
     s: State,
     base: u64,
     mem: &mut [u8],
     all: usize,
-) {
-    let mut space = [0u8; 65536];
-    let buf: &mut [u8] = &mut space;
-    let stop = Stop::Agreed;
-    let replayed = Replayed {
-        stop,
+) -> Result<Replayed, NoAnswer> {
+    let mut space = [0u8; 65520];
+    let mut r = Replayed {
+        stop: Stop::Agreed,
         rows: 0,
         state: s,
     };
-    let mut r = Reached {
-        going: Going::On,
-        replayed,
-    };
-    let mut left = all;
-    while 0 < left && is_on(&r) {
-        let want = least(left, 1365);
-        let so_far = r.replayed;
-        let state = so_far.state;
-        let part = &mut buf[..want * 48];
-        r = replay_part(rt, log, path, part, all - left, state, base, mem);
-        left -= want;
+    for i in 0..all.div_ceil(1365) {
+        let before = 1365 * i;
+        let want = (all - before).min(1365);
+        r = replay_part(log, &mut space[..48 * want], before, r.state, base, mem)?;
+        if !matches!(r.stop, Stop::Agreed) {
+            return Ok(r);
+        }
     }
-    conclude(rt, log, path, all, r);
+    expect_end(log)?;
+    Ok(r)
 }
 
-// Refusals 12 and 13, then the rows.
-fn replay_log(
-    rt: &HostRuntime,
-    log: &mut File,
-    path: &[u8],
-    s: State,
-    base: u64,
-    mem: &mut [u8],
-    bytes: u64,
-) {
+// The case that a file is, where 7 to 11 don't refuse it, and 12 and 13 don't refuse a log of so many bytes.
+fn accepted_case(board: Board, file: &[u8], bytes: u64) -> Result<Case, Refusal>
+    requires { BoardRules board }
+    ensures { IfOk result (λ c. (c.memory ≤ c.events) × (c.events ≤ length file.now)) }
+{
+    let c = casefile::read_case_on(board, file)?;
     if bytes % 48 != 0 {
-        write_refusal(rt, 12, 0);
-        return;
+        return Err(Refusal {
+            number: 12,
+            place: 0,
+        });
     }
     if bytes == 0 {
-        write_refusal(rt, 13, 0);
-        return;
+        return Err(Refusal {
+            number: 13,
+            place: 0,
+        });
     }
-    replay_parts(rt, log, path, s, base, mem, (bytes / 48) as usize);
+    Ok(c)
 }
 
-// Refusals 7 to 11 come first.
+// A log of so many bytes, read from its start, on the case that a file is.
 fn replay_file(
-    rt: &HostRuntime,
     board: Board,
     file: &mut [u8],
     log: &mut File,
-    path: &[u8],
     bytes: u64,
-)
+) -> Result<Answer, NoAnswer>
     requires { BoardRules board }
 {
-    let c = casefile::read_case_on(board, file);
-    let found = c.found;
-    let base = c.base;
-    let s = c.state;
-    match found {
-        Found::Refused { number, place } => write_refusal(rt, number as u64, place),
-        Found::Bodies { memory, events } => {
-            replay_log(rt, log, path, s, base, &mut file[memory..events], bytes)
-        }
-    }
+    let c = match accepted_case(board, file, bytes) {
+        Ok(c) => c,
+        Err(r) => return Ok(refused(r)),
+    };
+    let all = bytes / 48;
+    let memory = &mut file[c.memory..c.events];
+    let r = replay_parts(log, c.state, c.base, memory, all as usize)?;
+    Ok(Answer {
+        all,
+        rows: r.rows as u64,
+        stop: r.stop,
+    })
 }
 
 // The log is read twice, from its start.
-fn read_log(rt: &HostRuntime, board: Board, file: &mut [u8], log: &mut File, path: &[u8])
+fn replay_log(
+    rt: &HostRuntime,
+    board: Board,
+    file: &mut [u8],
+    path: &[u8],
+) -> Result<Answer, NoAnswer>
     requires { BoardRules board }
 {
-    match size_of(log) {
-        Ok(bytes) => match log.seek(SeekFrom::Start(0)) {
-            Ok(0) => replay_file(rt, board, file, log, path, bytes),
-            _ => tell_of(rt, path, b" can't be read twice, as a log is\n"),
-        },
-        Err(e) => tell(rt, path, e),
-    }
+    let mut log = open_file(rt, path)?;
+    let bytes = size_of(&mut log)?;
+    rewind(&mut log)?;
+    replay_file(board, file, &mut log, bytes)
 }
 
-fn open_log(rt: &HostRuntime, board: Board, file: &mut [u8], path: &[u8])
-    requires { BoardRules board }
-{
-    match open_file(rt, path) {
-        Ok(mut log) => read_log(rt, board, file, &mut log, path),
-        Err(e) => tell(rt, path, e),
-    }
-}
-
-fn open_case(rt: &HostRuntime, board: Board, case: &[u8], log: &[u8])
+fn replay_files(rt: &HostRuntime, board: Board, case: &[u8], log: &[u8])
     requires { BoardRules board }
 {
     // one byte more than a case may have, so that a longer file is seen to be longer
     let mut space = [0u8; 65537];
-    let got = read_file(rt, &mut rt.stderr(), b"replay", case, &mut space);
-    if got.failed {
+    let Some(n) = read_file(rt, &mut rt.stderr(), b"replay", case, &mut space) else {
         return;
+    };
+    match replay_log(rt, board, &mut space[..n], log) {
+        Ok(a) => write_answer(rt, a),
+        Err(why) => tell_no_answer(rt, log, why),
     }
-    let n = got.length;
-    open_log(rt, board, &mut space[..n], log);
+}
+
+// Puts an argument at the start of buf: how many bytes it has. One that can't be had is told of.
+fn path_of(rt: &HostRuntime, i: usize, name: &[u8], buf: &mut [u8]) -> Option<usize>
+    ensures { IfSome result (λ n. n ≤ length buf.new) }
+{
+    match text_of(rt, i, buf) {
+        Ok(n) => Some(n),
+        Err(e) => {
+            tell(rt, name, e);
+            None
+        }
+    }
 }
 
 // Replays the log that the arguments name.
@@ -283,41 +248,32 @@ fn run(rt: &HostRuntime, board: Board)
     requires { BoardRules board }
 {
     let mut case = [0u8; 4096];
-    let n = match text_of(rt, 1, &mut case) {
-        Ok(n) => n,
-        Err(e) => {
-            tell(rt, b"CASE", e);
-            return;
-        }
+    let Some(n) = path_of(rt, 1, b"CASE", &mut case) else {
+        return;
     };
     let mut log = [0u8; 4096];
-    let m = match text_of(rt, 2, &mut log) {
-        Ok(m) => m,
-        Err(e) => {
-            tell(rt, b"LOG", e);
-            return;
-        }
+    let Some(m) = path_of(rt, 2, b"LOG", &mut log) else {
+        return;
     };
-    open_case(rt, board, &case[..n], &log[..m]);
+    replay_files(rt, board, &case[..n], &log[..m]);
 }
 
 // Where the settings file is refused, neither the case nor the log is read.
 fn run_on_board(rt: &HostRuntime) {
     match board_choice::chosen(rt, &mut rt.stderr(), b"replay", 3, 4) {
-        Choice::Told => {}
-        Choice::Refused { number, place } => write_refusal(rt, number as u64, place),
-        Choice::Chosen(board) => run(rt, board),
+        Ok(board) => run(rt, board),
+        Err(NoBoard::Refused(r)) => write_answer(rt, refused(r)),
+        Err(NoBoard::Told) => {}
     }
 }
 
+#[tactic(auto, using(settings::proofs::SettingsLaws::default_board_allowed))]
 fn main(rt: HostRuntime) {
     if is_given(&rt, 2) && !is_given(&rt, 3) {
         run(&rt, settings::default_board());
-        return;
-    }
-    if is_given(&rt, 4) && !is_given(&rt, 5) {
+    } else if is_given(&rt, 4) && !is_given(&rt, 5) {
         run_on_board(&rt);
-        return;
+    } else {
+        let _ = eprintln!(rt; "use: replay CASE LOG [SETTINGS BOARD]");
     }
-    let _ = eprintln!(rt; "use: replay CASE LOG [SETTINGS BOARD]");
 }

@@ -5,6 +5,7 @@ use mathlib.Core.List.{List}
 use Prim.Native.Nat.{ℕ, zero, suc, ◌/◌, ◌%◌, ◌<◌}
 use lib.Dec.{eqb}
 use lib.ListN.{length, take, drop}
+use Rattle.std.specs.Prelude.{Option, None, Some, Ok, Err}
 use Rattle.word.proofs.TestLaws.{bool_cases}
 use Rattle.reserve.specs.Range.{inside_of}
 use Rattle.settings.specs.Settings.{xlen_of}
@@ -23,22 +24,18 @@ use Rattle.model.proofs.Agree.{refusal_agree, alike_next}
 use Rattle.model.proofs.Frame.{count_next, shaped_next}
 use Rattle.steplog.specs.Row.{reading_of}
 use Rattle.steplog.specs.declared.Row.{Row}
-use Rattle.steplog.specs.declared.Reading.{Reading}
-use Rattle.steplog.specs.declared.Reading.TheVariants.{Form, Read}
 use Rattle.reach.specs.Rd.{shown_rd}
-use Rattle.rows.specs.Row.{pc_at, word_at, fetchable, rd_at, value_after, told_by, told_by_word, told_by_pc, told_of, stepped}
+use Rattle.rows.specs.Row.{Told, pc_at, word_at, fetchable, rd_at, value_after, told_by, told_by_word, told_by_pc, told_of, stepped}
 use Rattle.rows.specs.Replay.{readings, End, end_by, end_of, ended, refused_replay, replay_of}
-use Rattle.rows.specs.declared.Told.{Told}
-use Rattle.rows.specs.declared.Told.TheVariants.{Agrees, Stops}
 use Rattle.rows.specs.declared.Stop.TheVariants as S
+use Rattle.rows.proofs.ReplayLaws.{count_stepped}
 use Rattle.replay_words.specs.Alike.{AlikeReplays}
 use Rattle.replay_words.proofs.RowWords.{Counted, counted}
-use Rattle.replay_words.proofs.LogWords.{count_stepped}
 
 -- what is told of a row, by what the model has for it
 abbrev told : Row → ℕ → Bool → ℕ → Outcome → ℕ → ℕ → Told
 told r pc fetched word o d v =
-    cond (eqb r.pc pc) (cond (fetched && not (eqb r.word word)) (Stops (S.Word r.word word)) (told_by o r d v)) (Stops (S.Pc r.pc pc))
+    cond (eqb r.pc pc) (cond (fetched && not (eqb r.word word)) (Err (S.Word r.word word)) (told_by o r d v)) (Err (S.Pc r.pc pc))
 
 module _ (base : ℕ) (m n : Machine) (p : Shaped m.state) (q : Shaped n.state) (a : Alike m n) where
   module _ (r : Row) (l : r.hart < m.state.count) where
@@ -72,21 +69,21 @@ module _ (base : ℕ) (m n : Machine) (p : Shaped m.state) (q : Shaped n.state) 
         (ap (λ (y : Reply). y.outcome) (alike_next base m n p q a (Step h)).0)
         ∙ ap₂ (λ (d v : ℕ). told r (pc_at base n h) (fetchable base n h) (word_at base n h) (outcome_at base n (Step h)) d v) same_rd same_value
 
-  told_alike : (read : Reading) → Counted m.state.count read → told_of base m read ≡ told_of base n read
+  told_alike : (read : Option Row) → Counted m.state.count read → told_of base m read ≡ told_of base n read
   unfolding told_of
-  told_alike Form l = refl
-  told_alike (Read r) l = row_alike r l
+  told_alike None l = refl
+  told_alike (Some r) l = row_alike r l
 
   -- the machines after the row
-  stepped_alike : (read : Reading) → Alike (stepped base m read) (stepped base n read)
+  stepped_alike : (read : Option Row) → Alike (stepped base m read) (stepped base n read)
   unfolding stepped
-  stepped_alike Form = a
-  stepped_alike (Read r) = (alike_next base m n p q a (Step r.hart)).1
+  stepped_alike None = a
+  stepped_alike (Some r) = (alike_next base m n p q a (Step r.hart)).1
 
-shaped_stepped : (base : ℕ) (m : Machine) → Shaped m.state → (read : Reading) → Shaped (stepped base m read).state
+shaped_stepped : (base : ℕ) (m : Machine) → Shaped m.state → (read : Option Row) → Shaped (stepped base m read).state
 unfolding stepped
-shaped_stepped base m p Form = p
-shaped_stepped base m p (Read r) = shaped_next base m (Step r.hart) p
+shaped_stepped base m p None = p
+shaped_stepped base m p (Some r) = shaped_next base m (Step r.hart) p
 
 -- where rows end
 pub record EndAlike (d e : End) : Type 0 where
@@ -95,8 +92,8 @@ pub record EndAlike (d e : End) : Type 0 where
   pub machines : Alike d.machine e.machine
 
 one_more : (t : Told) (m n : Machine) → Alike m n → (d e : End) → EndAlike d e → EndAlike (end_by t m d) (end_by t n e)
-one_more Agrees m n a d e x = record { stop = x.stop; rows = ap suc x.rows; machines = x.machines }
-one_more (Stops s) m n a d e x = record { stop = refl; rows = refl; machines = a }
+one_more (Ok u) m n a d e x = record { stop = x.stop; rows = ap suc x.rows; machines = x.machines }
+one_more (Err s) m n a d e x = record { stop = refl; rows = refl; machines = a }
 
 end_alike : (base count k : ℕ) (log : List ℕ) (m n : Machine) → count ≡ m.state.count → Shaped m.state → Shaped n.state → Alike m n
     → EndAlike (end_of base m (readings count k log)) (end_of base n (readings count k log))

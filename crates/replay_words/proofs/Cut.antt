@@ -8,6 +8,7 @@ use native.Mathlib.Omega.{arith}
 use lib.Dec.{eqb}
 use lib.ListN.{length, take, drop, length-append, length-drop}
 use lib.Seq.{take-append-le, drop-append-le}
+use Rattle.std.specs.Prelude.{Option, None, Some, Ok, Err}
 use Rattle.word.proofs.ChooseLaws.{cond_all}
 use Rattle.machine.specs.declared.State.{State}
 use Rattle.events.specs.declared.Event.TheVariants.{Step}
@@ -17,12 +18,8 @@ use Rattle.model.specs.declared.Outcome.{Outcome}
 use Rattle.model.specs.declared.Outcome.TheVariants as O
 use Rattle.steplog.specs.Row.{reading_of}
 use Rattle.steplog.specs.declared.Row.{Row}
-use Rattle.steplog.specs.declared.Reading.{Reading}
-use Rattle.steplog.specs.declared.Reading.TheVariants.{Form, Read}
-use Rattle.rows.specs.Row.{pc_at, word_at, fetchable, rd_at, value_after, told_as, told_by, told_by_step, told_by_word, told_by_pc, told_of, stepped}
+use Rattle.rows.specs.Row.{Told, pc_at, word_at, fetchable, rd_at, value_after, told_as, told_by, told_by_step, told_by_word, told_by_pc, told_of, stepped}
 use Rattle.rows.specs.Replay.{readings, End, end_by, end_of, Result, ended, replay_of, joined}
-use Rattle.rows.specs.declared.Told.{Told}
-use Rattle.rows.specs.declared.Told.TheVariants.{Agrees, Stops}
 use Rattle.rows.specs.declared.Stop.{Stop}
 use Rattle.rows.specs.declared.Stop.TheVariants as S
 use Rattle.rows.proofs.ReplayLaws.{further, further_none}
@@ -34,15 +31,15 @@ use Rattle.replay_words.proofs.ReplayWords.{replays, agreed_as, after_count, sto
 -- ---- no row stops a replay by saying that all agreed
 
 abbrev pub Other : Told → Type 0
-Other Agrees = Unit {0}
-Other (Stops s) = stop_number s ≡ 0 → ⊥
+Other (Ok x) = Unit {0}
+Other (Err s) = stop_number s ≡ 0 → ⊥
 
 -- a test with such a stop on one side
-else_stops : (t : Bool) (x : Told) (s : Stop) → Other x → stop_number s ≡ 1 → Other (cond t x (Stops s))
-else_stops t x s p e = cond_all Other t x (Stops s) p (λ z. omega arith)
+else_stops : (t : Bool) (x : Told) (s : Stop) → Other x → stop_number s ≡ 1 → Other (cond t x (Err s))
+else_stops t x s p e = cond_all Other t x (Err s) p (λ z. omega arith)
 
-then_stops : (t : Bool) (x : Told) (s : Stop) → Other x → stop_number s ≡ 1 → Other (cond t (Stops s) x)
-then_stops t x s p e = cond_all Other t (Stops s) x (λ z. omega arith) p
+then_stops : (t : Bool) (x : Told) (s : Stop) → Other x → stop_number s ≡ 1 → Other (cond t (Err s) x)
+then_stops t x s p e = cond_all Other t (Err s) x (λ z. omega arith) p
 
 module _ (base : ℕ) (m : Machine) (r : Row) where
   abbrev h : ℕ
@@ -50,7 +47,7 @@ module _ (base : ℕ) (m : Machine) (r : Row) where
 
   other_shown : (d v : ℕ) → Other (told_as r d v)
   unfolding told_as
-  other_shown d v = else_stops (eqb r.rd d) _ (S.Rd r.rd d) (else_stops (eqb r.value v) Agrees (S.Value r.value v) tt refl) refl
+  other_shown d v = else_stops (eqb r.rd d) _ (S.Rd r.rd d) (else_stops (eqb r.value v) (Ok tt) (S.Value r.value v) tt refl) refl
 
   other_outcome : (o : Outcome) (d v : ℕ) → Other (told_by o r d v)
   unfolding told_by
@@ -70,14 +67,14 @@ module _ (base : ℕ) (m : Machine) (r : Row) where
   unfolding told_by_pc
   other_pc_lem = else_stops (eqb r.pc (pc_at base m h)) (told_by_word base m r) (S.Pc r.pc (pc_at base m h)) other_word_lem refl
 
-pub other : (base : ℕ) (m : Machine) (read : Reading) → Other (told_of base m read)
+pub other : (base : ℕ) (m : Machine) (read : Option Row) → Other (told_of base m read)
 unfolding told_of
-other base m Form = λ z. omega arith
-other base m (Read r) = other_pc_lem base m r
+other base m None = λ z. omega arith
+other base m (Some r) = other_pc_lem base m r
 
 -- ---- rows, and more rows
 
-end_append : (base : ℕ) (m : Machine) (rs more : List Reading) → (end_of base m rs).stop ≡ S.Agreed
+end_append : (base : ℕ) (m : Machine) (rs more : List (Option Row)) → (end_of base m rs).stop ≡ S.Agreed
     → end_of base m (rs ++ more) ≡ further (end_of base m rs).rows (end_of base (end_of base m rs).machine more)
 unfolding end_of
 end_append base m [] more e = sym (further_none (end_of base m more))
@@ -92,15 +89,15 @@ end_append base m (r ∷ rs) more e = go (told_of base m r) (other base m r) (λ
         → (end_by t m (end_of base next rs)).stop ≡ S.Agreed
         → end_by t m (end_of base next (rs ++ more))
         ≡ further (end_by t m (end_of base next rs)).rows (end_of base (end_by t m (end_of base next rs)).machine more)
-    go Agrees o rest e =
+    go (Ok x) o rest e =
         let x = end_of base next rs in
         let y = end_of base x.machine more in
         let count : suc (x.rows + y.rows) ≡ suc x.rows + y.rows = omega arith in
-        ap (end_by Agrees m) (rest e) ∙ ap (λ (k : ℕ). record { stop = y.stop; rows = k; machine = y.machine }) count
-    go (Stops s) o rest e = absurd (o (ap stop_number e))
+        ap (end_by (Ok tt) m) (rest e) ∙ ap (λ (k : ℕ). record { stop = y.stop; rows = k; machine = y.machine }) count
+    go (Err s) o rest e = absurd (o (ap stop_number e))
 
 -- rows that stop are told alike with more rows behind them
-end_stop_append : (base : ℕ) (m : Machine) (rs more : List Reading) → ((end_of base m rs).stop ≡ S.Agreed → ⊥)
+end_stop_append : (base : ℕ) (m : Machine) (rs more : List (Option Row)) → ((end_of base m rs).stop ≡ S.Agreed → ⊥)
     → end_of base m (rs ++ more) ≡ end_of base m rs
 unfolding end_of
 end_stop_append base m [] more n = absurd (n refl)
@@ -111,8 +108,8 @@ end_stop_append base m (r ∷ rs) more n = go (told_of base m r) (λ x. end_stop
 
     go : (t : Told) → (((end_of base next rs).stop ≡ S.Agreed → ⊥) → end_of base next (rs ++ more) ≡ end_of base next rs)
         → ((end_by t m (end_of base next rs)).stop ≡ S.Agreed → ⊥) → end_by t m (end_of base next (rs ++ more)) ≡ end_by t m (end_of base next rs)
-    go Agrees rest x = ap (end_by Agrees m) (rest x)
-    go (Stops s) rest x = refl
+    go (Ok u) rest x = ap (end_by (Ok tt) m) (rest x)
+    go (Err s) rest x = refl
 
 readings-append : (count n more : ℕ) (a b : List ℕ) → length a ≡ n * 48
     → readings count (n + more) (a ++ b) ≡ readings count n a ++ readings count more b
@@ -124,7 +121,7 @@ readings-append count (suc n) more a b e =
     let back : drop 48 (a ++ b) ≡ drop 48 a ++ b = drop-append-le 48 a b (omega arith) in
     let left : length (drop 48 a) ≡ n * 48 = length-drop 48 a ∙ omega arith in
     let all : suc n + more ≡ suc (n + more) = omega arith in
-    rw (all, front, back) (ap (λ (l : List Reading). reading_of count (take 48 a) ∷ l) (readings-append count n more (drop 48 a) b left))
+    rw (all, front, back) (ap (λ (l : List (Option Row)). reading_of count (take 48 a) ∷ l) (readings-append count n more (drop 48 a) b left))
 
 -- ---- a log and its parts
 
@@ -152,7 +149,7 @@ module _ (base : ℕ) (mem : List ℕ) (s : State) (a b : List ℕ) where
       let fits : length a ≡ n * 48 = omega (arith, ok.whole) in
       replays base mem s (a ++ b) (record { memory = ok.memory; state = ok.state; whole = size; some = more })
       ∙ ap (λ (k : ℕ). ended (end_of base start (readings s.count k (a ++ b)))) rows
-      ∙ ap (λ (l : List Reading). ended (end_of base start l)) (readings-append s.count n (length b / 48) a b fits)
+      ∙ ap (λ (l : List (Option Row)). ended (end_of base start l)) (readings-append s.count n (length b / 48) a b fits)
 
   -- Where the first part stops at a row, the whole is told as that part is, whatever rows are behind it.
   module _ (o : OfRow first.replayed.stop) (whole : length b % 48 ≡ 0) where

@@ -6,30 +6,20 @@ use Prim.Native.Nat.{ℕ, zero, suc, ◌+◌, ◌*◌, ◌<◌, ◌≤◌}
 use native.Mathlib.Omega.{arith}
 use lib.ListN.{drop}
 use lib.Seq.{drop-drop}
+use Rattle.std.specs.Prelude.{Option, None, Some, Ok, Err}
 use Rattle.word.specs.Memory.{part}
 use Rattle.word.proofs.WordLaws.{split_lt}
-use Rattle.events.specs.declared.Event.TheVariants.{Step}
 use Rattle.model.specs.Perform.{Machine}
 use Rattle.model.specs.Valid.{Valid}
-use Rattle.model.proofs.Frame.{count_next}
 use Rattle.steplog.specs.Row.{reading_of}
 use Rattle.steplog.specs.declared.Row.{Row}
-use Rattle.steplog.specs.declared.Reading.{Reading}
-use Rattle.steplog.specs.declared.Reading.TheVariants.{Form, Read}
-use Rattle.rows.specs.Row.{told_of, stepped}
+use Rattle.rows.specs.Row.{Told, told_of, stepped}
 use Rattle.rows.specs.Replay.{readings, End, end_by, end_of}
-use Rattle.rows.specs.declared.Told.{Told}
-use Rattle.rows.specs.declared.Told.TheVariants.{Agrees, Stops}
 use Rattle.rows.specs.declared.Stop.{Stop}
 use Rattle.rows.specs.declared.Stop.TheVariants as S
-use Rattle.rows.proofs.ReplayLaws.{valid_stepped}
+use Rattle.rows.proofs.ReplayLaws.{valid_stepped, count_stepped}
 use Rattle.replay_words.specs.Reasons.{Reason, other_pc, other_word, trapped, other_rd, other_value, row_bytes}
 use Rattle.replay_words.proofs.RowWords.{AgreesAs, StopsAs, Counted, told_agreeing, told_stopping, either}
-
-pub count_stepped : (base : ℕ) (m : Machine) (read : Reading) → (stepped base m read).state.count ≡ m.state.count
-unfolding stepped
-count_stepped base m Form = refl
-count_stepped base m (Read r) = count_next base m (Step r.hart)
 
 -- no reason says that all agreed
 abbrev pub stop_number : Stop → ℕ
@@ -40,7 +30,7 @@ stop_number (S.Word board model) = 1
 stop_number (S.Trap cause value) = 1
 stop_number (S.Rd board model) = 1
 stop_number (S.Value board model) = 1
-stop_number (S.Refused number place) = 2
+stop_number (S.Refused r) = 2
 
 reason_number : (base : ℕ) (m : Machine) (r : Row) (place : ℕ) (s : Stop) → Reason base m r place s → stop_number s ≡ 1
 reason_number base m r place s (other_pc e q d) = ap stop_number q
@@ -49,27 +39,27 @@ reason_number base m r place s (trapped cause value e q t) = ap stop_number q
 reason_number base m r place s (other_rd e q d) = ap stop_number q
 reason_number base m r place s (other_value e q d) = ap stop_number q
 
-pub stopping_number : (base : ℕ) (m : Machine) (read : Reading) (s : Stop) → StopsAs base m read s → stop_number s ≡ 1
-stopping_number base m Form s e = ap stop_number e
-stopping_number base m (Read r) s f = reason_number base m r f.place s f.applies
+pub stopping_number : (base : ℕ) (m : Machine) (read : Option Row) (s : Stop) → StopsAs base m read s → stop_number s ≡ 1
+stopping_number base m None s e = ap stop_number e
+stopping_number base m (Some r) s f = reason_number base m r f.place s f.applies
 
 -- ---- the rows of a log, by their numbers
 
 -- row k of a log as it reads
-abbrev pub read_at : ℕ → List ℕ → ℕ → Reading
+abbrev pub read_at : ℕ → List ℕ → ℕ → Option Row
 read_at count log k = reading_of count (row_bytes log k)
 
 -- the machine after the first k rows: row by row its hart has stepped
-unfoldable pub after_rows : ℕ → Machine → (ℕ → Reading) → ℕ → Machine
+unfoldable pub after_rows : ℕ → Machine → (ℕ → Option Row) → ℕ → Machine
 after_rows base m row zero = m
 after_rows base m row (suc k) = stepped base (after_rows base m row k) (row k)
 
 -- each of the first k rows agrees with the machine that the rows before it left
-abbrev pub AgreeBefore : ℕ → Machine → (ℕ → Reading) → ℕ → Type 0
+abbrev pub AgreeBefore : ℕ → Machine → (ℕ → Option Row) → ℕ → Type 0
 AgreeBefore base m row k = (j : ℕ) → j < k → AgreesAs base (after_rows base m row j) (row j)
 
 -- n rows from row i on
-unfoldable pub rows_from : (ℕ → Reading) → ℕ → ℕ → List Reading
+unfoldable pub rows_from : (ℕ → Option Row) → ℕ → ℕ → List (Option Row)
 rows_from row i zero = []
 rows_from row i (suc n) = row i ∷ rows_from row (suc i) n
 
@@ -79,11 +69,11 @@ rows_are count log i zero = refl
 rows_are count log i (suc n) =
     let next : i * 48 + 48 ≡ suc i * 48 = omega arith in
     let tail = ap (readings count n) (drop-drop 48 (i * 48) log ∙ ap (λ (k : ℕ). drop k log) next) ∙ rows_are count log (suc i) n in
-    ap (λ (l : List Reading). read_at count log i ∷ l) tail
+    ap (λ (l : List (Option Row)). read_at count log i ∷ l) tail
 
 -- ---- where they end
 
-module _ (base : ℕ) (m : Machine) (v : Valid base m) (row : ℕ → Reading) (l : (j : ℕ) → Counted m.state.count (row j)) where
+module _ (base : ℕ) (m : Machine) (v : Valid base m) (row : ℕ → Option Row) (l : (j : ℕ) → Counted m.state.count (row j)) where
   -- the machine before row j
   abbrev pub at : ℕ → Machine
   at j = after_rows base m row j
@@ -101,10 +91,10 @@ module _ (base : ℕ) (m : Machine) (v : Valid base m) (row : ℕ → Reading) (
   counted_at : (j : ℕ) → Counted (at j).state.count (row j)
   counted_at j = subst (λ (k : ℕ). Counted k (row j)) (sym (count_at j)) (l j)
 
-  agrees_at : (j : ℕ) → AgreesAs base (at j) (row j) → told_of base (at j) (row j) ≡ Agrees
+  agrees_at : (j : ℕ) → AgreesAs base (at j) (row j) → told_of base (at j) (row j) ≡ Ok tt
   agrees_at j a = told_agreeing base (at j) (valid_at j) (row j) (counted_at j) a
 
-  stops_at : (j : ℕ) (s : Stop) → StopsAs base (at j) (row j) s → told_of base (at j) (row j) ≡ Stops s
+  stops_at : (j : ℕ) (s : Stop) → StopsAs base (at j) (row j) s → told_of base (at j) (row j) ≡ Err s
   stops_at j s f = told_stopping base (at j) (valid_at j) (row j) (counted_at j) s f
 
   -- each of the k rows from row i on agrees
@@ -122,7 +112,7 @@ module _ (base : ℕ) (m : Machine) (v : Valid base m) (row : ℕ → Reading) (
       let rest = end_agreed (suc i) n (λ j b c. a j (omega arith) (omega arith)) in
       let next : suc i + n ≡ i + suc n = omega arith in
       ap (λ (t : Told). end_by t (at i) (end_of base (stepped base (at i) (row i)) (rows_from row (suc i) n))) here
-      ∙ ap (end_by Agrees (at i)) rest ∙ ap (λ (k : ℕ). end S.Agreed (suc n) (at k)) next
+      ∙ ap (end_by (Ok tt) (at i)) rest ∙ ap (λ (k : ℕ). end S.Agreed (suc n) (at k)) next
 
   end_stopped : (i n k : ℕ) → k < n → Agree i k → (s : Stop) → StopsAs base (at (i + k)) (row (i + k)) s
       → end_of base (at i) (rows_from row i n) ≡ end s k (at (i + k))
@@ -139,7 +129,7 @@ module _ (base : ℕ) (m : Machine) (v : Valid base m) (row : ℕ → Reading) (
       let first = subst (λ (j : ℕ). StopsAs base (at j) (row j) s) next f in
       let rest = end_stopped (suc i) n k (omega arith) (λ j c d. a j (omega arith) (omega arith)) s first in
       ap (λ (t : Told). end_by t (at i) (end_of base (stepped base (at i) (row i)) (rows_from row (suc i) n))) here
-      ∙ ap (end_by Agrees (at i)) rest ∙ ap (λ (j : ℕ). end s (suc k) (at j)) (sym next)
+      ∙ ap (end_by (Ok tt) (at i)) rest ∙ ap (λ (j : ℕ). end s (suc k) (at j)) (sym next)
 
   -- the first row of n that stops, and why
   pub record FirstStop (i n : ℕ) : Type 0 where

@@ -7,8 +7,10 @@ use native.Mathlib.Omega.{arith}
 use lib.Dec.{eqb}
 use lib.ListN.{length}
 use borrow.Author.Tests.{eq-eqb, ne_eqb, eqb-true, eqb-false}
+use Rattle.std.specs.Prelude.{Option, None, Some}
 use Rattle.word.proofs.TestLaws.{bool_cases, not_zero}
 use Rattle.word.proofs.WordLaws.{split_lt}
+use Rattle.refusal.specs.declared.Refusal.{Refusal}
 use Rattle.machine.specs.State.{memory_ok, state_ok, refusal_of}
 use Rattle.machine.specs.Rules.{MemoryRules, StateRules}
 use Rattle.machine.specs.declared.State.{State}
@@ -18,9 +20,7 @@ use Rattle.model.specs.Valid.{Valid}
 use Rattle.events.specs.declared.Event.TheVariants.{Step}
 use Rattle.steplog.specs.Row.{IsRow}
 use Rattle.steplog.specs.declared.Row.{Row}
-use Rattle.steplog.specs.declared.Reading.{Reading}
-use Rattle.steplog.specs.declared.Reading.TheVariants.{Form, Read}
-use Rattle.steplog.proofs.RoundTrip.{form_is_no_row, is_row_lem, no_row_lem}
+use Rattle.steplog.proofs.RoundTrip.{is_row_lem, no_row_lem}
 use Rattle.rows.specs.Row.{stepped}
 use Rattle.rows.specs.Replay.{End, readings, end_of, Result, ended, refused_replay, replay_of}
 use Rattle.rows.specs.declared.Stop.{Stop}
@@ -37,7 +37,7 @@ of_row (S.Word board model) o = refl
 of_row (S.Trap cause value) o = refl
 of_row (S.Rd board model) o = refl
 of_row (S.Value board model) o = refl
-of_row (S.Refused number place) o = absurd o
+of_row (S.Refused r) o = absurd o
 
 row_of : (t : Stop) → stop_number t ≡ 1 → OfRow t
 row_of S.Agreed o = absurd (omega arith)
@@ -47,34 +47,14 @@ row_of (S.Word board model) o = tt
 row_of (S.Trap cause value) o = tt
 row_of (S.Rd board model) o = tt
 row_of (S.Value board model) o = tt
-row_of (S.Refused number place) o = absurd (omega arith)
-
-abbrev place_in : Stop → ℕ
-place_in S.Agreed = 0
-place_in S.Form = 0
-place_in (S.Pc board model) = 0
-place_in (S.Word board model) = 0
-place_in (S.Trap cause value) = 0
-place_in (S.Rd board model) = 0
-place_in (S.Value board model) = 0
-place_in (S.Refused number place) = place
-
-abbrev refusal_in : Stop → ℕ
-refusal_in S.Agreed = 0
-refusal_in S.Form = 0
-refusal_in (S.Pc board model) = 0
-refusal_in (S.Word board model) = 0
-refusal_in (S.Trap cause value) = 0
-refusal_in (S.Rd board model) = 0
-refusal_in (S.Value board model) = 0
-refusal_in (S.Refused number place) = number
+row_of (S.Refused r) o = absurd (omega arith)
 
 module _ (base : ℕ) (mem : List ℕ) (s : State) (log : List ℕ) where
   -- the machine before the first row, the rows, and how many there are
   abbrev start : Machine
   start = record { state = s; mem = mem }
 
-  abbrev row : ℕ → Reading
+  abbrev row : ℕ → Option Row
   row = read_at s.count log
 
   abbrev all : ℕ
@@ -105,10 +85,10 @@ module _ (base : ℕ) (mem : List ℕ) (s : State) (log : List ℕ) where
   refuses number (empty e mr sr n) =
       rw ((refusal_0 base (length mem) s).1 (mr, sr), eq-eqb (length log % 48) 0 (ap (λ (k : ℕ). k % 48) n), eq-eqb (length log) 0 n, e) refl
 
-  abbrev Refusal : Type 0
-  Refusal = (number : ℕ) × RefusedBy base mem s log number
+  abbrev IsRefused : Type 0
+  IsRefused = (number : ℕ) × RefusedBy base mem s log number
 
-  replayable_or_not : Replayable base mem s log ⊎ Refusal
+  replayable_or_not : Replayable base mem s log ⊎ IsRefused
   unfolding refusal_of
   replayable_or_not =
       bool_cases (memory_ok s.settings base (length mem))
@@ -116,7 +96,7 @@ module _ (base : ℕ) (mem : List ℕ) (s : State) (log : List ℕ) where
       (λ f. let p = (refusal_2 base (length mem) s).0 (rw (m, f) refl) in inr (2, state refl p.0 p.1)))
       (λ f. inr (1, memory refl ((refusal_1 base (length mem) s).0 (rw f refl))))
     where
-      by_log : MemoryRules s.settings base (length mem) × StateRules base (length mem) s → Replayable base mem s log ⊎ Refusal
+      by_log : MemoryRules s.settings base (length mem) × StateRules base (length mem) s → Replayable base mem s log ⊎ IsRefused
       by_log p =
           bool_cases (eqb (length log % 48) 0)
           (λ w. bool_cases (eqb (length log) 0) (λ z. inr (13, empty refl p.0 p.1 (eqb-true (length log) 0 z)))
@@ -128,7 +108,7 @@ module _ (base : ℕ) (mem : List ℕ) (s : State) (log : List ℕ) where
 
   module _ (ok : Replayable base mem s log) where
     rows_of_log : r ≡ ended (end_of base start (rows_from row 0 all))
-    rows_of_log = replays ok ∙ ap (λ (l : List Reading). ended (end_of base start l)) (rows_are s.count log 0 all)
+    rows_of_log = replays ok ∙ ap (λ (l : List (Option Row)). ended (end_of base start l)) (rows_are s.count log 0 all)
 
     is_counted : (j : ℕ) → Counted s.count (row j)
     is_counted j = counted s.count _
@@ -165,7 +145,7 @@ module _ (base : ℕ) (mem : List ℕ) (s : State) (log : List ℕ) where
         differ (sym e ∙ stop_in_lem (first_stop ok f.0 f.2 f.3 f.1 f.4)) 0 1 refl (stopping_number base (at f.0) (row f.0) f.1 f.4)
         (λ z. omega arith))
         (one_of_both ok))
-        (λ (n : Refusal). differ (sym e ∙ stop_in_lem (refuses n.0 n.1)) 0 2 refl refl (λ z. omega arith)) replayable_or_not,
+        (λ (n : IsRefused). differ (sym e ∙ stop_in_lem (refuses n.0 n.1)) 0 2 refl refl (λ z. omega arith)) replayable_or_not,
     λ p. stop_in_lem (all_agree p.0 p.1),
   )
 
@@ -188,34 +168,34 @@ module _ (base : ℕ) (mem : List ℕ) (s : State) (log : List ℕ) where
     same_count : (k : ℕ) → (at k).state.count ≡ s.count
     same_count k = count_at base start v row (λ j. counted s.count _) k
 
-    read_is : (k : ℕ) (q : Row) → row k ≡ Read q → IsRow (at k).state.count (bytes k) q
+    read_is : (k : ℕ) (q : Row) → row k ≡ Some q → IsRow (at k).state.count (bytes k) q
     read_is k q e = subst (λ (c : ℕ). IsRow c (bytes k) q) (sym (same_count k)) ((is_row_lem s.count (bytes k) q).0 e)
 
-    is_read : (k : ℕ) (q : Row) → IsRow (at k).state.count (bytes k) q → row k ≡ Read q
+    is_read : (k : ℕ) (q : Row) → IsRow (at k).state.count (bytes k) q → row k ≡ Some q
     is_read k q i = (is_row_lem s.count (bytes k) q).1 (subst (λ (c : ℕ). IsRow c (bytes k) q) (same_count k) i)
 
     stops_words : (k : ℕ) (t : Stop) → StopsAs base (at k) (row k) t → Stopping base (at k) (bytes k) t
     stops_words k t = go (row k) refl
       where
-        go : (q : Reading) → row k ≡ q → StopsAs base (at k) q t → Stopping base (at k) (bytes k) t
-        go Form e f = no_row f (λ x i. form_is_no_row x (sym e ∙ is_read k x i))
-        go (Read x) e f = is_row x (read_is k x e) f
+        go : (q : Option Row) → row k ≡ q → StopsAs base (at k) q t → Stopping base (at k) (bytes k) t
+        go None e f = no_row f (λ x i. let none : None ≡ Some x = sym e ∙ is_read k x i in cc)
+        go (Some x) e f = is_row x (read_is k x e) f
 
     words_stop : (k : ℕ) (t : Stop) → Stopping base (at k) (bytes k) t → StopsAs base (at k) (row k) t
     words_stop k t (no_row e n) =
         let form = (no_row_lem s.count (bytes k)).1 (λ x i. n x (read_is k x ((is_row_lem s.count (bytes k) x).1 i))) in
-        subst (λ (q : Reading). StopsAs base (at k) q t) (sym form) e
-    words_stop k t (is_row x i f) = subst (λ (q : Reading). StopsAs base (at k) q t) (sym (is_read k x i)) f
+        subst (λ (q : Option Row). StopsAs base (at k) q t) (sym form) e
+    words_stop k t (is_row x i f) = subst (λ (q : Option Row). StopsAs base (at k) q t) (sym (is_read k x i)) f
 
     -- a row that agrees, and where its step leads
     one_agrees : (k : ℕ) → AgreesAs base (at k) (row k) → (a : Agreeing base (at k) (bytes k)) × (at (suc k) ≡ next_of base (at k) (Step a.row.hart))
     unfolding after_rows stepped
     one_agrees k = go (row k) refl
       where
-        go : (q : Reading) → row k ≡ q → AgreesAs base (at k) q
+        go : (q : Option Row) → row k ≡ q → AgreesAs base (at k) q
             → (a : Agreeing base (at k) (bytes k)) × (stepped base (at k) (row k) ≡ next_of base (at k) (Step a.row.hart))
-        go Form e a = absurd a
-        go (Read x) e a = (record { row = x; is = read_is k x e; agrees = a }, ap (stepped base (at k)) e)
+        go None e a = absurd a
+        go (Some x) e a = (record { row = x; is = read_is k x e; agrees = a }, ap (stepped base (at k)) e)
 
     agree_to : (k : ℕ) → AgreeBefore base start row k → AgreeTo base start log k (at k)
     unfolding AgreeTo after_rows
@@ -231,7 +211,7 @@ module _ (base : ℕ) (mem : List ℕ) (s : State) (log : List ℕ) where
         let rest = to_agree k here before in
         let x = a.row in
         let is = subst (λ (n : Machine). IsRow n.state.count (bytes k) x) rest.1 a.is in
-        let agrees : AgreesAs base (at k) (Read x) = subst (λ (n : Machine). RowAgrees base n x) rest.1 a.agrees in
+        let agrees : AgreesAs base (at k) (Some x) = subst (λ (n : Machine). RowAgrees base n x) rest.1 a.agrees in
         let last = subst (AgreesAs base (at k)) (sym (is_read k x is)) agrees in (
           λ j b. ⊎_elim (λ (c : j < k). rest.0 j c)
               (λ (c : k ≤ j). let same : k ≡ j = omega arith in subst (λ (i : ℕ). AgreesAs base (at i) (row i)) same last) (split_lt j k),
@@ -277,7 +257,7 @@ module _ (base : ℕ) (mem : List ℕ) (s : State) (log : List ℕ) where
               (subst (Stopping base (at f.0) (bytes f.0)) same_stop (stops_words (valid ok) f.0 f.1 f.4))),
         ))
         (one_of_both ok))
-        (λ (n : Refusal). differ (sym (stop_in_lem e.0) ∙ stop_in_lem (refuses n.0 n.1)) 1 2 (of_row t e.1) refl (λ z. omega arith)) replayable_or_not,
+        (λ (n : IsRefused). differ (sym (stop_in_lem e.0) ∙ stop_in_lem (refuses n.0 n.1)) 1 2 (of_row t e.1) refl (λ z. omega arith)) replayable_or_not,
     λ p.
         let a = to_agree (valid p.0) k m' p.2 in
         let f = words_stop (valid p.0) k t (subst (λ (m : Machine). Stopping base m (bytes k) t) a.1 p.3) in (
@@ -287,7 +267,7 @@ module _ (base : ℕ) (mem : List ℕ) (s : State) (log : List ℕ) where
   )
 
   -- It is refused by a number exactly if that number's rule is the first that applies, with the place 0; then it counts no row, and nothing changes.
-  pub refused_exactly : (number place : ℕ) → (r.replayed.stop ≡ S.Refused number place) ↔ ((place ≡ 0) × RefusedBy base mem s log number)
+  pub refused_exactly : (number place : ℕ) → (r.replayed.stop ≡ S.Refused (record { number = number; place = place })) ↔ ((place ≡ 0) × RefusedBy base mem s log number)
   refused_exactly number place = (
     λ e. ⊎_elim
         (λ (ok : Replayable base mem s log).
@@ -296,10 +276,11 @@ module _ (base : ℕ) (mem : List ℕ) (s : State) (log : List ℕ) where
         differ (sym e ∙ stop_in_lem (first_stop ok f.0 f.2 f.3 f.1 f.4)) 2 1 refl (stopping_number base (at f.0) (row f.0) f.1 f.4)
         (λ z. omega arith))
         (one_of_both ok))
-        (λ (n : Refusal).
+        (λ (n : IsRefused).
         let same = sym (stop_in_lem (refuses n.0 n.1)) ∙ e in
-        (sym (ap place_in same), subst (RefusedBy base mem s log) (ap refusal_in same) n.1)) replayable_or_not,
-    λ n. stop_in_lem (refuses number n.1) ∙ ap (S.Refused number) (sym n.0),
+        let told : ◌≡◌ {A = Refusal} (record { number = n.0; place = 0 }) (record { number = number; place = place }) = cc in
+        (sym (ap (λ (q : Refusal). q.place) told), subst (RefusedBy base mem s log) (ap (λ (q : Refusal). q.number) told) n.1)) replayable_or_not,
+    λ n. stop_in_lem (refuses number n.1) ∙ ap (λ (p : ℕ). S.Refused (record { number = number; place = p })) (sym n.0),
   )
 
   pub refused_keeps : (number : ℕ) → RefusedBy base mem s log number → r ≡ refused_replay number s mem
@@ -323,4 +304,4 @@ module _ (base : ℕ) (mem : List ℕ) (s : State) (log : List ℕ) where
         first_stop ok f.0 f.2 f.3 f.1 f.4,
       ))
       (one_of_both ok)))
-      (λ (n : Refusal). inl n) replayable_or_not
+      (λ (n : IsRefused). inl n) replayable_or_not

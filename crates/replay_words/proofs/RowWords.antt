@@ -7,30 +7,24 @@ use native.Mathlib.Omega.{arith}
 use lib.Dec.{eqb}
 use lib.ListN.{length}
 use borrow.Author.Tests.{eq-eqb, ne_eqb, eqb-true, eqb-false}
+use Rattle.std.specs.Prelude.{Option, None, Some, Ok, Err}
 use Rattle.word.proofs.TestLaws.{bool_cases}
 use Rattle.reserve.specs.Range.{Inside}
 use Rattle.reserve.proofs.RangeLaws.{inside_of_lem, of_inside}
-use Rattle.effect.specs.Effect.{done_of}
-use Rattle.effect.specs.declared.Done.{Done}
-use Rattle.effect.specs.declared.Done.TheVariants.{Retired, Trap}
+use Rattle.effect.specs.Effect.{Exec, trap, effect, notice_of}
 use Rattle.reserve.specs.declared.Notice.{Notice}
 use Rattle.reserve.specs.declared.Notice.TheVariants.{Quiet, LoadReserved, ScStored, ScFailed, Write, DeviceWrite, Yield}
 use Rattle.events.specs.declared.Event.TheVariants.{Step}
-use Rattle.model.specs.Act.{retired_as}
-use Rattle.model.specs.Perform.{Machine, step_of, outcome_at}
+use Rattle.model.specs.Act.{retired_as, outcome_of}
+use Rattle.model.specs.Perform.{Machine, step_of, of_exec, outcome_at}
 use Rattle.model.specs.Valid.{Valid}
-use Rattle.model.specs.Advance.{outcome_by}
 use Rattle.model.specs.Retired.{IsRetired}
 use Rattle.model.specs.declared.Outcome.{Outcome}
 use Rattle.model.specs.declared.Outcome.TheVariants as O
 use Rattle.steplog.specs.Row.{reading_of}
 use Rattle.steplog.specs.declared.Row.{Row}
-use Rattle.steplog.specs.declared.Reading.{Reading}
-use Rattle.steplog.specs.declared.Reading.TheVariants.{Form, Read}
 use Rattle.steplog.proofs.RoundTrip.{read_was_written}
-use Rattle.rows.specs.Row.{pc_at, word_at, fetchable, rd_at, value_after, told_as, told_by, told_by_step, told_by_pc, told_of}
-use Rattle.rows.specs.declared.Told.{Told}
-use Rattle.rows.specs.declared.Told.TheVariants.{Agrees, Stops}
+use Rattle.rows.specs.Row.{Told, pc_at, word_at, fetchable, rd_at, value_after, told_as, told_by, told_by_step, told_by_pc, told_of}
 use Rattle.rows.specs.declared.Stop.{Stop}
 use Rattle.rows.specs.declared.Stop.TheVariants as S
 use Rattle.rows.proofs.ToldLaws.{told_pc, past_pc, told_word, past_word, past_fetch}
@@ -55,10 +49,9 @@ notice_ended (Write g b n) = retires tt
 notice_ended (DeviceWrite b n) = retires tt
 notice_ended (Yield g) = retires tt
 
-done_ended : (d : Done) → Ended (outcome_by d)
-unfolding outcome_by
-done_ended (Retired e) = notice_ended e.notice
-done_ended (Trap cause value) = traps cause value refl
+exec_ended : (h : ℕ) (e : Exec) → Ended (outcome_of (of_exec h e))
+exec_ended h (trap cause value) = traps cause value refl
+exec_ended h (effect ws to t) = notice_ended (notice_of h t)
 
 module _ (base : ℕ) (m : Machine) (v : Valid base m) (r : Row) (l : r.hart < m.state.count) where
   abbrev h : ℕ
@@ -71,7 +64,7 @@ module _ (base : ℕ) (m : Machine) (v : Valid base m) (r : Row) (l : r.hart < m
   Fetched = Inside base (length m.mem) (pc_at base m h) 4
 
   ended : Ended outcome
-  ended = subst Ended (sym (step_outcome base m v h l)) (done_ended (done_of h (step_of base m.mem m.state h)))
+  ended = subst Ended (sym (step_outcome base m v h l)) (exec_ended h (step_of base m.mem m.state h))
 
   fetched_or_not : Fetched ⊎ (Fetched → ⊥)
   fetched_or_not =
@@ -98,19 +91,19 @@ module _ (base : ℕ) (m : Machine) (v : Valid base m) (r : Row) (l : r.hart < m
   past_outcome (O.Trap cause value) i = absurd i
   past_outcome (O.Refused number) i = absurd i
 
-  told_trap : (cause value : ℕ) → outcome ≡ O.Trap cause value → told_by_step base m r ≡ Stops (S.Trap cause value)
+  told_trap : (cause value : ℕ) → outcome ≡ O.Trap cause value → told_by_step base m r ≡ Err (S.Trap cause value)
   unfolding told_by
   told_trap cause value e = rw e refl
 
-  told_rd : (r.rd ≡ rd_at base m h → ⊥) → shown ≡ Stops (S.Rd r.rd (rd_at base m h))
+  told_rd : (r.rd ≡ rd_at base m h → ⊥) → shown ≡ Err (S.Rd r.rd (rd_at base m h))
   unfolding told_as
   told_rd d = rw (ne_eqb r.rd (rd_at base m h) d)
 
-  told_value : r.rd ≡ rd_at base m h → (r.value ≡ value_after base m h → ⊥) → shown ≡ Stops (S.Value r.value (value_after base m h))
+  told_value : r.rd ≡ rd_at base m h → (r.value ≡ value_after base m h → ⊥) → shown ≡ Err (S.Value r.value (value_after base m h))
   unfolding told_as
   told_value e d = rw (eq-eqb r.rd (rd_at base m h) e, ne_eqb r.value (value_after base m h) d)
 
-  told_agrees : RowAgrees base m r → told_by_pc base m r ≡ Agrees
+  told_agrees : RowAgrees base m r → told_by_pc base m r ≡ Ok tt
   unfolding told_as
   told_agrees a =
       past_fields a.pc a.word ∙ past_outcome outcome a.retired
@@ -118,50 +111,50 @@ module _ (base : ℕ) (m : Machine) (v : Valid base m) (r : Row) (l : r.hart < m
 
   -- ---- no reason before a place
 
-  abbrev None : ℕ → Type 0
-  None place = (k : ℕ) (t : Stop) → k < place → Reason base m r k t → ⊥
+  abbrev Unstopped : ℕ → Type 0
+  Unstopped place = (k : ℕ) (t : Stop) → k < place → Reason base m r k t → ⊥
 
-  none_pc : (place : ℕ) → 1 < place → None place → r.pc ≡ pc_at base m h
+  none_pc : (place : ℕ) → 1 < place → Unstopped place → r.pc ≡ pc_at base m h
   none_pc place b n =
       ⊎_elim (λ (e : r.pc ≡ pc_at base m h). e) (λ (d : r.pc ≡ pc_at base m h → ⊥). absurd (n 1 _ b (other_pc refl refl d)))
       (same_or_not r.pc (pc_at base m h))
 
-  none_word : (place : ℕ) → 2 < place → None place → Fetched → r.word ≡ word_at base m h
+  none_word : (place : ℕ) → 2 < place → Unstopped place → Fetched → r.word ≡ word_at base m h
   none_word place b n i =
       ⊎_elim (λ (e : r.word ≡ word_at base m h). e) (λ (d : r.word ≡ word_at base m h → ⊥). absurd (n 2 _ b (other_word refl refl i d)))
       (same_or_not r.word (word_at base m h))
 
-  none_trap : (place : ℕ) → 3 < place → None place → IsRetired outcome
+  none_trap : (place : ℕ) → 3 < place → Unstopped place → IsRetired outcome
   none_trap place b n = go ended
     where
       go : Ended outcome → IsRetired outcome
       go (retires i) = i
       go (traps cause value e) = absurd (n 3 _ b (trapped cause value refl refl e))
 
-  none_rd : (place : ℕ) → 4 < place → None place → r.rd ≡ rd_at base m h
+  none_rd : (place : ℕ) → 4 < place → Unstopped place → r.rd ≡ rd_at base m h
   none_rd place b n =
       ⊎_elim (λ (e : r.rd ≡ rd_at base m h). e) (λ (d : r.rd ≡ rd_at base m h → ⊥). absurd (n 4 _ b (other_rd refl refl d)))
       (same_or_not r.rd (rd_at base m h))
 
   -- ---- a first reason is what is told
 
-  by_reason : (place : ℕ) (s : Stop) → Reason base m r place s → None place → told_by_pc base m r ≡ Stops s
-  by_reason place s (other_pc e q d) n = sym (told_pc base m r d) ∙ ap Stops (sym q)
+  by_reason : (place : ℕ) (s : Stop) → Reason base m r place s → Unstopped place → told_by_pc base m r ≡ Err s
+  by_reason place s (other_pc e q d) n = sym (told_pc base m r d) ∙ ap Err (sym q)
   by_reason place s (other_word e q i d) n =
-      sym (told_word base m r (none_pc place (omega arith) n) (of_inside base (length m.mem) (pc_at base m h) 4 i) refl d) ∙ ap Stops (sym q)
+      sym (told_word base m r (none_pc place (omega arith) n) (of_inside base (length m.mem) (pc_at base m h) 4 i) refl d) ∙ ap Err (sym q)
   by_reason place s (trapped cause value e q t) n =
-      past_fields (none_pc place (omega arith) n) (none_word place (omega arith) n) ∙ told_trap cause value t ∙ ap Stops (sym q)
+      past_fields (none_pc place (omega arith) n) (none_word place (omega arith) n) ∙ told_trap cause value t ∙ ap Err (sym q)
   by_reason place s (other_rd e q d) n =
       past_fields (none_pc place (omega arith) n) (none_word place (omega arith) n) ∙ past_outcome outcome (none_trap place (omega arith) n) ∙ told_rd d
-      ∙ ap Stops (sym q)
+      ∙ ap Err (sym q)
   by_reason place s (other_value e q d) n =
       past_fields (none_pc place (omega arith) n) (none_word place (omega arith) n) ∙ past_outcome outcome (none_trap place (omega arith) n)
-      ∙ told_value (none_rd place (omega arith) n) d ∙ ap Stops (sym q)
+      ∙ told_value (none_rd place (omega arith) n) d ∙ ap Err (sym q)
 
   -- ---- and one of them applies, or the row agrees
 
   before : (place : ℕ) → place ≤ 5 → (1 < place → r.pc ≡ pc_at base m h) → (2 < place → Fetched → r.word ≡ word_at base m h)
-      → (3 < place → IsRetired outcome) → (4 < place → r.rd ≡ rd_at base m h) → None place
+      → (3 < place → IsRetired outcome) → (4 < place → r.rd ≡ rd_at base m h) → Unstopped place
   before place most p w i d k t b (other_pc e q x) = x (p (omega arith))
   before place most p w i d k t b (other_word e q f x) = x (w (omega arith) f)
   before place most p w i d k t b (trapped cause value e q x) = subst IsRetired x (i (omega arith))
@@ -236,70 +229,59 @@ module _ (base : ℕ) (m : Machine) (v : Valid base m) (r : Row) (l : r.hart < m
 -- ---- what was read
 
 -- what was read is a row that agrees
-abbrev pub AgreesAs : ℕ → Machine → Reading → Type 0
-AgreesAs base m Form = ⊥
-AgreesAs base m (Read r) = RowAgrees base m r
+abbrev pub AgreesAs : ℕ → Machine → Option Row → Type 0
+AgreesAs base m None = ⊥
+AgreesAs base m (Some r) = RowAgrees base m r
 
 -- what was read stops the replay
-abbrev pub StopsAs : ℕ → Machine → Reading → Stop → Type 0
-StopsAs base m Form s = s ≡ S.Form
-StopsAs base m (Read r) s = FirstReason base m r s
+abbrev pub StopsAs : ℕ → Machine → Option Row → Stop → Type 0
+StopsAs base m None s = s ≡ S.Form
+StopsAs base m (Some r) s = FirstReason base m r s
 
 -- a row that was read is of a hart below the count
-abbrev pub Counted : ℕ → Reading → Type 0
-Counted count Form = Unit {0}
-Counted count (Read r) = r.hart < count
+abbrev pub Counted : ℕ → Option Row → Type 0
+Counted count None = Unit {0}
+Counted count (Some r) = r.hart < count
 
-reading_counted : (count : ℕ) (bytes : List ℕ) (read : Reading) → reading_of count bytes ≡ read → Counted count read
-reading_counted count bytes Form e = tt
-reading_counted count bytes (Read r) e = (read_was_written count bytes r e).0.counted
+reading_counted : (count : ℕ) (bytes : List ℕ) (read : Option Row) → reading_of count bytes ≡ read → Counted count read
+reading_counted count bytes None e = tt
+reading_counted count bytes (Some r) e = (read_was_written count bytes r e).0.counted
 
 pub counted : (count : ℕ) (bytes : List ℕ) → Counted count (reading_of count bytes)
 counted count bytes = reading_counted count bytes (reading_of count bytes) refl
 
-abbrev is_stop : Told → ℕ
-is_stop Agrees = 0
-is_stop (Stops s) = 1
-
-abbrev stop_in : Told → Stop
-stop_in Agrees = S.Agreed
-stop_in (Stops s) = s
-
-not_both : {P : Type 0} {t : Told} {s : Stop} → t ≡ Agrees → t ≡ Stops s → P
-not_both a b = let z : ◌≡◌ {A = ℕ} 0 1 = ap is_stop (sym a ∙ b) in absurd (omega arith)
-
 module _ (base : ℕ) (m : Machine) (v : Valid base m) where
-  told_first : (r : Row) → r.hart < m.state.count → (s : Stop) → FirstReason base m r s → told_by_pc base m r ≡ Stops s
+  told_first : (r : Row) → r.hart < m.state.count → (s : Stop) → FirstReason base m r s → told_by_pc base m r ≡ Err s
   told_first r l s f = by_reason base m v r l f.place s f.applies f.first
 
-  pub told_stopping : (read : Reading) → Counted m.state.count read → (s : Stop) → StopsAs base m read s → told_of base m read ≡ Stops s
+  pub told_stopping : (read : Option Row) → Counted m.state.count read → (s : Stop) → StopsAs base m read s → told_of base m read ≡ Err s
   unfolding told_of
-  told_stopping Form l s e = ap Stops (sym e)
-  told_stopping (Read r) l s f = told_first r l s f
+  told_stopping None l s e = ap Err (sym e)
+  told_stopping (Some r) l s f = told_first r l s f
 
-  pub told_agreeing : (read : Reading) → Counted m.state.count read → AgreesAs base m read → told_of base m read ≡ Agrees
+  pub told_agreeing : (read : Option Row) → Counted m.state.count read → AgreesAs base m read → told_of base m read ≡ Ok tt
   unfolding told_of
-  told_agreeing Form l a = absurd a
-  told_agreeing (Read r) l a = told_agrees base m v r l a
+  told_agreeing None l a = absurd a
+  told_agreeing (Some r) l a = told_agrees base m v r l a
 
-  pub either : (read : Reading) → Counted m.state.count read → AgreesAs base m read ⊎ ((s : Stop) × StopsAs base m read s)
-  either Form l = inr (S.Form, refl)
-  either (Read r) l = agrees_or_stops base m v r l
+  pub either : (read : Option Row) → Counted m.state.count read → AgreesAs base m read ⊎ ((s : Stop) × StopsAs base m read s)
+  either None l = inr (S.Form, refl)
+  either (Some r) l = agrees_or_stops base m v r l
 
-  module _ (read : Reading) (l : Counted m.state.count read) where
+  module _ (read : Option Row) (l : Counted m.state.count read) where
     -- A row agrees exactly if it is well formed and agrees in every field.
-    pub row_agrees : (told_of base m read ≡ Agrees) ↔ AgreesAs base m read
+    pub row_agrees : (told_of base m read ≡ Ok tt) ↔ AgreesAs base m read
     row_agrees = (
       λ e. ⊎_elim (λ (a : AgreesAs base m read). a)
-          (λ (f : (s : Stop) × StopsAs base m read s). not_both e (told_stopping read l f.0 f.1)) (either read l),
+          (λ (f : (s : Stop) × StopsAs base m read s). let t = told_stopping read l f.0 f.1 in absurd cc) (either read l),
       told_agreeing read l,
     )
 
     -- It stops the replay with s exactly if s is given by the first reason that applies.
-    pub row_stops : (s : Stop) → (told_of base m read ≡ Stops s) ↔ StopsAs base m read s
+    pub row_stops : (s : Stop) → (told_of base m read ≡ Err s) ↔ StopsAs base m read s
     row_stops s = (
-      λ e. ⊎_elim (λ (a : AgreesAs base m read). not_both (told_agreeing read l a) e)
+      λ e. ⊎_elim (λ (a : AgreesAs base m read). let t = told_agreeing read l a in absurd cc)
           (λ (f : (t : Stop) × StopsAs base m read t).
-          subst (StopsAs base m read) (ap stop_in (sym (told_stopping read l f.0 f.1) ∙ e)) f.1) (either read l),
+          let same : f.0 ≡ s = cc (told_stopping read l f.0 f.1) in subst (StopsAs base m read) same f.1) (either read l),
       told_stopping read l s,
     )

@@ -1,12 +1,12 @@
 -- What a row shows of a step: the register that the step sets, and what it holds afterwards. Assumes nothing.
-use mathlib.Core.Path.{◌≡◌, sym, ap, subst, ◌∙◌}
+use mathlib.Core.Path.{◌≡◌, ap, subst, ◌∙◌}
 use Prim.Native.Nat.{ℕ, ◌+◌, ◌*◌, ◌%◌, ◌<◌}
 use native.Mathlib.Omega.{arith}
 use lib.ListN.{get_or}
 use Rattle.word.proofs.TestLaws.{bool_cases}
 use Rattle.reserve.proofs.RangeLaws.{inside_of_lem}
 use Rattle.isa.specs.Narrow.{decode_at}
-use Rattle.effect.specs.Effect.{Writes, Access, Exec, trap, effect}
+use Rattle.effect.specs.Effect.{Writes, Access, trap, effect}
 use Rattle.effect.specs.Execute.{reg_at}
 use Rattle.events.specs.declared.Event.TheVariants.{Step}
 use Rattle.model.specs.Perform.{Machine, xlen, fetch_of, step_of, next_of}
@@ -30,11 +30,7 @@ module _ (base : ℕ) (m : Machine) (v : Valid base m) (h : ℕ) (l : h < m.stat
       (subst (Reaches (rd_at base m h) a) e (exec_reaches base m v h l (inside_of_lem _ _ _ _ f))).0)
       (λ f.
       let traps : step_of base m.mem m.state h ≡ trap 1 (pc_at base m h) = rw f in
-      absurd (let z : ◌≡◌ {A = ℕ} 0 1 = ap kind (sym traps ∙ e) in omega arith))
-    where
-      kind : Exec → ℕ
-      kind (trap cause value) = 0
-      kind (effect ws to t) = 1
+      absurd cc)
 
   -- "rd is 00 and its value zero where the word has no rd": where the row shows x0, it shows zero.
   pub shows_zero : rd_at base m h ≡ 0 → value_after base m h ≡ 0

@@ -8,6 +8,7 @@ use lib.Dec.{eqb, ltb}
 use borrow.Author.Tests.{eqb-true, ltb-true}
 use lib.ListN.{length, take, drop, length-append, length-drop, take-append-drop}
 use lib.Seq.{take_at, drop_at}
+use Rattle.std.specs.Prelude.{Option, None, Some, Ok, Err}
 use Rattle.word.specs.Bytes.{IsBytes}
 use Rattle.word.proofs.MemoryLaws.{part_lt}
 use Rattle.word.proofs.TestLaws.{bool_cases}
@@ -19,13 +20,13 @@ use Rattle.machine.specs.State.{refusal_of}
 use Rattle.machine.specs.Ranged.{Ranged}
 use Rattle.machine.specs.declared.State.{State}
 use Rattle.machine.proofs.StateLaws.{refusal_0}
-use Rattle.effect.specs.Effect.{Exec, trap, done_of}
+use Rattle.effect.specs.Effect.{Exec, trap}
 use Rattle.effect.specs.Execute.{reg_at}
 use Rattle.effect.specs.Memory.{value_at}
 use Rattle.events.specs.declared.Event.TheVariants.{Step}
-use Rattle.model.specs.Perform.{Machine, xlen, fetch_of, step_of, act_on, act_of, answer_of, outcome_at, next_of, run_of}
+use Rattle.model.specs.Perform.{Machine, xlen, fetch_of, step_of, of_exec, act_on, act_of, answer_of, outcome_at, next_of, run_of}
 use Rattle.model.specs.Valid.{Valid}
-use Rattle.model.specs.Advance.{outcome_by}
+use Rattle.model.specs.Act.{outcome_of}
 use Rattle.model.specs.Retired.{IsRetired}
 use Rattle.model.specs.declared.Outcome.TheVariants as O
 use Rattle.model.proofs.Valid.{valid_next}
@@ -33,14 +34,10 @@ use Rattle.model.proofs.Frame.{count_next}
 use Rattle.reach.proofs.Ranges.{ranged_answer, bytes_memory}
 use Rattle.steplog.specs.Row.{row_of, Fits, reading_of}
 use Rattle.steplog.specs.declared.Row.{Row}
-use Rattle.steplog.specs.declared.Reading.{Reading}
-use Rattle.steplog.specs.declared.Reading.TheVariants.{Form, Read}
 use Rattle.steplog.proofs.RoundTrip.{length_row, row_reads_back, read_was_written}
 use Rattle.reach.proofs.ReachLaws.{rd_below}
-use Rattle.rows.specs.Row.{pc_at, word_at, fetchable, told_of, stepped}
+use Rattle.rows.specs.Row.{Told, pc_at, word_at, fetchable, told_of, stepped}
 use Rattle.rows.specs.Replay.{readings, End, end_by, end_of, Result, ended, replay_of}
-use Rattle.rows.specs.declared.Told.{Told}
-use Rattle.rows.specs.declared.Told.TheVariants.{Agrees, Stops}
 use Rattle.rows.specs.declared.Stop.TheVariants as S
 use Rattle.rows.proofs.RowLaws.{step_outcome}
 use Rattle.replay_words.specs.Reasons.{RowAgrees}
@@ -103,17 +100,17 @@ written_ends base m ranged bytes (h ∷ hs) w =
     let next = next_of base m (Step h) in
     let log = log_of base next hs in
     let v = retired_valid base m h w.0 in
-    let first : reading_of count (take 48 (row_of r ++ log)) ≡ Read r =
+    let first : reading_of count (take 48 (row_of r ++ log)) ≡ Some r =
     ap (reading_of count) (take_at (row_of r) log 48 (length_row r)) ∙ row_reads_back count r (model_fits base m h ranged bytes w.0) in
     let behind : drop 48 (row_of r ++ log) ≡ log = drop_at (row_of r) log 48 (length_row r) in
-    let told : told_of base m (Read r) ≡ Agrees = told_agreeing base m v.0 (Read r) v.1 (model_agrees base m h w.0) in
+    let told : told_of base m (Some r) ≡ Ok tt = told_agreeing base m v.0 (Some r) v.1 (model_agrees base m h w.0) in
     let same : count ≡ next.state.count = sym (count_next base m (Step h)) in
     let ranged-next = ranged_answer base m.mem bytes m.state (Step h) ranged in
     let rest = written_ends base next ranged-next (bytes_memory base m.mem bytes m.state (Step h)) hs w.1 in
-    ap₂ (λ (q : Reading) (l : List ℕ). end_of base m (q ∷ readings count (length hs) l)) first behind
+    ap₂ (λ (q : Option Row) (l : List ℕ). end_of base m (q ∷ readings count (length hs) l)) first behind
     ∙ ap (λ (t : Told). end_by t m (end_of base next (readings count (length hs) log))) told
-    ∙ ap (λ (k : ℕ). end_by Agrees m (end_of base next (readings k (length hs) log))) same
-    ∙ ap (end_by Agrees m) rest
+    ∙ ap (λ (k : ℕ). end_by (Ok tt) m (end_of base next (readings k (length hs) log))) same
+    ∙ ap (end_by (Ok tt) m) rest
 
 module _ (base : ℕ) (mem : List ℕ) (s : State) where
   abbrev start : Machine
@@ -138,12 +135,12 @@ module _ (base : ℕ) (mem : List ℕ) (s : State) where
 -- a step that retires was fetched
 pub retired_fetched : (base : ℕ) (m : Machine) → Valid base m → (h : ℕ) → h < m.state.count → IsRetired (outcome_at base m (Step h))
     → Inside base (length m.mem) (pc_at base m h) 4
-unfolding fetch_of outcome_by
+unfolding fetch_of
 retired_fetched base m v h l i =
     bool_cases (fetchable base m h) (λ t. inside_of_lem base (length m.mem) (pc_at base m h) 4 t)
     (λ f.
     let traps : step_of base m.mem m.state h ≡ trap 1 (pc_at base m h) = rw f in
-    absurd (subst IsRetired (step_outcome base m v h l ∙ ap (λ (e : Exec). outcome_by (done_of h e)) traps) i))
+    absurd (subst IsRetired (step_outcome base m v h l ∙ ap (λ (e : Exec). outcome_of (of_exec h e)) traps) i))
 
 -- a row that agrees is the model's
 is_model : (base : ℕ) (m : Machine) → Valid base m → (r : Row) → r.hart < m.state.count → RowAgrees base m r → r ≡ model_row base m r.hart
@@ -152,9 +149,9 @@ is_model base m v r l a =
     rw (a.pc, a.word (retired_fetched base m v h l a.retired), a.rd, a.value) refl
 
 -- rows that end agreed begin with one that agrees
-agrees_first : (m : Machine) (rest : End) (t : Told) → Other t → (end_by t m rest).stop ≡ S.Agreed → t ≡ Agrees
-agrees_first m rest Agrees o e = refl
-agrees_first m rest (Stops s) o e = absurd (o (ap stop_number e))
+agrees_first : (m : Machine) (rest : End) (t : Told) → Other t → (end_by t m rest).stop ≡ S.Agreed → t ≡ Ok tt
+agrees_first m rest (Ok x) o e = refl
+agrees_first m rest (Err s) o e = absurd (o (ap stop_number e))
 
 -- one row that agrees, and the log behind it
 module _ (base : ℕ) (m : Machine) (v : Valid base m) (n : ℕ) (log : List ℕ) where
@@ -165,11 +162,11 @@ module _ (base : ℕ) (m : Machine) (v : Valid base m) (n : ℕ) (log : List ℕ
   behind = drop 48 log
 
   row_and_rest : ((m' : Machine) → Valid base m' → (end_of base m' (readings m'.state.count n behind)).stop ≡ S.Agreed → WrittenBy base m' behind)
-      → (q : Reading) → reading_of count (take 48 log) ≡ q → AgreesAs base m q
+      → (q : Option Row) → reading_of count (take 48 log) ≡ q → AgreesAs base m q
       → (end_of base (stepped base m q) (readings count n behind)).stop ≡ S.Agreed → WrittenBy base m log
   unfolding log_of Retiring stepped
-  row_and_rest rec Form e a x = absurd a
-  row_and_rest rec (Read r) e a x =
+  row_and_rest rec None e a x = absurd a
+  row_and_rest rec (Some r) e a x =
       let h = r.hart in
       let next = next_of base m (Step h) in
       let w = read_was_written count (take 48 log) r e in

@@ -91,4 +91,4 @@ OfRow (S.Word board model) = Unit {0}
 OfRow (S.Trap cause value) = Unit {0}
 OfRow (S.Rd board model) = Unit {0}
 OfRow (S.Value board model) = Unit {0}
-OfRow (S.Refused number place) = ⊥
+OfRow (S.Refused r) = ⊥

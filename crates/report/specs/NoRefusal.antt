@@ -3,23 +3,17 @@
 -- RULES 9.
 use Rattle.std.specs.Prelude.{◌≡◌, List, [], ◌∷◌, ◌++◌, ℕ, suc, ◌-◌, length}
 use Rattle.word.specs.Memory.{part}
-use Rattle.settings.specs.Boards.{default_board}
-use Rattle.settings.specs.declared.Board.{Board}
 use Rattle.events.specs.declared.Event.{Event}
 use Rattle.model.specs.Perform.{Machine}
 use Rattle.model.specs.Retired.{Refuses}
 use Rattle.model.specs.declared.Reply.{Reply}
-use Rattle.casefile.specs.Case.{case_on}
+use Rattle.casefile.specs.declared.Case.{Case}
 use Rattle.lines.specs.Lines.{line_of}
 use Rattle.report.specs.Report.{case_line, end_line}
 
--- the machine that a file's case starts from on a board: the memory body starts at m and the events body at e
-abbrev pub machine_on : Board → List ℕ → ℕ → ℕ → Machine
-machine_on board file m e = record { state = (case_on board file).state; mem = part file m (e - m) }
-
--- and where none is given
-abbrev pub machine_of : List ℕ → ℕ → ℕ → Machine
-machine_of file m e = machine_on default_board file m e
+-- the machine that a file's case starts from
+abbrev pub machine_in : List ℕ → Case → Machine
+machine_in file c = record { state = c.state; mem = part file c.memory (c.events - c.memory) }
 
 -- the text is a line for each of the events, numbered from k on, each with an outcome that isn't a refusal: `ok`, `sc 0`, `sc 1` or a trap; with or
 -- without a set of harts behind it (which one: broken/proofs/Shown)

@@ -1,6 +1,6 @@
 -- The program's whole output for any bytes (01, "The program reads a case from standard input and writes lines"; "its budget is all events").
 -- RULES 9.
-use Rattle.std.specs.Prelude.{ℕ, ◌-◌, List, ◌++◌, length, drop}
+use Rattle.std.specs.Prelude.{ℕ, ◌-◌, List, ◌++◌, Result, Ok, Err, length, drop}
 use Rattle.word.specs.Memory.{part}
 use Rattle.machine.specs.declared.State.{State}
 use Rattle.events.specs.Events.{events_of}
@@ -8,8 +8,7 @@ use Rattle.settings.specs.Boards.{default_board}
 use Rattle.settings.specs.declared.Board.{Board}
 use Rattle.casefile.specs.Case.{case_on}
 use Rattle.casefile.specs.declared.Case.{Case}
-use Rattle.casefile.specs.declared.Found.{Found}
-use Rattle.casefile.specs.declared.Found.TheVariants.{Refused, Bodies}
+use Rattle.refusal.specs.declared.Refusal.{Refusal}
 use Rattle.text.specs.Ascii.{ascii}
 use Rattle.text.specs.Number.{decimal_of}
 use Rattle.lines.specs.Lines.{lines_of}
@@ -33,13 +32,10 @@ lines_of_case base s mem body =
     case_line s.count (length mem) (length (events_of body))
     ++ (lines_of base (record { state = s; mem = mem }) 0 (events_of body) ++ end_line (length (events_of body)))
 
--- by what the file is found to be: the memory body starts at m and the events body at e
-abbrev pub text_of : List ℕ → ℕ → State → Found → List ℕ
-text_of file base s (Refused number place) = refused_line number place
-text_of file base s (Bodies m e) = lines_of_case base s (part file m (e - m)) (drop e file)
-
-abbrev pub text_of_case : List ℕ → Case → List ℕ
-text_of_case file c = text_of file c.base c.state c.found
+-- by what the file is read as
+abbrev pub text_of_case : List ℕ → Result Case Refusal → List ℕ
+text_of_case file (Err r) = refused_line r.number r.place
+text_of_case file (Ok c) = lines_of_case c.base c.state (part file c.memory (c.events - c.memory)) (drop c.events file)
 
 -- on a board
 unfoldable pub report_on : Board → List ℕ → List ℕ

@@ -8,12 +8,12 @@ use native.Mathlib.Nat.{pow-suc, div-eq_of_lt}
 use native.Mathlib.Omega.{arith}
 use lib.ListN.{get_or}
 use lib.Pow.{pow_mono, high, low, field, mod-mod-pow}
+use Rattle.std.specs.Prelude.{Option, None}
 use Rattle.word.proofs.TestLaws.{bool_cases, contrary}
 use Rattle.word.proofs.WordLaws.{split_lt}
 use Rattle.settings.specs.declared.Settings.{Settings}
-use Rattle.reserve.specs.Reserve.{slot, breaks_of, broken_of}
-use Rattle.reserve.specs.declared.Reservation.TheVariants.{None}
-use Rattle.reserve.specs.declared.Slot.{Slot}
+use Rattle.reserve.specs.Reserve.{breaks_of, broken_of}
+use Rattle.reserve.specs.declared.Reservation.{Reservation}
 use Rattle.reserve.specs.declared.Notice.{Notice}
 
 -- bit k of a number
@@ -40,9 +40,9 @@ digit_set : (b : Bool) → (digit b % 2 ≡ 1) ↔ (b ≡ true)
 digit_set true = (λ q. refl, λ q. refl)
 digit_set false = (λ q. absurd (omega arith), λ q. contrary q refl)
 
-module _ (settings : Settings) (n : Notice) (l : List Slot) where
+module _ (settings : Settings) (n : Notice) (l : List (Option Reservation)) where
   abbrev hit : ℕ → Bool
-  hit k = breaks_of settings k n (get_or l k (slot None)).reservation
+  hit k = breaks_of settings k n (get_or l k None)
 
   broken_more : (c : ℕ) → broken_of settings n (suc c) l ≡ digit (hit c) * 2 ^ c + broken_of settings n c l
   unfolding broken_of

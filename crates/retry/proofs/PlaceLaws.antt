@@ -1,7 +1,10 @@
 -- At a place of a block that starts with an LR, the tests of the definition say what the reasons say. Assumes nothing.
 use Rattle.std.proofs.Common.{◌≡◌, ℕ, zero, suc, ◌+◌, ◌*◌, ◌%◌, ◌^◌, ◌<◌, ◌≤◌, Bool, true, false, not, ◌&&◌, ◌||◌, eqb, ltb}
-use Rattle.std.proofs.Common.{◌⊎◌, List, length, get_or, sym, refl, ap, ◌∙◌, subst, inl, inr, ⊎_elim, arith, ltb-false, ltb-true, lt-ltb, eq-eqb, ne_eqb, eqb-true}
+use Rattle.std.proofs.Common.{◌⊎◌, List, length, get_or, sym, refl, ap, ◌∙◌, subst, inl, inr, ⊎_elim, arith, ◌≢◌, ltb-false, ltb-true, lt-ltb, eqb-true}
 use borrow.Author.Tests.{eqb-false, not-true, not-false}
+use Rattle.std.specs.Bool.{Decides}
+use Rattle.std.proofs.lemmas.Bool.{and_from, or_parts, or_right, not_from_false}
+use Rattle.std.proofs.lemmas.Bool.Decides.{Decides-eqb, Decides-ltb, Decides-not, Decides-and, Decides-or, not_from_Decides}
 use Rattle.word.proofs.TestLaws.{bool_cases, contrary, and_both, or_either}
 use Rattle.settings.specs.Settings.{xlen_of}
 use Rattle.settings.specs.declared.Settings.{Settings}
@@ -13,89 +16,31 @@ use Rattle.isa.specs.declared.Instr.{Instr}
 use Rattle.isa.specs.declared.Instr.TheVariants as I
 use Rattle.retry.specs.declared.View.{View}
 use Rattle.retry.specs.declared.View.TheVariants.{Lr, Sc, Plain, Jump, Branch, Other}
-use Rattle.retry.specs.Loop.{view_of, view_at, is_sc, past_sc, is_above, to_start, wrong_offset, clobbers, reason2, reason3, reason4, reason5}
+use Rattle.retry.specs.Loop.{view_of, view_at, is_sc, past_sc, is_above, wrong_offset, clobbers, reason2, reason3, reason4, reason5}
 use Rattle.retry.specs.Reasons.{Stands, LrAt, ScAt, AnSc, FirstSc, BeforeSc, AfterSc}
 use Rattle.retry.specs.Reasons.{Permitted, NotPermitted, LeadsBy, Above, ToStart, BadOffset, HasRd, Overwrites, OtherSc}
 use Rattle.retry.proofs.ViewLaws.{Seen, SeenSc, seen, lr_view, sc_view, RdSeen, rd_seen, Body, permitted_body, body_permitted, widths_same}
 
 -- ---- tests
 
-pub not_of : (t : Bool) → t ≡ false → not t ≡ true
-not_of t e = rw e
-
-both : (s t : Bool) → s ≡ true → t ≡ true → (s && t) ≡ true
-both s t e f = rw (e, f)
-
-first_of : (s t : Bool) → s ≡ true → (s || t) ≡ true
-first_of s t e = rw e
-
-second_of : (s t : Bool) → t ≡ true → (s || t) ≡ true
-second_of true t e = refl
-second_of false t e = e
-
-pub or_left : (s t : Bool) → (s || t) ≡ false → s ≡ false
-or_left true t e = contrary refl e
-or_left false t e = refl
-
-pub or_right : (s t : Bool) → (s || t) ≡ false → t ≡ false
-or_right true t e = contrary refl e
-or_right false t e = e
-
 pub and_second : (s t : Bool) → (s && t) ≡ false → s ≡ true → t ≡ false
-and_second true t e h = e
-and_second false t e h = contrary h refl
+and_second s t e h = rw h at e
+
+pub is_above_decides : (offset : ℕ) → Decides (is_above offset) (Above offset)
+is_above_decides offset = Decides-and _ _ (Decides-ltb 0 offset) (Decides-ltb offset (2 ^ 63))
 
 -- the offset is wrong, where After says that the first SC stands before
-WrongBy : Type 0 → ℕ → ℕ → Type 0
-WrongBy After place offset = (offset % 4 ≡ 0 → ⊥) ⊎ ((Above offset → ⊥) × (After × ToStart place offset → ⊥))
+pub wrong_decides : {After : Type 0} (past : Bool) (place offset : ℕ) → Decides past After
+    → Decides (wrong_offset past place offset) ((offset % 4 ≢ 0) ⊎ ((Above offset → ⊥) × (After × ToStart place offset → ⊥)))
+unfolding wrong_offset
+wrong_decides past place offset after =
+    Decides-or _ _ (Decides-not _ (Decides-eqb (offset % 4) 0))
+    (Decides-and _ _ (Decides-not _ (is_above_decides offset))
+    (Decides-not _ (Decides-and _ _ after (Decides-eqb ((4 * place + offset) % 2 ^ 64) 0))))
 
-pub above : (offset : ℕ) → is_above offset ≡ true → Above offset
-above offset t =
-    let s = and_both (ltb 0 offset) (ltb offset (2 ^ 63)) t in
-    (ltb-true 0 offset s.0, ltb-true offset (2 ^ 63) s.1)
-
-is_above_lem : (offset : ℕ) → Above offset → is_above offset ≡ true
-is_above_lem offset a = both (ltb 0 offset) (ltb offset (2 ^ 63)) (lt-ltb 0 offset a.0) (lt-ltb offset (2 ^ 63) a.1)
-
-module _ (past : Bool) (place offset : ℕ) where
-  right : wrong_offset past place offset ≡ false → WrongBy (past ≡ true) place offset → ⊥
-  unfolding wrong_offset WrongBy
-  right t (inl odd) =
-      odd (eqb-true (offset % 4) 0 (not-false (eqb (offset % 4) 0) (or_left (not (eqb (offset % 4) 0)) _ t)))
-  right t (inr low) =
-      let f : (not (is_above offset) && not (past && to_start place offset)) ≡ false = or_right (not (eqb (offset % 4) 0)) _ t in
-      bool_cases (is_above offset) (λ a. low.0 (above offset a))
-      (λ a.
-      let home = not-false (past && to_start place offset) (and_second (not (is_above offset)) _ f (not_of (is_above offset) a)) in
-      let s = and_both past (to_start place offset) home in
-      low.1 (s.0, eqb-true ((4 * place + offset) % 2 ^ 64) 0 s.1))
-
-  wrong : wrong_offset past place offset ≡ true → WrongBy (past ≡ true) place offset
-  unfolding wrong_offset WrongBy
-  wrong t = ⊎_elim odd low (or_either (not (eqb (offset % 4) 0)) (not (is_above offset) && not (past && to_start place offset)) t)
-    where
-      odd : not (eqb (offset % 4) 0) ≡ true → WrongBy (past ≡ true) place offset
-      odd e = inl (eqb-false (offset % 4) 0 (not-true (eqb (offset % 4) 0) e))
-
-      low : (not (is_above offset) && not (past && to_start place offset)) ≡ true → WrongBy (past ≡ true) place offset
-      low e =
-          let s = and_both (not (is_above offset)) (not (past && to_start place offset)) e in
-          inr (
-            (λ a. contrary (is_above_lem offset a) (not-true (is_above offset) s.0)),
-            (λ h.
-                contrary (both past (to_start place offset) h.0 (eq-eqb ((4 * place + offset) % 2 ^ 64) 0 h.1))
-                (not-true (past && to_start place offset) s.1)),
-          )
-
-clobbers_true : (rs1 rd : ℕ) → clobbers rs1 rd ≡ true → (rd ≡ rs1) × (rs1 ≡ 0 → ⊥)
+pub clobbers_decides : (rs1 rd : ℕ) → Decides (clobbers rs1 rd) ((rd ≡ rs1) × (rs1 ≢ 0))
 unfolding clobbers
-clobbers_true rs1 rd t =
-    let s = and_both (eqb rd rs1) (not (eqb rs1 0)) t in
-    (eqb-true rd rs1 s.0, eqb-false rs1 0 (not-true (eqb rs1 0) s.1))
-
-pub true_clobbers : (rs1 rd : ℕ) → rd ≡ rs1 → (rs1 ≡ 0 → ⊥) → clobbers rs1 rd ≡ true
-unfolding clobbers
-true_clobbers rs1 rd e n = both (eqb rd rs1) (not (eqb rs1 0)) (eq-eqb rd rs1 e) (not_of (eqb rs1 0) (ne_eqb rs1 0 n))
+clobbers_decides rs1 rd = Decides-and _ _ (Decides-eqb rd rs1) (Decides-not _ (Decides-eqb rs1 0))
 
 -- ---- the first SC
 
@@ -127,10 +72,10 @@ module _ (settings : Settings) (ws : List ℕ) where
   unfolding past_sc
   past_none zero t k h s = omega arith
   past_none (suc p) t k h s =
-      bool_cases (ltb k p) (λ l. past_none p (or_left (past_sc settings ws p) (is_sc (view_at settings ws p)) t) k (ltb-true k p l) s)
+      bool_cases (ltb k p) (λ l. past_none p (or_parts (past_sc settings ws p) (is_sc (view_at settings ws p)) t).0 k (ltb-true k p l) s)
       (λ l.
       let e : k ≡ p = omega (arith, ltb-false k p l) in
-      contrary (sc_is p (subst (λ (n : ℕ). AnSc xlen ws n) e s)) (or_right (past_sc settings ws p) (is_sc (view_at settings ws p)) t))
+      contrary (sc_is p (subst (λ (n : ℕ). AnSc xlen ws n) e s)) (or_parts (past_sc settings ws p) (is_sc (view_at settings ws p)) t).1)
 
   pub past_first : (p : ℕ) → p ≤ length ws → past_sc settings ws p ≡ true → AfterSc xlen ws p
   unfolding past_sc
@@ -171,7 +116,7 @@ module _ (settings : Settings) (ws : List ℕ) where
   pub sc_late : (p : ℕ) → p < length ws → is_sc (view_at settings ws p) ≡ true → BeforeSc xlen ws p → ⊥
   unfolding past_sc
   sc_late p l t b =
-      let s = past_first (suc p) l (second_of (past_sc settings ws p) (is_sc (view_at settings ws p)) t) in omega (arith, b s.0 s.1, s.2)
+      let s = past_first (suc p) l (or_right (past_sc settings ws p) (is_sc (view_at settings ws p)) t) in omega (arith, b s.0 s.1, s.2)
 
   -- ---- the reasons at a place
 
@@ -210,15 +155,8 @@ module _ (settings : Settings) (ws : List ℕ) where
     two_false (Branch off) q t n = allowed (Branch off) q tt n
     two_false Other q t n = contrary (lt-ltb 0 p n.0) t
 
-    is_bad : (offset : ℕ) → WrongBy (past ≡ true) p offset → (offset % 4 ≡ 0 → ⊥) ⊎ ((Above offset → ⊥) × (AfterSc xlen ws p × ToStart p offset → ⊥))
-    unfolding WrongBy
-    is_bad offset (inl odd) = inl odd
-    is_bad offset (inr low) = inr (low.0, λ h. low.1 (after_past p h.0, h.1))
-
-    bad_is : (offset : ℕ) → (offset % 4 ≡ 0 → ⊥) ⊎ ((Above offset → ⊥) × (AfterSc xlen ws p × ToStart p offset → ⊥)) → WrongBy (past ≡ true) p offset
-    unfolding WrongBy
-    bad_is offset (inl odd) = inl odd
-    bad_is offset (inr low) = inr (low.0, λ h. low.1 (past_first p (omega arith) h.0, h.1))
+    bad_decides : (offset : ℕ) → Decides (wrong_offset past p offset) ((offset % 4 ≢ 0) ⊎ ((Above offset → ⊥) × (AfterSc xlen ws p × ToStart p offset → ⊥)))
+    bad_decides offset = wrong_decides past p offset (past_first p (omega arith), after_past p)
 
     pub three_true : (v : View) → view_at settings ws p ≡ v → reason3 past p v ≡ true → BadOffset xlen ws p
     three_true (Lr rd s u) q t = contrary t refl
@@ -226,10 +164,10 @@ module _ (settings : Settings) (ws : List ℕ) where
     three_true (Plain rd) q t = contrary t refl
     three_true (Jump rd off) q t =
         let e : Seen (word p) (Jump rd off) = subst (Seen (word p)) q (seen settings (word p)) in
-        (off, inl (rd, stands (I.Jal rd off) e), is_bad off (wrong past p off t))
+        (off, inl (rd, stands (I.Jal rd off) e), (bad_decides off).0 t)
     three_true (Branch off) q t =
         let e : Seen (word p) (Branch off) = subst (Seen (word p)) q (seen settings (word p)) in
-        (off, inr (e.0, e.1, e.2, stands (I.Branch e.0 e.1 e.2 off) e.3), is_bad off (wrong past p off t))
+        (off, inr (e.0, e.1, e.2, stands (I.Branch e.0 e.1 e.2 off) e.3), (bad_decides off).0 t)
     three_true Other q t = contrary t refl
 
     leads : (offset : ℕ) → LeadsBy xlen ws p offset → reason3 past p (view_at settings ws p) ≡ wrong_offset past p offset
@@ -238,7 +176,7 @@ module _ (settings : Settings) (ws : List ℕ) where
     leads offset (inr b) = ap (λ (i : Instr). reason3 past p (view_of settings i)) b.3.decodes
 
     pub three_false : reason3 past p (view_at settings ws p) ≡ false → BadOffset xlen ws p → ⊥
-    three_false t b = right past p b.0 (sym (leads b.0 b.1) ∙ t) (bad_is b.0 b.2)
+    three_false t b = not_from_Decides _ (bad_decides b.0) (sym (leads b.0 b.1) ∙ t) b.2
 
     -- ---- with the LR at place 0
 
@@ -261,7 +199,7 @@ module _ (settings : Settings) (ws : List ℕ) where
           → Overwrites xlen ws p
       writes v q n rd h t =
           let s = and_both (not past) (clobbers rs1 rd) t in
-          let c = clobbers_true rs1 rd s.1 in
+          let c = (clobbers_decides rs1 rd).0 s.1 in
           (lr, word p, first, inr (past_before p (not-true past s.0) (ap is_sc q ∙ n)), stands (word p) refl, subst (HasRd (word p)) c.0 h, c.1)
 
       pub four_true : (v : View) → view_at settings ws p ≡ v → reason4 rs1 past v ≡ true → Overwrites xlen ws p
@@ -285,18 +223,18 @@ module _ (settings : Settings) (ws : List ℕ) where
       not_first v q n z = n (sym (at_start z) ∙ q)
 
       caught : (rd : ℕ) → past ≡ false → rd ≡ rs1 → (rs1 ≡ 0 → ⊥) → (not past && clobbers rs1 rd) ≡ false → ⊥
-      caught rd e h n t = contrary (both (not past) (clobbers rs1 rd) (not_of past e) (true_clobbers rs1 rd h n)) t
+      caught rd e h n t = contrary (and_from (not past) (clobbers rs1 rd) (not_from_false past e) ((clobbers_decides rs1 rd).1 (h, n))) t
 
       overwritten : (v : View) → view_at settings ws p ≡ v → reason2 past p v ≡ false → reason4 rs1 past v ≡ false
           → (p ≡ 0) ⊎ BeforeSc xlen ws p → RdSeen v rs1 → (rs1 ≡ 0 → ⊥) → ⊥
       overwritten (Lr rd s u) q t f b h n = caught rd (early b) h n f
-      overwritten (Sc s u) q t f (inl z) h n = not_first (Sc s u) q (λ e. let z' : ◌≡◌ {A = ℕ} 0 1 = cc in omega arith) z
+      overwritten (Sc s u) q t f (inl z) h n = not_first (Sc s u) q (λ e. cc) z
       overwritten (Sc s u) q t f (inr b) h n = sc_late p l (ap is_sc q) b
       overwritten (Plain rd) q t f b h n = caught rd (early b) h n f
       overwritten (Jump rd off) q t f b h n = caught rd (early b) h n f
       overwritten (Branch off) q t f b h n = h
       overwritten Other q t f b h n =
-          not_first Other q (λ e. let z' : ◌≡◌ {A = ℕ} 0 1 = cc in omega arith) (omega (arith, ltb-false 0 p t))
+          not_first Other q (λ e. cc) (omega (arith, ltb-false 0 p t))
 
       pub four_false : (v : View) → view_at settings ws p ≡ v → reason2 past p v ≡ false → reason4 rs1 past v ≡ false → Overwrites xlen ws p → ⊥
       four_false v q t f o =
@@ -335,11 +273,11 @@ module _ (settings : Settings) (ws : List ℕ) where
           let fits = eqb (bytes_of sc.width) width in
           let same = eqb sc.rs1 rs1 in
           let f : (not past && (not fits || not same)) ≡ false = sym (ap (reason5 rs1 width past) v) ∙ t in
-          let g = and_second (not past) (not fits || not same) f (not_of past (first_past p (omega arith) o.3)) in
+          let g = and_second (not past) (not fits || not same) f (not_from_false past (first_past p (omega arith) o.3)) in
           ⊎_elim
           (λ (w : sc.width ≡ o.0.width → ⊥).
-          w (widths_same sc.width lr.width (eqb-true (bytes_of sc.width) width (not-false fits (or_left (not fits) (not same) g)))
+          w (widths_same sc.width lr.width (eqb-true (bytes_of sc.width) width (not-false fits (or_parts (not fits) (not same) g).0))
           ∙ sym (ap (λ (a : Atomic). a.width) lr_is)))
           (λ (w : sc.rs1 ≡ o.0.rs1 → ⊥).
-          w (eqb-true sc.rs1 rs1 (not-false same (or_right (not fits) (not same) g)) ∙ sym (ap (λ (a : Atomic). a.rs1) lr_is)))
+          w (eqb-true sc.rs1 rs1 (not-false same (or_parts (not fits) (not same) g).1) ∙ sym (ap (λ (a : Atomic). a.rs1) lr_is)))
           o.5

@@ -53,8 +53,8 @@ Decides settings ws (Rejected p r) = Lowest settings ws p r
 Decides settings ws (Refused n) = ⊥
 
 leads_in : (xlen : ℕ) (ws : List ℕ) (p offset : ℕ) → LeadsBy xlen ws p offset → p < length ws
-leads_in xlen ws p offset (inl j) = j.1.in_block
-leads_in xlen ws p offset (inr b) = b.3.in_block
+leads_in _ ws p offset (inl j) = j.1.in_block
+leads_in _ ws p offset (inr b) = b.3.in_block
 
 module _ (settings : Settings) (ws : List ℕ) (lr : Atomic) (first : LrAt (xlen_of settings) ws 0 lr) where
   abbrev rs1 : ℕ
@@ -187,11 +187,11 @@ started settings ws (Lr rd s u) q l =
     subst (λ (n : ℕ). Decides settings ws (scan_of settings n u ws (length ws) 0)) f.2
     (subst (λ (n : ℕ). Decides settings ws (scan_of settings f.0.rs1 n ws (length ws) 0)) f.3
     (scanned settings ws f.0 f.1 (length ws) 0 (omega arith) (λ k r h. absurd (omega arith))))
-started settings ws (Sc s u) q l = no_lr_lem settings ws (Sc s u) q (λ a b c e. let z : ◌≡◌ {A = ℕ} 0 1 = cc in omega arith)
-started settings ws (Plain rd) q l = no_lr_lem settings ws (Plain rd) q (λ a b c e. let z : ◌≡◌ {A = ℕ} 0 1 = cc in omega arith)
-started settings ws (Jump rd off) q l = no_lr_lem settings ws (Jump rd off) q (λ a b c e. let z : ◌≡◌ {A = ℕ} 0 1 = cc in omega arith)
-started settings ws (Branch off) q l = no_lr_lem settings ws (Branch off) q (λ a b c e. let z : ◌≡◌ {A = ℕ} 0 1 = cc in omega arith)
-started settings ws Other q l = no_lr_lem settings ws Other q (λ a b c e. let z : ◌≡◌ {A = ℕ} 0 1 = cc in omega arith)
+started settings ws (Sc s u) q l = no_lr_lem settings ws (Sc s u) q (λ a b c e. cc)
+started settings ws (Plain rd) q l = no_lr_lem settings ws (Plain rd) q (λ a b c e. cc)
+started settings ws (Jump rd off) q l = no_lr_lem settings ws (Jump rd off) q (λ a b c e. cc)
+started settings ws (Branch off) q l = no_lr_lem settings ws (Branch off) q (λ a b c e. cc)
+started settings ws Other q l = no_lr_lem settings ws Other q (λ a b c e. cc)
 
 abbrev Unsized : List ℕ → Type 0
 Unsized ws = (length ws < 2) ⊎ (16 < length ws)
@@ -263,7 +263,7 @@ same_lowest settings ws p r q s a b = (places, reasons)
 module _ (settings : Settings) (ws : List ℕ) where
   accepts_to : (r : LoopAnswer) → Checked settings ws r → r ≡ Accepted → ReadingRules settings × Sized ws × Unreasoned settings ws
   accepts_to r (judged v s d) e = (v, s, subst (Decides settings ws) e d)
-  accepts_to r (turned n u q) e = absurd (let z : ◌≡◌ {A = ℕ} 0 1 = cc in omega arith)
+  accepts_to r (turned n u q) e = cc
 
   to_accepts : (r : LoopAnswer) → Checked settings ws r → ReadingRules settings × Sized ws × Unreasoned settings ws → r ≡ Accepted
   to_accepts Accepted c h = refl
@@ -274,7 +274,7 @@ module _ (settings : Settings) (ws : List ℕ) where
 
   rejects_to : (p r : ℕ) (a : LoopAnswer) → Checked settings ws a → a ≡ Rejected p r → ReadingRules settings × Sized ws × Lowest settings ws p r
   rejects_to p r a (judged v s d) e = (v, s, subst (Decides settings ws) e d)
-  rejects_to p r a (turned n u q) e = absurd (let z : ◌≡◌ {A = ℕ} 0 1 = cc in omega arith)
+  rejects_to p r a (turned n u q) e = cc
 
   to_rejects : (p r : ℕ) (a : LoopAnswer) → Checked settings ws a → ReadingRules settings × Sized ws × Lowest settings ws p r → a ≡ Rejected p r
   to_rejects p r Accepted (judged v s d) h = absurd (d p r h.2.applies)

@@ -1,7 +1,8 @@
 -- What acceptance of a block says of the word at each place. Assumes nothing.
 use Rattle.std.proofs.Common.{◌≡◌, ℕ, zero, suc, ◌+◌, ◌*◌, ◌%◌, ◌^◌, ◌<◌, ◌≤◌, Bool, true, false, cond, not, ◌&&◌, ◌||◌}
 use Rattle.std.proofs.Common.{eqb, ltb, ◌⊎◌, List, length, get_or, sym, refl, ap, ◌∙◌, subst, inl, inr, arith, ltb-false, ltb-true, lt-ltb, eqb-true}
-use borrow.Author.Tests.{not-false}
+use borrow.Author.Tests.{not-false, eqb-false}
+use Rattle.std.proofs.lemmas.Bool.{or_parts, not_from_false}
 use Rattle.word.proofs.TestLaws.{bool_cases, contrary, and_both}
 use Rattle.settings.specs.Settings.{xlen_of, reading_ok}
 use Rattle.settings.specs.declared.Settings.{Settings}
@@ -19,7 +20,7 @@ use Rattle.retry.specs.Loop.{view_at, is_sc, past_sc, is_above, to_start, wrong_
 use Rattle.retry.specs.Loop.{reason2, reason3, reason4, reason5, lowest_of, or_else, scan_of, start_of, check_of}
 use Rattle.retry.specs.Reasons.{FirstSc, Sized}
 use Rattle.retry.proofs.ViewLaws.{Seen, SeenLr, seen}
-use Rattle.retry.proofs.PlaceLaws.{not_of, or_left, or_right, and_second, above, true_clobbers, sc_is, is_sc_lem, past_first, first_past, after_past}
+use Rattle.retry.proofs.PlaceLaws.{and_second, is_above_decides, clobbers_decides, sc_is, is_sc_lem, past_first, first_past, after_past}
 
 -- the offset leads forward by whole words, and not farther than a JAL can
 abbrev pub Ahead : ℕ → Type 0
@@ -92,7 +93,7 @@ clear rs1 width past place v e =
 keeps_rs1 : (rs1 rd : ℕ) → clobbers rs1 rd ≡ false → Keeps rs1 rd
 keeps_rs1 rs1 rd t e =
     bool_cases (eqb rs1 0) (λ z. eqb-true rs1 0 z)
-    (λ z. contrary (true_clobbers rs1 rd (sym e) (λ n. contrary (subst (λ (k : ℕ). eqb k 0 ≡ true) (sym n) refl) z)) t)
+    (λ z. contrary ((clobbers_decides rs1 rd).1 (sym e, eqb-false rs1 0 z)) t)
 
 -- what every word shows: its offset, if it has one, is short
 abbrev ShortIn : View → Type 0
@@ -115,11 +116,11 @@ offset_right : (past : Bool) (place offset : ℕ) → Short offset → wrong_off
     → Ahead offset ⊎ ((past ≡ true) × Home place offset)
 unfolding wrong_offset
 offset_right past place offset near t =
-    let four : offset % 4 ≡ 0 = eqb-true (offset % 4) 0 (not-false (eqb (offset % 4) 0) (or_left (not (eqb (offset % 4) 0)) _ t)) in
-    let f : (not (is_above offset) && not (past && to_start place offset)) ≡ false = or_right (not (eqb (offset % 4) 0)) _ t in
-    bool_cases (is_above offset) (λ a. let s = above offset a in inl (four, s.0, near s.1))
+    let f = or_parts (not (eqb (offset % 4) 0)) (not (is_above offset) && not (past && to_start place offset)) t in
+    let four : offset % 4 ≡ 0 = eqb-true (offset % 4) 0 (not-false (eqb (offset % 4) 0) f.0) in
+    bool_cases (is_above offset) (λ a. let s = (is_above_decides offset).0 a in inl (four, s.0, near s.1))
     (λ a.
-    let home = not-false (past && to_start place offset) (and_second (not (is_above offset)) _ f (not_of (is_above offset) a)) in
+    let home = not-false (past && to_start place offset) (and_second (not (is_above offset)) _ f.1 (not_from_false (is_above offset) a)) in
     let s = and_both past (to_start place offset) home in
     inr (s.0, (four, eqb-true ((4 * place + offset) % 2 ^ 64) 0 s.1)))
 
@@ -141,7 +142,7 @@ module _ (rs1 width : ℕ) (past : Bool) (place : ℕ) (0<place : 0 < place) whe
       go (inr b) = inr b.1
 
   kept : past ≡ false → (rd : ℕ) → (not past && clobbers rs1 rd) ≡ false → Keeps rs1 rd
-  kept e rd t = keeps_rs1 rs1 rd (and_second (not past) (clobbers rs1 rd) t (not_of past e))
+  kept e rd t = keeps_rs1 rs1 rd (and_second (not past) (clobbers rs1 rd) t (not_from_false past e))
 
   before_at : (v : View) → ShortIn v → Clear rs1 width past place v → past ≡ false → is_sc v ≡ false → Before rs1 v
   before_at (Lr rd s u) near c e n = contrary (lt-ltb 0 place 0<place) c.no2
@@ -162,9 +163,10 @@ module _ (rs1 width : ℕ) (past : Bool) (place : ℕ) (0<place : 0 < place) whe
   sc_at : (v : View) → Clear rs1 width past place v → past ≡ false → is_sc v ≡ true → v ≡ Sc rs1 width
   sc_at (Lr rd s u) c e n = contrary n refl
   sc_at (Sc s u) c e n =
-      let f = and_second (not past) (not (eqb u width) || not (eqb s rs1)) c.no5 (not_of past e) in
-      let a : u ≡ width = eqb-true u width (not-false (eqb u width) (or_left (not (eqb u width)) (not (eqb s rs1)) f)) in
-      let b : s ≡ rs1 = eqb-true s rs1 (not-false (eqb s rs1) (or_right (not (eqb u width)) (not (eqb s rs1)) f)) in
+      let f = and_second (not past) (not (eqb u width) || not (eqb s rs1)) c.no5 (not_from_false past e) in
+      let g = or_parts (not (eqb u width)) (not (eqb s rs1)) f in
+      let a : u ≡ width = eqb-true u width (not-false (eqb u width) g.0) in
+      let b : s ≡ rs1 = eqb-true s rs1 (not-false (eqb s rs1) g.1) in
       cc
   sc_at (Plain rd) c e n = contrary n refl
   sc_at (Jump rd offset) c e n = contrary n refl
@@ -179,7 +181,7 @@ bytes_cases Double = inr refl
 
 goes_on : (place r : ℕ) (rest : LoopAnswer) → or_else place r rest ≡ Accepted → (r ≡ 0) × (rest ≡ Accepted)
 goes_on place zero rest e = (refl, e)
-goes_on place (suc r) rest e = absurd (let z : ◌≡◌ {A = ℕ} 0 1 = cc in omega arith)
+goes_on place (suc r) rest e = cc
 
 module _ (settings : Settings) (rs1 width : ℕ) (ws : List ℕ) where
   -- every place from p on is clear, and an SC stands in the block
@@ -192,7 +194,7 @@ module _ (settings : Settings) (rs1 width : ℕ) (ws : List ℕ) where
     where
       ended : (t : Bool) → cond t Accepted (Rejected p 6) ≡ Accepted → t ≡ true
       ended true q = refl
-      ended false q = absurd (let z : ◌≡◌ {A = ℕ} 0 1 = cc in omega arith)
+      ended false q = cc
   cleared (suc n) p e a =
       let g = goes_on p (lowest_of rs1 width (past_sc settings ws p) p (view_at settings ws p)) (scan_of settings rs1 width ws n (suc p)) a in
       let r = cleared n (suc p) (omega arith) g.1 in (
@@ -260,7 +262,7 @@ module _ (settings : Settings) (rs1 width : ℕ) (ws : List ℕ) where
       own : Clear rs1 width (past_sc settings ws 0) 0 (view_at settings ws 0) → Keeps rs1 rd
       own c =
           let past = past_sc settings ws 0 in
-          keeps_rs1 rs1 rd (and_second (not past) (clobbers rs1 rd) (sym (ap (reason4 rs1 past) q) ∙ c.no4) (not_of past start))
+          keeps_rs1 rs1 rd (and_second (not past) (clobbers rs1 rd) (sym (ap (reason4 rs1 past) q) ∙ c.no4) (not_from_false past start))
         where
           start : past_sc settings ws 0 ≡ false
           start = bool_cases (past_sc settings ws 0) (λ t. let f = past_first settings ws 0 (omega arith) t in absurd (omega (arith, f.2))) (λ t. t)
@@ -277,11 +279,11 @@ module _ (settings : Settings) (rs1 width : ℕ) (ws : List ℕ) where
 started : (settings : Settings) (ws : List ℕ) (v : View) → view_at settings ws 0 ≡ v → Sized ws → start_of settings v ws ≡ Accepted → Block settings ws
 unfolding start_of
 started settings ws (Lr rd rs1 width) q z a = built settings rs1 width ws rd z q a
-started settings ws (Sc s u) q z a = absurd (let n : ◌≡◌ {A = ℕ} 0 1 = cc in omega arith)
-started settings ws (Plain rd) q z a = absurd (let n : ◌≡◌ {A = ℕ} 0 1 = cc in omega arith)
-started settings ws (Jump rd offset) q z a = absurd (let n : ◌≡◌ {A = ℕ} 0 1 = cc in omega arith)
-started settings ws (Branch offset) q z a = absurd (let n : ◌≡◌ {A = ℕ} 0 1 = cc in omega arith)
-started settings ws Other q z a = absurd (let n : ◌≡◌ {A = ℕ} 0 1 = cc in omega arith)
+started settings ws (Sc s u) q z a = cc
+started settings ws (Plain rd) q z a = cc
+started settings ws (Jump rd offset) q z a = cc
+started settings ws (Branch offset) q z a = cc
+started settings ws Other q z a = cc
 
 pub block : (settings : Settings) (ws : List ℕ) → check_of settings ws ≡ Accepted → Block settings ws
 unfolding check_of
@@ -289,12 +291,12 @@ block settings ws a = by_setting_lem (reading_ok settings) a
   where
     long : (t : Bool) → ltb 16 (length ws) ≡ t → 2 ≤ length ws → cond t (Refused 6) (start_of settings (view_at settings ws 0) ws) ≡ Accepted
         → Block settings ws
-    long true e h q = absurd (let n : ◌≡◌ {A = ℕ} 0 1 = cc in omega arith)
+    long true e h q = cc
     long false e h q = started settings ws (view_at settings ws 0) refl (h, ltb-false 16 (length ws) e) q
 
     short : (t : Bool) → ltb (length ws) 2 ≡ t
         → cond t (Refused 6) (cond (ltb 16 (length ws)) (Refused 6) (start_of settings (view_at settings ws 0) ws)) ≡ Accepted → Block settings ws
-    short true e q = absurd (let n : ◌≡◌ {A = ℕ} 0 1 = cc in omega arith)
+    short true e q = cc
     short false e q = long (ltb 16 (length ws)) refl (ltb-false (length ws) 2 e) q
 
     by_setting_lem : (t : Bool)
@@ -302,4 +304,4 @@ block settings ws a = by_setting_lem (reading_ok settings) a
         ≡ Accepted
         → Block settings ws
     by_setting_lem true q = short (ltb (length ws) 2) refl q
-    by_setting_lem false q = absurd (let n : ◌≡◌ {A = ℕ} 0 1 = cc in omega arith)
+    by_setting_lem false q = cc

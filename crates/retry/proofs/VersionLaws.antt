@@ -1,11 +1,13 @@
 -- The loops of the two versions of A, at one register width: under 2.1 exactly the reasons of 2.0 apply, and reason 2 at each later JALR. So without a JALR
 -- 2.0 accepts what 2.1 accepts, and 2.1 accepts no block with one. Assumes nothing.
-use Rattle.std.proofs.Common.{◌≡◌, ℕ, ◌<◌, ◌≢◌, ◌⊎◌, ◌↔◌, List, length, get_or, sym, refl, ◌∙◌, subst, inl, inr, ⊎_elim, arith}
+use Rattle.std.proofs.Common.{◌≡◌, ℕ, Option, Some, ◌<◌, ◌≢◌, ◌⊎◌, ◌↔◌, List, length, get_or, sym, refl, ◌∙◌, subst, inl, inr, ⊎_elim, arith}
 use native.Mathlib.Decide.{dec_lt}
 use Rattle.settings.specs.Settings.{xlen_of, VersionRules, JalrPermitted, ReadingRules}
 use Rattle.settings.specs.declared.Settings.{Settings}
 use Rattle.settings.proofs.SettingsLaws.{not_both, kind_xlen, kind_rules}
-use Rattle.isa.specs.Decode.{JALR, class_of}
+use Rattle.isa.specs.Decode.{class_of}
+use Rattle.isa.specs.declared.class.Class.{Class}
+use Rattle.isa.specs.declared.class.Class.TheVariants as C
 use Rattle.isa.specs.Narrow.{decode_at}
 use Rattle.isa.specs.declared.Instr.{Instr}
 use Rattle.isa.specs.declared.Instr.TheVariants as I
@@ -26,60 +28,60 @@ AJalr i = (rd : ℕ) × (rs1 : ℕ) × (imm : ℕ) × (i ≡ I.Jalr rd rs1 imm)
 
 -- every instruction is one or isn't
 jalr_or_not : (i : Instr) → AJalr i ⊎ (AJalr i → ⊥)
-jalr_or_not I.Illegal = inr (λ j. let z : ◌≡◌ {A = ℕ} 0 1 = cc j.3 in omega arith)
-jalr_or_not (I.Lui rd imm) = inr (λ j. let z : ◌≡◌ {A = ℕ} 0 1 = cc j.3 in omega arith)
-jalr_or_not (I.Auipc rd imm) = inr (λ j. let z : ◌≡◌ {A = ℕ} 0 1 = cc j.3 in omega arith)
-jalr_or_not (I.Jal rd imm) = inr (λ j. let z : ◌≡◌ {A = ℕ} 0 1 = cc j.3 in omega arith)
+jalr_or_not I.Illegal = inr (λ j. cc j.3)
+jalr_or_not (I.Lui rd imm) = inr (λ j. cc j.3)
+jalr_or_not (I.Auipc rd imm) = inr (λ j. cc j.3)
+jalr_or_not (I.Jal rd imm) = inr (λ j. cc j.3)
 jalr_or_not (I.Jalr rd rs1 imm) = inl (rd, rs1, imm, refl)
-jalr_or_not (I.Branch op rs1 rs2 imm) = inr (λ j. let z : ◌≡◌ {A = ℕ} 0 1 = cc j.3 in omega arith)
-jalr_or_not (I.Load op rd rs1 imm) = inr (λ j. let z : ◌≡◌ {A = ℕ} 0 1 = cc j.3 in omega arith)
-jalr_or_not (I.Store op rs1 rs2 imm) = inr (λ j. let z : ◌≡◌ {A = ℕ} 0 1 = cc j.3 in omega arith)
-jalr_or_not (I.OpImm op rd rs1 imm) = inr (λ j. let z : ◌≡◌ {A = ℕ} 0 1 = cc j.3 in omega arith)
-jalr_or_not (I.OpImm32 op rd rs1 imm) = inr (λ j. let z : ◌≡◌ {A = ℕ} 0 1 = cc j.3 in omega arith)
-jalr_or_not (I.Op op rd rs1 rs2) = inr (λ j. let z : ◌≡◌ {A = ℕ} 0 1 = cc j.3 in omega arith)
-jalr_or_not (I.Op32 op rd rs1 rs2) = inr (λ j. let z : ◌≡◌ {A = ℕ} 0 1 = cc j.3 in omega arith)
-jalr_or_not (I.Fence rd rs1 imm) = inr (λ j. let z : ◌≡◌ {A = ℕ} 0 1 = cc j.3 in omega arith)
-jalr_or_not I.Ecall = inr (λ j. let z : ◌≡◌ {A = ℕ} 0 1 = cc j.3 in omega arith)
-jalr_or_not I.Ebreak = inr (λ j. let z : ◌≡◌ {A = ℕ} 0 1 = cc j.3 in omega arith)
-jalr_or_not (I.Amo a) = inr (λ j. let z : ◌≡◌ {A = ℕ} 0 1 = cc j.3 in omega arith)
+jalr_or_not (I.Branch op rs1 rs2 imm) = inr (λ j. cc j.3)
+jalr_or_not (I.Load op rd rs1 imm) = inr (λ j. cc j.3)
+jalr_or_not (I.Store op rs1 rs2 imm) = inr (λ j. cc j.3)
+jalr_or_not (I.OpImm op rd rs1 imm) = inr (λ j. cc j.3)
+jalr_or_not (I.OpImm32 op rd rs1 imm) = inr (λ j. cc j.3)
+jalr_or_not (I.Op op rd rs1 rs2) = inr (λ j. cc j.3)
+jalr_or_not (I.Op32 op rd rs1 rs2) = inr (λ j. cc j.3)
+jalr_or_not (I.Fence rd rs1 imm) = inr (λ j. cc j.3)
+jalr_or_not I.Ecall = inr (λ j. cc j.3)
+jalr_or_not I.Ebreak = inr (λ j. cc j.3)
+jalr_or_not (I.Amo a) = inr (λ j. cc j.3)
 
 -- a legal word of that class is a JALR
-jalr_of_lem : (c : ℕ) (i : Instr) → InClass c i → c ≡ JALR → i ≢ I.Illegal → AJalr i
+jalr_of_lem : (c : Option Class) (i : Instr) → InClass c i → c ≡ Some C.Jalr → i ≢ I.Illegal → AJalr i
 jalr_of_lem c I.Illegal e q n = absurd (n refl)
-jalr_of_lem c (I.Lui rd imm) e q n = absurd (omega arith)
-jalr_of_lem c (I.Auipc rd imm) e q n = absurd (omega arith)
-jalr_of_lem c (I.Jal rd imm) e q n = absurd (omega arith)
+jalr_of_lem c (I.Lui rd imm) e q n = cc
+jalr_of_lem c (I.Auipc rd imm) e q n = cc
+jalr_of_lem c (I.Jal rd imm) e q n = cc
 jalr_of_lem c (I.Jalr rd rs1 imm) e q n = (rd, rs1, imm, refl)
-jalr_of_lem c (I.Branch op rs1 rs2 imm) e q n = absurd (omega arith)
-jalr_of_lem c (I.Load op rd rs1 imm) e q n = absurd (omega arith)
-jalr_of_lem c (I.Store op rs1 rs2 imm) e q n = absurd (omega arith)
-jalr_of_lem c (I.OpImm op rd rs1 imm) e q n = absurd (omega arith)
-jalr_of_lem c (I.OpImm32 op rd rs1 imm) e q n = absurd (omega arith)
-jalr_of_lem c (I.Op op rd rs1 rs2) e q n = absurd (omega arith)
-jalr_of_lem c (I.Op32 op rd rs1 rs2) e q n = absurd (omega arith)
-jalr_of_lem c (I.Fence rd rs1 imm) e q n = absurd (omega arith)
-jalr_of_lem c I.Ecall e q n = absurd (omega arith)
-jalr_of_lem c I.Ebreak e q n = absurd (omega arith)
-jalr_of_lem c (I.Amo a) e q n = absurd (omega arith)
+jalr_of_lem c (I.Branch op rs1 rs2 imm) e q n = cc
+jalr_of_lem c (I.Load op rd rs1 imm) e q n = cc
+jalr_of_lem c (I.Store op rs1 rs2 imm) e q n = cc
+jalr_of_lem c (I.OpImm op rd rs1 imm) e q n = cc
+jalr_of_lem c (I.OpImm32 op rd rs1 imm) e q n = cc
+jalr_of_lem c (I.Op op rd rs1 rs2) e q n = cc
+jalr_of_lem c (I.Op32 op rd rs1 rs2) e q n = cc
+jalr_of_lem c (I.Fence rd rs1 imm) e q n = cc
+jalr_of_lem c I.Ecall e q n = cc
+jalr_of_lem c I.Ebreak e q n = cc
+jalr_of_lem c (I.Amo a) e q n = cc
 
 -- and only its words are
-jalr_class : (xlen w rd rs1 imm : ℕ) → decode_at xlen w ≡ I.Jalr rd rs1 imm → class_of w ≡ JALR
+jalr_class : (xlen w rd rs1 imm : ℕ) → decode_at xlen w ≡ I.Jalr rd rs1 imm → class_of w ≡ Some C.Jalr
 jalr_class xlen w rd rs1 imm e = subst (InClass (class_of w)) e (in_class xlen w)
 
 -- where JALR isn't permitted, its class is none of the permitted ones
-other_class : (s : Settings) (c : ℕ) → (JalrPermitted s → ⊥) → c ≡ JALR → PermittedClass s c → ⊥
-other_class s c n q (is_lui e) = omega arith
-other_class s c n q (is_auipc e) = omega arith
-other_class s c n q (is_jal e) = omega arith
-other_class s c n q (is_branch e) = omega arith
-other_class s c n q (is_op e) = omega arith
-other_class s c n q (is_op_imm e) = omega arith
-other_class s c n q (is_op32 e) = omega arith
-other_class s c n q (is_op_imm32 e) = omega arith
+other_class : (s : Settings) (c : Option Class) → (JalrPermitted s → ⊥) → c ≡ Some C.Jalr → PermittedClass s c → ⊥
+other_class s c n q (is_lui e) = cc
+other_class s c n q (is_auipc e) = cc
+other_class s c n q (is_jal e) = cc
+other_class s c n q (is_branch e) = cc
+other_class s c n q (is_op e) = cc
+other_class s c n q (is_op_imm e) = cc
+other_class s c n q (is_op32 e) = cc
+other_class s c n q (is_op_imm32 e) = cc
 other_class s c n q (is_jalr p e) = n p
 
 -- a class that s permits t permits too, JALR's if it does
-class_by : (s t : Settings) (c : ℕ) → (JalrPermitted s → c ≡ JALR → PermittedClass t c) → PermittedClass s c → PermittedClass t c
+class_by : (s t : Settings) (c : Option Class) → (JalrPermitted s → c ≡ Some C.Jalr → PermittedClass t c) → PermittedClass s c → PermittedClass t c
 class_by s t c j (is_lui e) = is_lui e
 class_by s t c j (is_auipc e) = is_auipc e
 class_by s t c j (is_jal e) = is_jal e
@@ -91,7 +93,7 @@ class_by s t c j (is_op_imm32 e) = is_op_imm32 e
 class_by s t c j (is_jalr p e) = j p e
 
 -- and so a word, if both have one width
-permitted_by : (s t : Settings) → xlen_of s ≡ xlen_of t → (w : ℕ) → (JalrPermitted s → class_of w ≡ JALR → PermittedClass t (class_of w))
+permitted_by : (s t : Settings) → xlen_of s ≡ xlen_of t → (w : ℕ) → (JalrPermitted s → class_of w ≡ Some C.Jalr → PermittedClass t (class_of w))
     → Permitted s w → Permitted t w
 permitted_by s t same w j p = (class_by s t (class_of w) j p.0, subst (λ (n : ℕ). decode_at n w ≢ I.Illegal) same p.1)
 
@@ -189,7 +191,7 @@ module _ (ws : List ℕ) where
     jalr_two place rd rs1 imm st l = (
       l,
       st.in_block,
-      (λ f. let z : ◌≡◌ {A = ℕ} 0 1 = cc (same, st.decodes, f.0.1.0.decodes) in omega arith),
+      (λ f. cc (same, st.decodes, f.0.1.0.decodes)),
       λ p. other_class t _ not_20 (jalr_class xlen (get_or ws place 0) rd rs1 imm st.decodes) p.0,
     )
 
@@ -223,7 +225,7 @@ module _ (ws : List ℕ) where
               λ at x.
                   let start : place ≡ 0 = omega arith in
                   let first = subst (λ (k : ℕ). decode_at xlen (get_or ws k 0) ≡ I.Jalr rd rs1 imm) start st.decodes in
-                  let z : ◌≡◌ {A = ℕ} 0 1 = cc (same, first, x.0.decodes) in omega arith,
+                  cc (same, first, x.0.decodes),
             ))
 
     -- "All else is the same.": a block without a JALR gets the same answer under both, a place and a reason or a refusal among them

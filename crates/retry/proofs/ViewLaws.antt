@@ -1,5 +1,5 @@
 -- What the checker sees of an instruction says what the instruction is. Assumes nothing.
-use Rattle.std.proofs.Common.{◌≡◌, ℕ, true, ◌≢◌, refl, ap, ◌∙◌, subst, arith}
+use Rattle.std.proofs.Common.{◌≡◌, ℕ, Option, true, ◌≢◌, refl, ap, ◌∙◌, subst, arith}
 use Rattle.word.proofs.TestLaws.{bool_cases, contrary}
 use Rattle.word.proofs.ChooseLaws.{cond_all, cond_cases}
 use Rattle.settings.specs.Settings.{xlen_of, jalr_permitted}
@@ -7,6 +7,7 @@ use Rattle.settings.specs.declared.Settings.{Settings}
 use Rattle.settings.proofs.SettingsLaws.{jalr_exact}
 use Rattle.isa.specs.Width.{bytes_of}
 use Rattle.isa.specs.Decode.{class_of}
+use Rattle.isa.specs.declared.class.Class.{Class}
 use Rattle.isa.specs.Narrow.{decode_at}
 use Rattle.isa.specs.declared.BranchOp.{BranchOp}
 use Rattle.isa.specs.declared.Width.{Width}
@@ -127,7 +128,7 @@ Body (Jump rd offset) = Unit {0}
 Body (Branch offset) = Unit {0}
 Body Other = ⊥
 
-tested : (settings : Settings) (c : ℕ) → PermittedClass settings c → permitted_class settings c ≡ true
+tested : (settings : Settings) (c : Option Class) → PermittedClass settings c → permitted_class settings c ≡ true
 tested settings c (is_lui e) = rw e
 tested settings c (is_auipc e) = rw e
 tested settings c (is_jal e) = rw e
@@ -138,7 +139,7 @@ tested settings c (is_op32 e) = rw e
 tested settings c (is_op_imm32 e) = rw e
 tested settings c (is_jalr p e) = rw (e, (jalr_exact settings).1 p)
 
-body_of : (settings : Settings) (c : ℕ) (i : Instr) → InClass c i → permitted_class settings c ≡ true → i ≢ I.Illegal → Body (view_of settings i)
+body_of : (settings : Settings) (c : Option Class) (i : Instr) → InClass c i → permitted_class settings c ≡ true → i ≢ I.Illegal → Body (view_of settings i)
 unfolding view_of
 body_of settings c I.Illegal e t h = h refl
 body_of settings c (I.Lui rd imm) e t h = tt
@@ -170,7 +171,7 @@ atomic_no_body A.Cas a b = b
 atomic_no_body A.CasPair a b = b
 atomic_no_body (A.Rmw op) a b = b
 
-class_of_lem : (settings : Settings) (c : ℕ) (i : Instr) → InClass c i → Body (view_of settings i) → PermittedClass settings c
+class_of_lem : (settings : Settings) (c : Option Class) (i : Instr) → InClass c i → Body (view_of settings i) → PermittedClass settings c
 unfolding view_of
 class_of_lem settings c I.Illegal e b = absurd b
 class_of_lem settings c (I.Lui rd imm) e b = is_lui e

@@ -1,13 +1,14 @@
 -- Which blocks of words are accepted: 01, "A block is a list of words. It is accepted exactly if no reason below applies; otherwise the answer is the
 -- lowest place with a reason, and at that place the lowest reason." By the version of A and the register width that the settings have (02 [7], [10]).
 -- RULES 6.1.
-use Rattle.std.specs.Prelude.{ℕ, zero, suc, ◌+◌, ◌*◌, ◌%◌, ◌^◌, Bool, true, false, cond, not, ◌&&◌, ◌||◌, List, [], ◌∷◌, ◌++◌, length, ◌==◌, nat_lt, slice_index}
+use Rattle.std.specs.Prelude.{ℕ, zero, suc, ◌+◌, ◌*◌, ◌%◌, ◌^◌, Bool, true, false, cond, not, ◌&&◌, ◌||◌, List, [], ◌∷◌, ◌++◌, length, ◌==◌, nat_lt, slice_index, Option, Some, None}
 use Rattle.word.specs.Bytes.{le}
 use Rattle.word.specs.Memory.{part}
 use Rattle.settings.specs.Settings.{xlen_of, reading_ok, jalr_permitted}
 use Rattle.settings.specs.declared.Settings.{Settings}
 use Rattle.isa.specs.Width.{bytes_of}
-use Rattle.isa.specs.Decode.{AUIPC, LUI, JAL, JALR, BRANCH, OP, OP-IMM, OP-32, OP-IMM-32, AMO}
+use Rattle.isa.specs.declared.class.Class.{Class}
+use Rattle.isa.specs.declared.class.Class.TheVariants as C
 use Rattle.isa.specs.Narrow.{decode_at}
 use Rattle.isa.specs.declared.Atomic.{Atomic}
 use Rattle.isa.specs.declared.AtomicOp.{AtomicOp}
@@ -125,6 +126,11 @@ unfoldable pub lowest_of : ℕ → ℕ → Bool → ℕ → View → ℕ
 lowest_of rs1 width past place v =
     cond (reason2 past place v) 2 (cond (reason3 past place v) 3 (cond (reason4 rs1 past v) 4 (cond (reason5 rs1 width past v) 5 0)))
 
+-- the same as an option
+abbrev pub reason_in : ℕ → Option ℕ
+reason_in zero = None
+reason_in (suc r) = Some (suc r)
+
 -- ---- the block
 
 -- a reason at a place, or what comes after
@@ -164,14 +170,27 @@ words_of bytes (suc n) = words_of bytes n ++ (le (part bytes (4 * n) 4) ∷ [])
 -- ---- the same by the table of classes
 
 -- the classes of reason 2's words, and that of JALR where the version permits it
-abbrev pub permitted_class : Settings → ℕ → Bool
-permitted_class settings c =
-    (c == LUI) || c == AUIPC || c == JAL || c == BRANCH || c == OP || c == OP-IMM || c == OP-32 || c == OP-IMM-32
-    || (c == JALR && jalr_permitted settings)
+abbrev pub permitted_class : Settings → Option Class → Bool
+permitted_class settings (Some C.Lui) = true
+permitted_class settings (Some C.Auipc) = true
+permitted_class settings (Some C.Jal) = true
+permitted_class settings (Some C.Branch) = true
+permitted_class settings (Some C.Op) = true
+permitted_class settings (Some C.OpImm) = true
+permitted_class settings (Some C.Op32) = true
+permitted_class settings (Some C.OpImm32) = true
+permitted_class settings (Some C.Jalr) = jalr_permitted settings
+permitted_class settings (Some C.Load) = false
+permitted_class settings (Some C.MiscMem) = false
+permitted_class settings (Some C.Store) = false
+permitted_class settings (Some C.Amo) = false
+permitted_class settings (Some C.System) = false
+permitted_class settings None = false
 
 -- with that of LR and SC
-abbrev pub looked_at : Settings → ℕ → Bool
-looked_at settings c = c == AMO || permitted_class settings c
+abbrev pub looked_at : Settings → Option Class → Bool
+looked_at settings (Some C.Amo) = true
+looked_at settings c = permitted_class settings c
 
 -- an instruction by its rd and, of a JAL or a branch, its offset, whether it is permitted or not. No reason asks where a JALR leads
 unfoldable pub fields_of : Instr → View

@@ -1,10 +1,12 @@
 -- The six reasons of 01, "Retry loops", one by one and without tests, and what they decide. "LR", "SC" and "word of RV64I" are meant of legal words.
 -- 02 [7]: by the version of A that the settings have; [10]: "loop words are read as RV32I" where registers have 32 bits.
 -- RULES 6.1.
-use Rattle.std.specs.Prelude.{◌≡◌, ℕ, ◌+◌, ◌*◌, ◌%◌, ◌^◌, ◌<◌, ◌≤◌, ◌≢◌, ◌⊎◌, ◌↔◌, List, length, slice_index}
+use Rattle.std.specs.Prelude.{◌≡◌, ℕ, ◌+◌, ◌*◌, ◌%◌, ◌^◌, ◌<◌, ◌≤◌, ◌≢◌, ◌⊎◌, ◌↔◌, List, length, slice_index, Option, Some}
 use Rattle.settings.specs.Settings.{xlen_of, ReadingRules, JalrPermitted}
 use Rattle.settings.specs.declared.Settings.{Settings}
-use Rattle.isa.specs.Decode.{AUIPC, LUI, JAL, JALR, BRANCH, OP, OP-IMM, OP-32, OP-IMM-32, class_of}
+use Rattle.isa.specs.Decode.{class_of}
+use Rattle.isa.specs.declared.class.Class.{Class}
+use Rattle.isa.specs.declared.class.Class.TheVariants as C
 use Rattle.isa.specs.Narrow.{decode_at}
 use Rattle.isa.specs.declared.BranchOp.{BranchOp}
 use Rattle.isa.specs.declared.Atomic.{Atomic}
@@ -48,16 +50,16 @@ NotLr xlen ws place = (place ≡ 0) × ((a : Atomic) → LrAt xlen ws 0 a → �
 
 -- 2. "A later word, other than the first SC, isn't LUI, AUIPC, JAL, a branch, or an OP, OP-IMM, OP-32, OP-IMM-32 word of RV64I."
 -- 02 [7]: under 2.0 "the loop rules also allow JALR as any later word, reason 4 still applying, because 004 doesn't exclude it"
-pub data PermittedClass (settings : Settings) (c : ℕ) : Type 0 where
-  is_lui : c ≡ LUI → PermittedClass settings c
-  is_auipc : c ≡ AUIPC → PermittedClass settings c
-  is_jal : c ≡ JAL → PermittedClass settings c
-  is_branch : c ≡ BRANCH → PermittedClass settings c
-  is_op : c ≡ OP → PermittedClass settings c
-  is_op_imm : c ≡ OP-IMM → PermittedClass settings c
-  is_op32 : c ≡ OP-32 → PermittedClass settings c
-  is_op_imm32 : c ≡ OP-IMM-32 → PermittedClass settings c
-  is_jalr : JalrPermitted settings → c ≡ JALR → PermittedClass settings c
+pub data PermittedClass (settings : Settings) (c : Option Class) : Type 0 where
+  is_lui : c ≡ Some C.Lui → PermittedClass settings c
+  is_auipc : c ≡ Some C.Auipc → PermittedClass settings c
+  is_jal : c ≡ Some C.Jal → PermittedClass settings c
+  is_branch : c ≡ Some C.Branch → PermittedClass settings c
+  is_op : c ≡ Some C.Op → PermittedClass settings c
+  is_op_imm : c ≡ Some C.OpImm → PermittedClass settings c
+  is_op32 : c ≡ Some C.Op32 → PermittedClass settings c
+  is_op_imm32 : c ≡ Some C.OpImm32 → PermittedClass settings c
+  is_jalr : JalrPermitted settings → c ≡ Some C.Jalr → PermittedClass settings c
 
 -- where registers have 32 bits, no word of OP-32 or OP-IMM-32 is legal
 abbrev pub Permitted : Settings → ℕ → Type 0

@@ -1,5 +1,6 @@
 -- Rows one after another. Assumes nothing.
-use mathlib.Core.Path.{◌≡◌, ap}
+use mathlib.Core.Path.{◌≡◌, refl, ap}
+use Rattle.std.specs.Prelude.{Ok, Err, Option, None, Some}
 use mathlib.Core.List.{List, ◌∷◌}
 use Prim.Native.Nat.{ℕ, suc, ◌+◌, ◌-◌, ◌*◌, ◌<◌}
 use native.Mathlib.Omega.{arith}
@@ -11,12 +12,11 @@ use Rattle.events.specs.declared.Event.TheVariants.{Step}
 use Rattle.model.specs.Perform.{Machine}
 use Rattle.model.specs.Valid.{Valid}
 use Rattle.model.proofs.Valid.{valid_next}
+use Rattle.model.proofs.Frame.{count_next}
 use Rattle.steplog.specs.Row.{reading_of}
-use Rattle.steplog.specs.declared.Reading.{Reading}
-use Rattle.steplog.specs.declared.Reading.TheVariants.{Form, Read}
+use Rattle.steplog.specs.declared.Row.{Row}
 use Rattle.rows.specs.Row.{told_of, stepped}
 use Rattle.rows.specs.Replay.{readings, End, end_of}
-use Rattle.rows.specs.declared.Told.TheVariants.{Agrees, Stops}
 use Rattle.rows.specs.declared.Stop.{Stop}
 
 -- the same end, with k rows more before it
@@ -41,9 +41,9 @@ readings_more count n i log h =
     let f : (i + 1) * 48 ≡ i * 48 + 48 = omega arith in
     rw (e, f, drop-drop 48 (i * 48) log)
 
-module _ (base : ℕ) (m : Machine) (r : Reading) (rs : List Reading) (i : ℕ) where
+module _ (base : ℕ) (m : Machine) (r : Option Row) (rs : List (Option Row)) (i : ℕ) where
   -- a row that agrees, and those behind it
-  pub end_more : told_of base m r ≡ Agrees → {after : Machine} → after ≡ stepped base m r
+  pub end_more : told_of base m r ≡ Ok tt → {after : Machine} → after ≡ stepped base m r
       → further (i + 1) (end_of base after rs) ≡ further i (end_of base m (r ∷ rs))
   unfolding end_of
   end_more told e =
@@ -52,11 +52,17 @@ module _ (base : ℕ) (m : Machine) (r : Reading) (rs : List Reading) (i : ℕ) 
       rw (e, told) (ap (λ (k : ℕ). record { stop = rest.stop; rows = k; machine = rest.machine }) count)
 
   -- a row that stops
-  pub end_stop : {s : Stop} → told_of base m r ≡ Stops s → record { stop = s; rows = i; machine = m } ≡ further i (end_of base m (r ∷ rs))
+  pub end_stop : {s : Stop} → told_of base m r ≡ Err s → record { stop = s; rows = i; machine = m } ≡ further i (end_of base m (r ∷ rs))
   unfolding end_of
   end_stop {s} told = rw told (ap (λ (k : ℕ). record { stop = s; rows = k; machine = m }) (omega arith))
 
-pub valid_stepped : (base : ℕ) (m : Machine) → Valid base m → (r : Reading) → Valid base (stepped base m r)
+pub valid_stepped : (base : ℕ) (m : Machine) → Valid base m → (r : Option Row) → Valid base (stepped base m r)
 unfolding stepped
-valid_stepped base m v Form = v
-valid_stepped base m v (Read r) = valid_next base m v (Step r.hart)
+valid_stepped base m v None = v
+valid_stepped base m v (Some r) = valid_next base m v (Step r.hart)
+
+-- a row's step keeps the number of harts
+pub count_stepped : (base : ℕ) (m : Machine) (r : Option Row) → (stepped base m r).state.count ≡ m.state.count
+unfolding stepped
+count_stepped base m None = refl
+count_stepped base m (Some r) = count_next base m (Step r.hart)

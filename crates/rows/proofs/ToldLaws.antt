@@ -1,22 +1,27 @@
 -- What is told of a row, one test after another. Assumes nothing.
-use mathlib.Core.Path.{◌≡◌, sym, ap, ◌∙◌}
+use mathlib.Core.Path.{◌≡◌, refl, sym, ap, ◌∙◌}
 use mathlib.Core.Bool.{Bool, true, false, cond, ◌&&◌, not}
 use Prim.Native.Nat.{ℕ}
 use lib.Dec.{eqb}
 use borrow.Author.Tests.{eq-eqb, ne_eqb}
+use Rattle.std.specs.Prelude.{Ok, Err}
 use Rattle.model.specs.Perform.{Machine}
 use Rattle.steplog.specs.declared.Row.{Row}
-use Rattle.rows.specs.Row.{pc_at, word_at, fetchable, told_by_step, told_by_word, told_by_pc}
-use Rattle.rows.specs.declared.Told.{Told}
-use Rattle.rows.specs.declared.Told.TheVariants.{Stops}
+use Rattle.rows.specs.Row.{Told, pc_at, word_at, fetchable, told_by_step, told_by_word, told_by_pc}
+use Rattle.rows.specs.declared.Stop.{Stop}
 use Rattle.rows.specs.declared.Stop.TheVariants as S
+
+-- a row that stops nothing agrees
+pub agrees : (t : Told) → ((s : Stop) → t ≡ Err s → ⊥) → t ≡ Ok tt
+agrees (Ok x) n = refl
+agrees (Err s) n = absurd (n s refl)
 
 module _ (base : ℕ) (m : Machine) (r : Row) where
   by_pc : Bool → Told
-  by_pc b = cond b (told_by_word base m r) (Stops (S.Pc r.pc (pc_at base m r.hart)))
+  by_pc b = cond b (told_by_word base m r) (Err (S.Pc r.pc (pc_at base m r.hart)))
 
   -- a row with another pc is told by its pc, whatever its word
-  pub told_pc : (r.pc ≡ pc_at base m r.hart → ⊥) → Stops (S.Pc r.pc (pc_at base m r.hart)) ≡ told_by_pc base m r
+  pub told_pc : (r.pc ≡ pc_at base m r.hart → ⊥) → Err (S.Pc r.pc (pc_at base m r.hart)) ≡ told_by_pc base m r
   unfolding told_by_pc by_pc
   told_pc d = sym (ap by_pc (ne_eqb r.pc (pc_at base m r.hart) d))
 
@@ -25,15 +30,15 @@ module _ (base : ℕ) (m : Machine) (r : Row) where
   past_pc same = ap by_pc (eq-eqb r.pc (pc_at base m r.hart) same)
 
   by_word : Bool → Told
-  by_word b = cond b (Stops (S.Word r.word (word_at base m r.hart))) (told_by_step base m r)
+  by_word b = cond b (Err (S.Word r.word (word_at base m r.hart))) (told_by_step base m r)
 
   -- a row with another word is told by its word, whether the model's word traps or not; w is the code's name for the model's
   pub told_word : r.pc ≡ pc_at base m r.hart → fetchable base m r.hart ≡ true → {w : ℕ} → w ≡ word_at base m r.hart → (r.word ≡ w → ⊥)
-      → Stops (S.Word r.word w) ≡ told_by_pc base m r
+      → Err (S.Word r.word w) ≡ told_by_pc base m r
   unfolding told_by_word by_word
   told_word same inside {w} e d =
       let differs : fetchable base m r.hart && not (eqb r.word (word_at base m r.hart)) ≡ true = rw (inside, ← e, ne_eqb r.word w d) in
-      ap (λ (k : ℕ). Stops (S.Word r.word k)) e ∙ sym (past_pc same ∙ ap by_word differs)
+      ap (λ (k : ℕ). Err (S.Word r.word k)) e ∙ sym (past_pc same ∙ ap by_word differs)
 
   pub past_word : fetchable base m r.hart ≡ true → r.word ≡ word_at base m r.hart
       → told_by_word base m r ≡ told_by_step base m r

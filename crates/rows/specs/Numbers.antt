@@ -12,7 +12,7 @@ stop_code (Word board model) = 3
 stop_code (Rd board model) = 4
 stop_code (Value board model) = 5
 stop_code (Trap cause value) = 256 + cause
-stop_code (Refused number place) = 512 + number
+stop_code (Refused r) = 512 + r.number
 
 -- "the field and both values for a difference": the board's value, 0 where there is none
 abbrev pub board_of : Stop → ℕ
@@ -23,7 +23,7 @@ board_of (Word board model) = board
 board_of (Rd board model) = board
 board_of (Value board model) = board
 board_of (Trap cause value) = 0
-board_of (Refused number place) = 0
+board_of (Refused r) = 0
 
 -- and the model's; "cause and value for a trap": of a trap, its value
 abbrev pub model_of : Stop → ℕ
@@ -34,4 +34,4 @@ model_of (Word board model) = model
 model_of (Rd board model) = model
 model_of (Value board model) = model
 model_of (Trap cause value) = value
-model_of (Refused number place) = 0
+model_of (Refused r) = 0

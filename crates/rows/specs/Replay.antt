@@ -1,19 +1,17 @@
 -- A log replayed.
-use Rattle.std.specs.Prelude.{ℕ, zero, suc, ◌+◌, ◌/◌, ◌%◌, cond, List, [], ◌∷◌, eqb, length, take, drop}
+use Rattle.std.specs.Prelude.{ℕ, zero, suc, ◌+◌, ◌/◌, ◌%◌, cond, Ok, Err, List, [], ◌∷◌, eqb, length, take, drop, Option}
 use Rattle.machine.specs.State.{refusal_of}
 use Rattle.machine.specs.declared.State.{State}
 use Rattle.model.specs.Perform.{Machine}
 use Rattle.steplog.specs.Row.{reading_of}
-use Rattle.steplog.specs.declared.Reading.{Reading}
-use Rattle.rows.specs.Row.{told_of, stepped}
-use Rattle.rows.specs.declared.Told.{Told}
-use Rattle.rows.specs.declared.Told.TheVariants.{Agrees, Stops}
+use Rattle.steplog.specs.declared.Row.{Row}
+use Rattle.rows.specs.Row.{Told, told_of, stepped}
 use Rattle.rows.specs.declared.Stop.{Stop}
 use Rattle.rows.specs.declared.Stop.TheVariants.{Agreed, Refused}
 use Rattle.rows.specs.declared.Replayed.{Replayed}
 
 -- the first n rows of a log, each of 48 bytes, as they read
-unfoldable pub readings : ℕ → ℕ → List ℕ → List Reading
+unfoldable pub readings : ℕ → ℕ → List ℕ → List (Option Row)
 readings count zero log = []
 readings count (suc n) log = reading_of count (take 48 log) ∷ readings count n (drop 48 log)
 
@@ -26,11 +24,11 @@ pub record End : Type 0 where
 -- 02 [1]: "Give the row's number, from 0, and the reason"; "The count is the number of rows before the stop, and the state and memory are the ones
 -- after exactly those." A row that agrees is one more than there are in the rest
 abbrev pub end_by : Told → Machine → End → End
-end_by Agrees m rest = record { stop = rest.stop; rows = suc rest.rows; machine = rest.machine }
-end_by (Stops s) m rest = record { stop = s; rows = 0; machine = m }
+end_by (Ok x) m rest = record { stop = rest.stop; rows = suc rest.rows; machine = rest.machine }
+end_by (Err s) m rest = record { stop = s; rows = 0; machine = m }
 
 -- rows one after another, each on the machine that the row before left; "else say all rows agreed"
-unfoldable pub end_of : ℕ → Machine → List Reading → End
+unfoldable pub end_of : ℕ → Machine → List (Option Row) → End
 end_of base m [] = record { stop = Agreed; rows = 0; machine = m }
 end_of base m (r ∷ rs) = end_by (told_of base m r) m (end_of base (stepped base m r) rs)
 
@@ -44,7 +42,7 @@ ended e = record { replayed = record { stop = e.stop; rows = e.rows; state = e.m
 
 -- 01: "A refusal returns its number, the state as given, and memory unchanged."
 abbrev pub refused_replay : ℕ → State → List ℕ → Result
-refused_replay number s mem = record { replayed = record { stop = Refused number 0; rows = 0; state = s }; mem = mem }
+refused_replay number s mem = record { replayed = record { stop = Refused (record { number = number; place = 0 }); rows = 0; state = s }; mem = mem }
 
 -- 02 [1]: "Refusals: 12, log length not a multiple of 48, after 11; 13, a log of no rows, after 12." 1 and 2 come first
 unfoldable pub replay_of : ℕ → List ℕ → State → List ℕ → Result

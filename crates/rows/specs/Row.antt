@@ -1,5 +1,5 @@
 -- One row against the machine.
-use Rattle.std.specs.Prelude.{ℕ, Bool, cond, ◌&&◌, not, eqb, length, get_or}
+use Rattle.std.specs.Prelude.{ℕ, Bool, cond, ◌&&◌, not, Result, Ok, Err, eqb, length, get_or, Option, None, Some}
 use Rattle.reserve.specs.Range.{inside_of}
 use Rattle.isa.specs.Narrow.{decode_at}
 use Rattle.effect.specs.Memory.{value_at}
@@ -9,24 +9,25 @@ use Rattle.model.specs.Perform.{Machine, xlen, outcome_at, next_of}
 use Rattle.model.specs.declared.Outcome.{Outcome}
 use Rattle.model.specs.declared.Outcome.TheVariants as O
 use Rattle.steplog.specs.declared.Row.{Row}
-use Rattle.steplog.specs.declared.Reading.{Reading}
-use Rattle.steplog.specs.declared.Reading.TheVariants.{Form, Read}
 use Rattle.reach.specs.Rd.{shown_rd}
-use Rattle.rows.specs.declared.Told.{Told}
-use Rattle.rows.specs.declared.Told.TheVariants.{Agrees, Stops}
+use Rattle.rows.specs.declared.Stop.{Stop}
 use Rattle.rows.specs.declared.Stop.TheVariants as S
 
 -- 02 [1]: "Stop at the first row that is badly formed (a hart not below the count included), differs from the model in pc or (if it can be fetched)
 -- word, traps, or differs in rd or value, tried in this order."
 
+-- what the model says of one row: it agrees, or it stops the replay
+abbrev pub Told : Type 0
+Told = Result (Unit {0}) Stop
+
 -- "or differs in rd or value": by the model's rd and its value, d and v
 unfoldable pub told_as : Row → ℕ → ℕ → Told
-told_as r d v = cond (eqb r.rd d) (cond (eqb r.value v) Agrees (Stops (S.Value r.value v))) (Stops (S.Rd r.rd d))
+told_as r d v = cond (eqb r.rd d) (cond (eqb r.value v) (Ok tt) (Err (S.Value r.value v))) (Err (S.Rd r.rd d))
 
 -- "traps": by the answer to the step. A replay tries 1 and 2 first, and a hart that isn't below the count is bad form: so no step is refused
 unfoldable pub told_by : Outcome → Row → ℕ → ℕ → Told
-told_by (O.Trap cause value) r d v = Stops (S.Trap cause value)
-told_by (O.Refused number) r d v = Stops (S.Refused number 0)
+told_by (O.Trap cause value) r d v = Err (S.Trap cause value)
+told_by (O.Refused number) r d v = Err (S.Refused (record { number = number; place = 0 }))
 told_by O.Retired r d v = told_as r d v
 told_by O.ScStored r d v = told_as r d v
 told_by O.ScFailed r d v = told_as r d v
@@ -58,24 +59,24 @@ module _ (base : ℕ) (m : Machine) where
   unfoldable pub told_by_word : Row → Told
   told_by_word r =
       cond (fetchable r.hart && not (eqb r.word (word_at r.hart)))
-      (Stops (S.Word r.word (word_at r.hart)))
+      (Err (S.Word r.word (word_at r.hart)))
       (told_by_step r)
 
   -- "differs from the model in pc"
   unfoldable pub told_by_pc : Row → Told
-  told_by_pc r = cond (eqb r.pc (pc_at r.hart)) (told_by_word r) (Stops (S.Pc r.pc (pc_at r.hart)))
+  told_by_pc r = cond (eqb r.pc (pc_at r.hart)) (told_by_word r) (Err (S.Pc r.pc (pc_at r.hart)))
 
   -- "badly formed"
-  unfoldable pub told_of : Reading → Told
-  told_of Form = Stops S.Form
-  told_of (Read r) = told_by_pc r
+  unfoldable pub told_of : Option Row → Told
+  told_of None = Err S.Form
+  told_of (Some r) = told_by_pc r
 
   -- the machine after the row, where it agrees: its hart has stepped
-  unfoldable pub stepped : Reading → Machine
-  stepped Form = m
-  stepped (Read r) = next_of base m (Step r.hart)
+  unfoldable pub stepped : Option Row → Machine
+  stepped None = m
+  stepped (Some r) = next_of base m (Step r.hart)
 
 -- the machine after a row of which this was told: "the state and memory are the ones after exactly those" before a stop
-unfoldable pub after_row : Told → ℕ → Machine → Reading → Machine
-after_row Agrees base m r = stepped base m r
-after_row (Stops s) base m r = m
+unfoldable pub after_row : Told → ℕ → Machine → Option Row → Machine
+after_row (Ok x) base m r = stepped base m r
+after_row (Err s) base m r = m

@@ -9,7 +9,7 @@ use Rattle.settings.specs.declared.Settings.{Settings}
 use Rattle.settings.proofs.SettingsLaws.{not_both}
 use Rattle.reserve.specs.Range.{Touch, set_of}
 use Rattle.reserve.specs.Reserve.{observe_of}
-use Rattle.reserve.specs.declared.Reservation.TheVariants.{Held}
+use Rattle.reserve.specs.Reserve.{held}
 use Rattle.reserve.specs.declared.Notice.{Notice}
 use Rattle.reserve.specs.declared.Notice.TheVariants as N
 use Rattle.isa.specs.declared.Atomic.{Atomic}
@@ -90,23 +90,23 @@ module _ (base h : ℕ) (m : Machine) (v : Valid base m) (u : h < m.state.count)
 
   -- A held reservation, also one that the state was given with: the event leaves it exactly if it breaks nothing of it, or is a retired LR that makes
   -- the same one anew.
-  pub held_next : Shaped m.state → reservation_of m.state h ≡ Held a w
-      → (reservation_of (next_of base m e).state h ≡ Held a w) ↔ (RetiredLr base m e h a w ⊎ LeavesReserved base h m e a w)
+  pub held_next : Shaped m.state → reservation_of m.state h ≡ held a w
+      → (reservation_of (next_of base m e).state h ≡ held a w) ↔ (RetiredLr base m e h a w ⊎ LeavesReserved base h m e a w)
   held_next shaped q = (given, taken)
     where
-      after : reservation_of (next_of base m e).state h ≡ observe_of m.state.settings h (notice_at base m e) (Held a w)
+      after : reservation_of (next_of base m e).state h ≡ observe_of m.state.settings h (notice_at base m e) (held a w)
       after = res_next base m e v shaped h u ∙ ap (observe_of m.state.settings h (notice_at base m e)) q
 
-      given : reservation_of (next_of base m e).state h ≡ Held a w → RetiredLr base m e h a w ⊎ LeavesReserved base h m e a w
+      given : reservation_of (next_of base m e).state h ≡ held a w → RetiredLr base m e h a w ⊎ LeavesReserved base h m e a w
       given o =
           ⊎_elim (λ (n : notice_at base m e ≡ N.LoadReserved h a w). inl ((notice_exact base m v e (N.LoadReserved h a w)).0 n))
-          (λ (n : (Held a w ≡ Held a w) × Spares m.state.settings h a w (notice_at base m e)). inr (leaves_exact.1 n.1))
-          (came m.state.settings h a w (notice_at base m e) (Held a w) (sym after ∙ o))
+          (λ (n : (held a w ≡ held a w) × Spares m.state.settings h a w (notice_at base m e)). inr (leaves_exact.1 n.1))
+          (came m.state.settings h a w (notice_at base m e) (held a w) (sym after ∙ o))
 
-      taken : RetiredLr base m e h a w ⊎ LeavesReserved base h m e a w → reservation_of (next_of base m e).state h ≡ Held a w
+      taken : RetiredLr base m e h a w ⊎ LeavesReserved base h m e a w → reservation_of (next_of base m e).state h ≡ held a w
       taken (inl r) =
-          after ∙ ap (λ (n : Notice). observe_of m.state.settings h n (Held a w)) ((notice_exact base m v e (N.LoadReserved h a w)).1 r)
-          ∙ made m.state.settings h a w (Held a w)
+          after ∙ ap (λ (n : Notice). observe_of m.state.settings h n (held a w)) ((notice_exact base m v e (N.LoadReserved h a w)).1 r)
+          ∙ made m.state.settings h a w (held a w)
       taken (inr l) = after ∙ kept m.state.settings h a w (notice_at base m e) (leaves_exact.0 l)
 
 -- ---- events one after another
@@ -225,7 +225,7 @@ module _ (base : ℕ) (m : Machine) (v : Valid base m) (h : ℕ) (u : h < m.stat
 module _ (base : ℕ) (m : Machine) (v : Valid base m) (s : Shaped m.state) (free : Reservationless m.state) (h : ℕ) (u : h < m.state.count)
     (es : List Event) where
   -- The hart holds the reservation of w bytes at a exactly if its latest retired LR was of these and no event since then broke it.
-  pub held_since : (a w : ℕ) → (reservation_of (run_of base m es).state h ≡ Held a w) ↔ ReservedSince base h m es a w
+  pub held_since : (a w : ℕ) → (reservation_of (run_of base m es).state h ≡ held a w) ↔ ReservedSince base h m es a w
   held_since a w =
       let p = held_exact base m v s free h u es a w in
       let q = reserved_exact base m v h u es a w in

@@ -16,8 +16,10 @@ use Rattle.settings.specs.declared.Settings.{Settings}
 use Rattle.settings.proofs.SettingsLaws.{amo_cause_exact}
 use Rattle.reserve.specs.Range.{Inside, inside_of}
 use Rattle.reserve.specs.Reserve.{covers_of, observe_of}
+use Rattle.std.specs.Prelude.{Option}
 use Rattle.reserve.specs.declared.Reservation.{Reservation}
-use Rattle.reserve.specs.declared.Reservation.TheVariants.{None, Held}
+use Rattle.std.specs.Prelude.{None}
+use Rattle.reserve.specs.Reserve.{held}
 use Rattle.reserve.proofs.RangeLaws.{inside_of_lem, of_inside}
 use Rattle.isa.specs.declared.Atomic.{Atomic}
 use Rattle.isa.specs.declared.Instr.TheVariants.{Amo}
@@ -244,7 +246,7 @@ res_run base m v s h u [] = refl
 res_run base m v s h u (e ∷ es) =
     res_run base (next_of base m e) (valid_next base m v e) (shaped_next base m e s) h (subst (λ (k : ℕ). h < k) (sym (count_next base m e)) u) es
     ∙ ap (λ (c : Settings). observes c h (trace_of base (next_of base m e) es) (reservation_of (next_of base m e).state h)) (settings_next base m e)
-    ∙ ap (λ (r : Reservation). observes m.state.settings h (trace_of base (next_of base m e) es) r) (res_next base m e v s h u)
+    ∙ ap (λ (r : Option Reservation). observes m.state.settings h (trace_of base (next_of base m e) es) r) (res_next base m e v s h u)
 
 -- A machine that 1 and 2 don't refuse, whose used harts hold no reservation; a used hart; any events.
 module _ (base : ℕ) (m : Machine) (v : Valid base m) (s : Shaped m.state) (free : Reservationless m.state)
@@ -253,11 +255,11 @@ module _ (base : ℕ) (m : Machine) (v : Valid base m) (s : Shaped m.state) (fre
   used = subst (λ (k : ℕ). h < k) (sym (count_run base m es)) u
 
   after : reservation_of (run_of base m es).state h ≡ observes m.state.settings h (trace_of base m es) None
-  after = res_run base m v s h u es ∙ ap (λ (r : Reservation). observes m.state.settings h (trace_of base m es) r) (free h u)
+  after = res_run base m v s h u es ∙ ap (λ (r : Option Reservation). observes m.state.settings h (trace_of base m es) r) (free h u)
 
   -- It holds the reservation of w bytes at a exactly if its latest retired LR was of these and nothing since then broke the reservation.
-  pub held_exact : (a w : ℕ) → (reservation_of (run_of base m es).state h ≡ Held a w) ↔ Reserved m.state.settings h a w (trace_of base m es)
-  held_exact a w = subst (λ (r : Reservation). (r ≡ Held a w) ↔ Reserved m.state.settings h a w (trace_of base m es)) (sym after)
+  pub held_exact : (a w : ℕ) → (reservation_of (run_of base m es).state h ≡ held a w) ↔ Reserved m.state.settings h a w (trace_of base m es)
+  held_exact a w = subst (λ (r : Option Reservation). (r ≡ held a w) ↔ Reserved m.state.settings h a w (trace_of base m es)) (sym after)
       (history m.state.settings h a w (trace_of base m es))
 
   covered_exact : (a n : ℕ) → (covers_of (run_of base m es).state.settings (reservation_of (run_of base m es).state h) a n ≡ true)
@@ -266,7 +268,7 @@ module _ (base : ℕ) (m : Machine) (v : Valid base m) (s : Shaped m.state) (fre
       let settings = m.state.settings in
       subst (λ (c : Settings). (covers_of c (reservation_of (run_of base m es).state h) a n ≡ true) ↔ Since settings h a n (trace_of base m es))
       (sym (settings_run base m es))
-      (subst (λ (r : Reservation). (covers_of settings r a n ≡ true) ↔ Since settings h a n (trace_of base m es)) (sym after)
+      (subst (λ (r : Option Reservation). (covers_of settings r a n ≡ true) ↔ Since settings h a n (trace_of base m es)) (sym after)
       (sc_exact settings h a n (trace_of base m es)))
 
   -- Demand 2: "from a start without reservations an SC that doesn't trap succeeds exactly if the history since its hart's latest retired LR allows it":

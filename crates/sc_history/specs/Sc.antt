@@ -5,7 +5,7 @@ use Rattle.std.specs.Prelude.{◌≡◌, ◌≢◌, ℕ, ◌-◌, ◌%◌, ◌<�
 use Rattle.word.specs.Bytes.{to_le}
 use Rattle.word.specs.Memory.{splice}
 use Rattle.reserve.specs.Range.{Inside}
-use Rattle.reserve.specs.declared.Reservation.TheVariants.{None}
+use Rattle.std.specs.Prelude.{None}
 use Rattle.isa.specs.declared.AtomicOp.TheVariants.{Sc}
 use Rattle.isa.specs.declared.Atomic.{Atomic}
 use Rattle.isa.specs.declared.Instr.TheVariants.{Amo}

@@ -16,7 +16,7 @@ pub struct Settings {
     pub misaligned: u64,
 }
 
-// What a settings file says of a board. The kind isn't in it: every case says its own.
+// What a settings file says of a board, as numbers too: board_ok refuses those that are not allowed. The kind isn't in it: every case says its own.
 #[derive(Clone, Copy)]
 pub struct Board {
     pub size: u64,
@@ -72,6 +72,7 @@ pub fn on_board(board: Board, kind: u64) -> Settings
 }
 
 // The bits of registers, the pc and addresses.
+#[tactic(auto, unfolding(crate::specs::Settings::xlen_of))]
 pub fn xlen(settings: Settings) -> u32
     ensures { result ≡ xlen_of settings }
 {
@@ -87,6 +88,7 @@ pub fn remainder(n: u64, power: u64) -> u64
 }
 
 // Whether the set's size is allowed (refusal 1): a power of two has no bit in common with the number before it.
+#[tactic(auto, unfolding(crate::specs::Settings::size_ok))]
 pub fn size_ok(settings: Settings) -> bool
     ensures { result ≡ size_ok settings }
 {
@@ -101,14 +103,11 @@ pub fn size_ok(settings: Settings) -> bool
 pub fn granule(settings: Settings) -> u64
     ensures { result ≡ granule_of settings }
 {
-    if settings.size < 64 {
-        64
-    } else {
-        settings.size
-    }
+    settings.size.max(64)
 }
 
 // Whether the version of A is one that is kept (refusal 2).
+#[tactic(auto, unfolding(crate::specs::Settings::version_ok))]
 fn version_ok(settings: Settings) -> bool
     ensures { result ≡ version_ok settings }
 {
@@ -116,6 +115,7 @@ fn version_ok(settings: Settings) -> bool
 }
 
 // Whether the kind is one that there is (refusal 2).
+#[tactic(auto, unfolding(crate::specs::Settings::kind_ok))]
 fn kind_ok(settings: Settings) -> bool
     ensures { result ≡ kind_ok settings }
 {
@@ -123,6 +123,7 @@ fn kind_ok(settings: Settings) -> bool
 }
 
 // Both.
+#[tactic(auto, unfolding(crate::specs::Settings::reading_ok))]
 pub fn reading_ok(settings: Settings) -> bool
     ensures { result ≡ reading_ok settings }
 {
@@ -130,6 +131,7 @@ pub fn reading_ok(settings: Settings) -> bool
 }
 
 // Whether the causes of a misaligned LR, SC, AMO or AMOCAS are ones that there are (refusal 2).
+#[tactic(auto, unfolding(crate::specs::Settings::misaligned_ok))]
 pub fn misaligned_ok(settings: Settings) -> bool
     ensures { result ≡ misaligned_ok settings }
 {
@@ -137,6 +139,7 @@ pub fn misaligned_ok(settings: Settings) -> bool
 }
 
 // Whether a settings file may have the board (refusal 23 there).
+#[tactic(auto, unfolding(crate::specs::Boards::board_ok))]
 pub fn board_ok(board: Board) -> bool
     ensures { result ≡ board_ok board }
 {
@@ -145,6 +148,7 @@ pub fn board_ok(board: Board) -> bool
 }
 
 // The cause of a misaligned LR.
+#[tactic(auto, unfolding(crate::specs::Settings::lr_cause))]
 pub fn lr_cause(misaligned: u64) -> u64
     ensures { (result ≡ lr_cause misaligned) × (0 < result) }
 {
@@ -152,6 +156,7 @@ pub fn lr_cause(misaligned: u64) -> u64
 }
 
 // The cause of a misaligned SC, AMO or AMOCAS.
+#[tactic(auto, unfolding(crate::specs::Settings::amo_cause))]
 pub fn amo_cause(misaligned: u64) -> u64
     ensures { (result ≡ amo_cause misaligned) × (0 < result) }
 {

@@ -1,40 +1,21 @@
 -- Numbers of a fixed number of digits: what is written reads back, and what is read was written. Assumes nothing.
+use Rattle.std.specs.Prelude.{Some, None}
 use mathlib.Core.Path.{◌≡◌, refl, sym, ap, ap₂, ◌∙◌}
 use mathlib.Core.Bool.{true, false, cond, ◌&&◌}
 use mathlib.Core.List.{List, [], ◌∷◌, ◌++◌, append-nil}
-use Prim.Native.Nat.{ℕ, zero, suc, ◌+◌, ◌*◌, ◌/◌, ◌%◌, ◌^◌, ◌≤◌, ◌<◌}
-use native.Mathlib.Nat.{pow-zero, pow-suc, one-le-pow, pow-le-pow_left, pow-le-pow_right, zero-add, suc-add, add-suc, add-zero, div-lt_iff_lt-mul, le_trans}
+use Prim.Native.Nat.{ℕ, suc, ◌+◌, ◌*◌, ◌^◌, ◌≤◌, ◌<◌}
+use native.Mathlib.Nat.{pow-zero, pow-suc, pow-le-pow_left, pow-le-pow_right, zero-add, suc-add, add-suc, add-zero, le_trans}
 use native.Mathlib.Numerals.{add-one}
 use native.Mathlib.Omega.{arith}
 use borrow.Author.Tests.{lt-ltb, ltb-true, eq-eqb, eqb-true}
 use lib.Arith.{digits_lt, digits_div, digits_mod}
 use lib.Dec.{ltb, eqb, lit<}
-use lib.ListN.{length, length-append, get_or, drop}
+use lib.ListN.{length, get_or, drop}
 use lib.Seq.{append_snoc, drop-cons}
 use Rattle.word.proofs.TestLaws.{bool_cases, and_both}
-use Rattle.text.specs.Number.{glyph, digit_of, read_from, Digits, Numeral, hex_from}
-use Rattle.text.proofs.NumberLaws.{digit_glyph, numeral_more}
-use Rattle.steplog.specs.Digits.{digits_from, is_digit, all_digits, number_of}
-use Rattle.steplog.specs.declared.digits.Number.{Number}
-
--- the digits of base 16 are those that `text` writes
-pub digits_hex : (k n : ℕ) → digits_from 16 k n ≡ hex_from k n
-unfolding digits_from hex_from
-digits_hex zero n = refl
-digits_hex (suc k) n = ap (λ (l : List ℕ). l ++ (glyph (n % 16) ∷ [])) (digits_hex k (n / 16))
-
-pub length_digits : (base k n : ℕ) → length (digits_from base k n) ≡ k
-unfolding digits_from
-length_digits base zero n = refl
-length_digits base (suc k) n = rw (length-append, length_digits base k (n / base)) (omega arith)
-
-pub digits_none : (base n : ℕ) → digits_from base 0 n ≡ []
-unfolding digits_from
-digits_none base n = refl
-
-pub digits_more : (base k n : ℕ) → digits_from base (suc k) n ≡ digits_from base k (n / base) ++ (glyph (n % base) ∷ [])
-unfolding digits_from
-digits_more base k n = refl
+use Rattle.text.specs.Number.{glyph, digit_of, read_from, Digits, digits_from}
+use Rattle.text.proofs.NumberLaws.{digit_glyph, digits_none, digits_more}
+use Rattle.steplog.specs.Digits.{is_digit, all_digits, number_of}
 
 -- a digit by the test and without it
 is_digit_lem : (base c : ℕ) → is_digit base c ≡ true → (digit_of c < base) × (c ≡ glyph (digit_of c))
@@ -80,14 +61,6 @@ digits_pass base [] most h = refl
 digits_pass base (c ∷ cs) most h =
     ap₂ ◌&&◌ (ap (is_digit base) h.0.2 ∙ glyph_passes base h.0.0 most h.0.1) (digits_pass base cs most h.1)
 
--- what is written reads back
-pub digits_numeral : (base k n : ℕ) → 0 < base → base ≤ 16 → n < base ^ k → Numeral base n (digits_from base k n)
-unfolding digits_from
-digits_numeral base zero n some most h = record { digits = tt; value = omega (arith, pow-zero base) }
-digits_numeral base (suc k) n some most h =
-    let fewer : n / base < base ^ k = (div-lt_iff_lt-mul some).1 (rw pow-suc at h) in
-    numeral_more base some most n (digits_from base k (n / base)) (digits_numeral base k (n / base) some most fewer)
-
 -- what is read was written: digits behind the last j digits of m
 behind : (base m j : ℕ) (cs : List ℕ) → all_digits base cs ≡ true → digits_from base (j + length cs) (read_from base m cs) ≡ digits_from base j m ++ cs
 unfolding all_digits
@@ -126,25 +99,28 @@ pub digits_below : (base : ℕ) (cs : List ℕ) → all_digits base cs ≡ true 
 digits_below base cs e = rw (zero-add (length cs)) at (read_below base 0 0 cs (rw pow-zero (lit< tt)) e)
 
 -- the two cases of a number read
-pub number_good : (base : ℕ) (cs : List ℕ) → all_digits base cs ≡ true → number_of base cs ≡ record { good = true; value = read_from base 0 cs }
+pub number_good : (base : ℕ) (cs : List ℕ) → all_digits base cs ≡ true → number_of base cs ≡ Some (read_from base 0 cs)
 unfolding number_of
 number_good base cs e = rw e
 
-pub number_bad : (base : ℕ) (cs : List ℕ) → all_digits base cs ≡ false → number_of base cs ≡ record { good = false; value = 0 }
+pub number_bad : (base : ℕ) (cs : List ℕ) → all_digits base cs ≡ false → number_of base cs ≡ None
 unfolding number_of
 number_bad base cs e = rw e
 
-pub number_says : (base : ℕ) (cs : List ℕ) → (number_of base cs).good ≡ all_digits base cs
-number_says base cs =
+pub number_says : (base : ℕ) (cs : List ℕ) (n : ℕ) → number_of base cs ≡ Some n → (all_digits base cs ≡ true) × (n ≡ read_from base 0 cs)
+number_says base cs n e =
     bool_cases (all_digits base cs)
-    (λ t. ap (λ (n : Number). n.good) (number_good base cs t) ∙ sym t)
-    (λ f. ap (λ (n : Number). n.good) (number_bad base cs f) ∙ sym f)
+    (λ t. (t, let z : Some (read_from base 0 cs) ≡ Some n = sym (number_good base cs t) ∙ e in cc))
+    (λ f. absurd (let z : None ≡ Some n = sym (number_bad base cs f) ∙ e in cc))
 
-pub number_below : (base : ℕ) (cs : List ℕ) → 0 < base → (number_of base cs).value < base ^ length cs
-number_below base cs some =
+pub number_none : (base : ℕ) (cs : List ℕ) → number_of base cs ≡ None → all_digits base cs ≡ false
+number_none base cs e =
     bool_cases (all_digits base cs)
-    (λ t. rw (number_good base cs t) (digits_below base cs t))
-    (λ f. rw (number_bad base cs f) (one-le-pow (length cs) base some))
+    (λ t. absurd (let z : Some (read_from base 0 cs) ≡ None = sym (number_good base cs t) ∙ e in cc))
+    (λ f. f)
+
+pub number_below : (base : ℕ) (cs : List ℕ) (n : ℕ) → number_of base cs ≡ Some n → n < base ^ length cs
+number_below base cs n e = let s = number_says base cs n e in rw s.1 (digits_below base cs s.0)
 
 -- one character more, from the front
 pub read_turn : (base value i : ℕ) (s : List ℕ) → i < length s

@@ -1,34 +1,27 @@
--- What the code's one test of a row of 48 bytes says, where each field was read as a number. Assumes nothing.
+-- What the tests of a row say, one by one, and what each field read as a number. Assumes nothing.
+use Rattle.std.specs.Prelude.{Some, None}
 use mathlib.Core.Path.{◌≡◌, sym, ap, ap₂, ◌∙◌}
 use mathlib.Core.Bool.{Bool, true, false, cond, ◌&&◌}
 use mathlib.Core.List.{List}
-use Prim.Native.Nat.{ℕ, ◌^◌, ◌<◌}
-use borrow.Author.Tests.{eq-eqb, ne_eqb, eqb-true, lt-ltb, ltb-true}
-use native.Mathlib.Omega.{arith}
-use lib.Dec.{ltb, eqb, lit<}
+use Prim.Native.Nat.{ℕ, ◌<◌}
+use borrow.Author.Tests.{eq-eqb, eqb-true, lt-ltb, ltb-true}
+use lib.Dec.{ltb, eqb}
 use lib.ListN.{length, get_or}
 use Rattle.word.specs.Memory.{part}
-use Rattle.word.proofs.MemoryLaws.{length_part}
 use Rattle.word.proofs.TestLaws.{bool_cases, and_both}
 use Rattle.text.specs.Number.{read_from}
 use Rattle.steplog.specs.Digits.{all_digits, number_of}
 use Rattle.steplog.specs.Row.{between_ok, digits_ok, row_in, form_ok, reading_of}
-use Rattle.steplog.specs.declared.digits.Number.{Number}
-use Rattle.steplog.specs.declared.Reading.TheVariants.{Form, Read}
-use Rattle.steplog.proofs.DigitsLaws.{number_good, number_says, number_below}
+use Rattle.steplog.specs.declared.Row.{Row}
+use Rattle.steplog.proofs.DigitsLaws.{number_says}
 
-pub reading_row : (count : ℕ) (bytes : List ℕ) → form_ok count bytes ≡ true → reading_of count bytes ≡ Read (row_in bytes)
+pub reading_row : (count : ℕ) (bytes : List ℕ) → form_ok count bytes ≡ true → reading_of count bytes ≡ Some (row_in bytes)
 unfolding reading_of
-reading_row count bytes e = ap (λ (t : Bool). cond t (Read (row_in bytes)) Form) e
+reading_row count bytes e = ap (λ (t : Bool). cond t (Some (row_in bytes)) None) e
 
-pub reading_form : (count : ℕ) (bytes : List ℕ) → form_ok count bytes ≡ false → reading_of count bytes ≡ Form
+pub reading_form : (count : ℕ) (bytes : List ℕ) → form_ok count bytes ≡ false → reading_of count bytes ≡ None
 unfolding reading_of
-reading_form count bytes e = ap (λ (t : Bool). cond t (Read (row_in bytes)) Form) e
-
--- a part of another length
-pub form_length : (count : ℕ) (bytes : List ℕ) → (length bytes ≡ 48 → ⊥) → form_ok count bytes ≡ false
-unfolding form_ok
-form_length count bytes h = ap (λ (t : Bool). t && (between_ok bytes && (digits_ok bytes && ltb (row_in bytes).hart count))) (ne_eqb (length bytes) 48 h)
+reading_form count bytes e = ap (λ (t : Bool). cond t (Some (row_in bytes)) None) e
 
 -- the tests of a well-formed row, one by one
 pub record Formed (count : ℕ) (bytes : List ℕ) : Type 0 where
@@ -103,70 +96,32 @@ pub digits_hold : (bytes : List ℕ) → Fields bytes → digits_ok bytes ≡ tr
 unfolding digits_ok
 digits_hold bytes f = ap₂ ◌&&◌ f.hart (ap₂ ◌&&◌ f.pc (ap₂ ◌&&◌ f.word (ap₂ ◌&&◌ f.rd f.value)))
 
-value_good : (base : ℕ) (cs : List ℕ) (n : Number) → n ≡ number_of base cs → all_digits base cs ≡ true → n.value ≡ read_from base 0 cs
-value_good base cs n e t = ap (λ (m : Number). m.value) (e ∙ number_good base cs t)
+-- a test that fails
+pub form_fails : (count : ℕ) (bytes : List ℕ) → (Formed count bytes → ⊥) → None ≡ reading_of count bytes
+form_fails count bytes h =
+    bool_cases (form_ok count bytes) (λ t. absurd (h (form_says count bytes t))) (λ f. sym (reading_form count bytes f))
 
-says : (base : ℕ) (cs : List ℕ) (n : Number) → n ≡ number_of base cs → n.good ≡ all_digits base cs
-says base cs n e = ap (λ (m : Number). m.good) e ∙ number_says base cs
+-- the digits of a field, and the number that they are
+pub record FieldIs (bytes : List ℕ) (base place k n : ℕ) : Type 0 where
+  pub digits : all_digits base (part bytes place k) ≡ true
+  pub value : n ≡ read_from base 0 (part bytes place k)
 
--- a row of 48 bytes of which each field was read as a number, and what stands between them was looked at
-pub record Seen (bytes : List ℕ) (hart pc word rd value : Number) (between : Bool) : Type 0 where
-  pub long : length bytes ≡ 48
-  pub is_hart : hart ≡ number_of 10 (part bytes 0 1)
-  pub is_pc : pc ≡ number_of 16 (part bytes 2 16)
-  pub is_word : word ≡ number_of 16 (part bytes 19 8)
-  pub is_rd : rd ≡ number_of 10 (part bytes 28 2)
-  pub is_value : value ≡ number_of 16 (part bytes 31 16)
-  pub is_between : between ≡ between_ok bytes
+pub field_is : (bytes : List ℕ) (base place k n : ℕ) → number_of base (part bytes place k) ≡ Some n → FieldIs bytes base place k n
+field_is bytes base place k n e = let s = number_says base (part bytes place k) n e in record { digits = s.0; value = s.1 }
 
-module _ {bytes : List ℕ} {hart pc word rd value : Number} {between : Bool} (seen : Seen bytes hart pc word rd value between) where
-  -- a word of 8 digits fits 32 bits
-  pub word_below : word.value < 2 ^ 32
-  word_below =
-      let few : length (part bytes 19 8) ≡ 8 = length_part bytes 19 8 (omega (arith, seen.long)) in
-      rw seen.is_word (rw few at (number_below 16 (part bytes 19 8) (lit< tt)))
+-- the hart that its digit is
+pub counts : (count : ℕ) (bytes : List ℕ) (hart : ℕ) → Formed count bytes → FieldIs bytes 10 0 1 hart → hart < count
+unfolding row_in
+counts count bytes hart f is = rw is.value f.counted
 
-  digits : hart.good && (pc.good && (word.good && (rd.good && value.good))) ≡ digits_ok bytes
-  unfolding digits_ok
-  digits =
-      ap₂ ◌&&◌ (says 10 (part bytes 0 1) hart seen.is_hart)
-      (ap₂ ◌&&◌ (says 16 (part bytes 2 16) pc seen.is_pc)
-      (ap₂ ◌&&◌ (says 16 (part bytes 19 8) word seen.is_word)
-      (ap₂ ◌&&◌ (says 10 (part bytes 28 2) rd seen.is_rd) (says 16 (part bytes 31 16) value seen.is_value))))
-
-  module _ (count : ℕ) where
-    -- the hart is compared with the count where all digits are digits; elsewhere either comparison leaves the test false
-    counted : digits_ok bytes && ltb hart.value count ≡ digits_ok bytes && ltb (row_in bytes).hart count
-    unfolding row_in
-    counted =
-        bool_cases (digits_ok bytes)
-        (λ t. ap (λ (n : ℕ). digits_ok bytes && ltb n count) (value_good 10 (part bytes 0 1) hart seen.is_hart (digits_say bytes t).hart))
-        (λ f. rw f)
-
-    -- the code's test
-    abbrev pub test : Bool
-    test = between && ((hart.good && (pc.good && (word.good && (rd.good && value.good)))) && ltb hart.value count)
-
-    tested : test ≡ form_ok count bytes
-    unfolding form_ok
-    tested =
-        ap₂ ◌&&◌ seen.is_between (ap (λ (t : Bool). t && ltb hart.value count) digits ∙ counted)
-        ∙ ap (λ (t : Bool). t && (between_ok bytes && (digits_ok bytes && ltb (row_in bytes).hart count))) (sym (eq-eqb (length bytes) 48 seen.long))
-
-    pub row_refused : test ≡ false → Form ≡ reading_of count bytes
-    row_refused e = sym (reading_form count bytes (sym tested ∙ e))
-
-    pub row_read : test ≡ true
-        → Read (record { hart = hart.value; pc = pc.value; word = word.value; rd = rd.value; value = value.value }) ≡ reading_of count bytes
-    unfolding row_in
-    row_read e =
-        let passed = sym tested ∙ e in
-        let f = digits_say bytes (form_says count bytes passed).digits in
-        rw (
-          value_good 10 (part bytes 0 1) hart seen.is_hart f.hart,
-          value_good 16 (part bytes 2 16) pc seen.is_pc f.pc,
-          value_good 16 (part bytes 19 8) word seen.is_word f.word,
-          value_good 10 (part bytes 28 2) rd seen.is_rd f.rd,
-          value_good 16 (part bytes 31 16) value seen.is_value f.value,
-        )
-        (sym (reading_row count bytes passed))
+-- all of them pass
+module _ (count : ℕ) (bytes : List ℕ) (r : Row) where
+  pub row_read : length bytes ≡ 48 → between_ok bytes ≡ true → FieldIs bytes 10 0 1 r.hart → FieldIs bytes 16 2 16 r.pc → FieldIs bytes 16 19 8 r.word
+      → FieldIs bytes 10 28 2 r.rd → FieldIs bytes 16 31 16 r.value → r.hart < count → Some r ≡ reading_of count bytes
+  unfolding row_in
+  row_read long between hart pc word rd value counted =
+      let fields : Fields bytes = record { hart = hart.digits; pc = pc.digits; word = word.digits; rd = rd.digits; value = value.digits } in
+      let formed : Formed count bytes =
+      record { long = long; between = between; digits = digits_hold bytes fields; counted = let c : read_from 10 0 (part bytes 0 1) < count = rw (← hart.value) counted in c } in
+      let row : r ≡ row_in bytes = rw (hart.value, pc.value, word.value, rd.value, value.value) in
+      ap Some row ∙ sym (reading_row count bytes (form_holds count bytes formed))

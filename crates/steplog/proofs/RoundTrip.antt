@@ -1,5 +1,6 @@
 -- Rows are read as they are written and written as they are read, so every byte of a row is accounted for; and a part of a log is badly formed
 -- exactly if it is no row's text. Assumes nothing.
+use Rattle.std.specs.Prelude.{Some, None}
 use mathlib.Core.Path.{◌≡◌, refl, sym, ap, ap₂, ◌∙◌, subst}
 use mathlib.Core.Bool.{true}
 use mathlib.Core.Logic.{◌↔◌}
@@ -13,13 +14,12 @@ use lib.Seq.{append_snoc, drop-cons, drop-drop, take_at, drop_at, get_or_at, get
 use Rattle.word.specs.Memory.{part}
 use Rattle.word.proofs.MemoryLaws.{length_part}
 use Rattle.word.proofs.TestLaws.{bool_cases}
-use Rattle.text.specs.Number.{read_from}
-use Rattle.steplog.specs.Digits.{digits_from, all_digits}
+use Rattle.text.specs.Number.{digits_from, read_from}
+use Rattle.text.proofs.NumberLaws.{length_digits, digits_numeral}
+use Rattle.steplog.specs.Digits.{all_digits}
 use Rattle.steplog.specs.Row.{field_of, row_of, Fits, IsRow, row_in, form_ok, reading_of}
 use Rattle.steplog.specs.declared.Row.{Row}
-use Rattle.steplog.specs.declared.Reading.{Reading}
-use Rattle.steplog.specs.declared.Reading.TheVariants.{Form, Read}
-use Rattle.steplog.proofs.DigitsLaws.{length_digits, digits_pass, digits_numeral, digits_back, digits_below}
+use Rattle.steplog.proofs.DigitsLaws.{digits_pass, digits_back, digits_below}
 use Rattle.steplog.proofs.ReadLaws.{reading_row, reading_form, Formed, form_says, form_holds}
 use Rattle.steplog.proofs.ReadLaws.{Between, between_says, between_holds, Fields, digits_say, digits_hold}
 
@@ -137,8 +137,8 @@ module _ (count : ℕ) (r : Row) (f : Fits count r) where
       }
 
   -- what is written is read: the text of a row that fits is read as that row
-  pub row_reads_back : reading_of count (row_of r) ≡ Read r
-  row_reads_back = reading_row count (row_of r) (form_holds count (row_of r) formed) ∙ ap Read fields
+  pub row_reads_back : reading_of count (row_of r) ≡ Some r
+  row_reads_back = reading_row count (row_of r) (form_holds count (row_of r) formed) ∙ ap Some fields
 
 -- k digits at a place are a number below that power of the base
 below : (bytes : List ℕ) (base place k : ℕ) → place + k ≤ length bytes → all_digits base (part bytes place k) ≡ true
@@ -200,36 +200,28 @@ module _ (count : ℕ) (bytes : List ℕ) (f : Formed count bytes) where
         value = below bytes 16 31 16 (room 47 (lit≤ tt)) digits.value;
       }
 
--- the row of an answer, or another where it has none
-row_or : Row → Reading → Row
-row_or other Form = other
-row_or other (Read r) = r
-
-pub form_is_no_row : (r : Row) → Form ≡ Read r → ⊥
-form_is_no_row r e = let z : ◌≡◌ {A = ℕ} 0 1 = cc in omega arith
-
 -- what is read was written: bytes that are read as a row are that row's text, and the row fits
-pub read_was_written : (count : ℕ) (bytes : List ℕ) (r : Row) → reading_of count bytes ≡ Read r → Fits count r × (bytes ≡ row_of r)
-unfolding row_or
+pub read_was_written : (count : ℕ) (bytes : List ℕ) (r : Row) → reading_of count bytes ≡ Some r → Fits count r × (bytes ≡ row_of r)
 read_was_written count bytes r e =
     bool_cases (form_ok count bytes)
     (λ t.
-    let same : row_in bytes ≡ r = ap (row_or r) (sym (reading_row count bytes t) ∙ e) in
+    let found : Some (row_in bytes) ≡ Some r = sym (reading_row count bytes t) ∙ e in
+    let same : row_in bytes ≡ r = cc in
     let f = form_says count bytes t in
     (subst (λ (x : Row). Fits count x) same (fits count bytes f), written count bytes f ∙ ap row_of same))
-    (λ n. absurd (form_is_no_row r (sym (reading_form count bytes n) ∙ e)))
+    (λ n. absurd (let none : None ≡ Some r = sym (reading_form count bytes n) ∙ e in cc))
 
 -- So bytes are read as a row exactly if they are that row,
-pub is_row_lem : (count : ℕ) (bytes : List ℕ) (r : Row) → (reading_of count bytes ≡ Read r) ↔ IsRow count bytes r
+pub is_row_lem : (count : ℕ) (bytes : List ℕ) (r : Row) → (reading_of count bytes ≡ Some r) ↔ IsRow count bytes r
 is_row_lem count bytes r = (
   λ e. let w = read_was_written count bytes r e in record { fits = w.0; text = w.1 },
   λ i. ap (reading_of count) i.text ∙ row_reads_back count r i.fits,
 )
 
 -- and as badly formed exactly if they are no row.
-pub no_row_lem : (count : ℕ) (bytes : List ℕ) → (reading_of count bytes ≡ Form) ↔ ((r : Row) → IsRow count bytes r → ⊥)
+pub no_row_lem : (count : ℕ) (bytes : List ℕ) → (reading_of count bytes ≡ None) ↔ ((r : Row) → IsRow count bytes r → ⊥)
 no_row_lem count bytes = (
-  λ e r i. form_is_no_row r (sym e ∙ (is_row_lem count bytes r).1 i),
+  λ e r i. absurd (let none : None ≡ Some r = sym e ∙ (is_row_lem count bytes r).1 i in cc),
   λ none.
       bool_cases (form_ok count bytes)
       (λ t.

@@ -1,12 +1,7 @@
--- Numbers of a fixed number of digits in a base up to 16: written, and read by tests.
-use Rattle.std.specs.Prelude.{◌≡◌, ℕ, zero, suc, ◌/◌, ◌%◌, ◌<◌, Bool, true, false, cond, ◌&&◌, List, [], ◌∷◌, ◌++◌, ltb, eqb, get_or}
+-- Numbers of a fixed number of digits in a base up to 16: written, as `text` writes them, and read by tests.
+use Rattle.std.specs.Prelude.{◌≡◌, ℕ, ◌<◌, Bool, true, cond, ◌&&◌, List, [], ◌∷◌, ltb, eqb, get_or, Option, Some, None}
 use Rattle.text.specs.Number.{glyph, digit_of, read_from}
-use Rattle.steplog.specs.declared.digits.Number.{Number}
-
--- the last k digits of n in the base
-unfoldable pub digits_from : ℕ → ℕ → ℕ → List ℕ
-digits_from base zero n = []
-digits_from base (suc k) n = digits_from base k (n / base) ++ (glyph (n % base) ∷ [])
+pub use Rattle.text.specs.Number.{digits_from}
 
 -- the character is that of a digit below the base. Upper-case letters are none
 unfoldable pub is_digit : ℕ → ℕ → Bool
@@ -17,10 +12,9 @@ unfoldable pub all_digits : ℕ → List ℕ → Bool
 all_digits base [] = true
 all_digits base (c ∷ cs) = is_digit base c && all_digits base cs
 
--- the number that the characters are in the base, or that they are none, whose value is zero
-unfoldable pub number_of : ℕ → List ℕ → Number
-number_of base cs =
-    cond (all_digits base cs) (record { good = true; value = read_from base 0 cs }) (record { good = false; value = 0 })
+-- the number that the characters are in the base, if they are one
+unfoldable pub number_of : ℕ → List ℕ → Option ℕ
+number_of base cs = cond (all_digits base cs) (Some (read_from base 0 cs)) None
 
 -- a table that has for each byte the digit below 16 that it is the character of, or 16
 abbrev pub DigitTable : List ℕ → Type 0

@@ -1,14 +1,12 @@
 -- A row of a board's log (02 [1]): "Our boards log each step as one row of 48 bytes: hart (one digit), pc (16 lower-case hex digits), word (8), rd
 -- (two decimal digits), the value in rd afterwards (16), one space between, line feed last."
-use Rattle.std.specs.Prelude.{◌≡◌, ℕ, ◌^◌, ◌<◌, Bool, cond, ◌&&◌, List, ◌++◌, ltb, eqb, length, get_or}
+use Rattle.std.specs.Prelude.{◌≡◌, ℕ, ◌^◌, ◌<◌, Bool, cond, ◌&&◌, List, ◌++◌, ltb, eqb, length, get_or, Option, Some, None}
 use Prim.Native.String.{String}
 use Rattle.word.specs.Memory.{part}
 use Rattle.text.specs.Ascii.{ascii}
 use Rattle.text.specs.Number.{read_from}
 use Rattle.steplog.specs.Digits.{digits_from, all_digits}
 use Rattle.steplog.specs.declared.Row.{Row}
-use Rattle.steplog.specs.declared.Reading.{Reading}
-use Rattle.steplog.specs.declared.Reading.TheVariants.{Form, Read}
 
 -- a number in k digits of a base, and what stands after it
 abbrev pub field_of : ℕ → ℕ → ℕ → String → List ℕ
@@ -64,5 +62,6 @@ row_in bytes =
 unfoldable pub form_ok : ℕ → List ℕ → Bool
 form_ok count bytes = eqb (length bytes) 48 && (between_ok bytes && (digits_ok bytes && ltb (row_in bytes).hart count))
 
-unfoldable pub reading_of : ℕ → List ℕ → Reading
-reading_of count bytes = cond (form_ok count bytes) (Read (row_in bytes)) Form
+-- the row that these bytes are; none where they are badly formed
+unfoldable pub reading_of : ℕ → List ℕ → Option Row
+reading_of count bytes = cond (form_ok count bytes) (Some (row_in bytes)) None

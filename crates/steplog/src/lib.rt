@@ -5,11 +5,11 @@ pub mod digits;
 
 ghost use Rattle.std.specs.Prelude.{◌≡◌, [], ◌∷◌, ◌++◌, ◌+◌, ◌≤◌, ◌<◌, length};
 ghost use Rattle.text.specs.Put.{Put};
-ghost use Rattle.steplog.specs.Digits.{digits_from, DigitTable};
+ghost use Rattle.text.specs.Number.{digits_from};
 ghost use Rattle.steplog.specs.Row.{row_of, between_ok, reading_of};
 
-use digits::{digit_table, put_digits, read_number};
-use text::put_byte;
+use digits::{Digits, digit_table, read_number};
+use text::{put_byte, put_digits};
 
 // A row: hart, pc, word, rd, and the value in rd afterwards.
 #[derive(Clone, Copy)]
@@ -21,14 +21,8 @@ pub struct Row {
     pub value: u64,
 }
 
-// A part of a log read: badly formed, or a row.
-#[derive(Clone, Copy)]
-pub enum Reading {
-    Form,
-    Read(Row),
-}
-
 // Whether spaces and the line feed stand where they belong.
+#[tactic(auto, unfolding(crate::specs::Row::between_ok))]
 fn between(row: &[u8]) -> bool
     requires { length row.now ≡ 48 }
     ensures { result ≡ between_ok row.now }
@@ -37,48 +31,48 @@ fn between(row: &[u8]) -> bool
         & ((row[18] == b' ') & ((row[27] == b' ') & ((row[30] == b' ') & (row[47] == b'\n'))))
 }
 
-// The row that a part of a log is, or that it is badly formed.
-pub fn read_row(part: &[u8], count: usize) -> Reading
+// The row that a part of a log is; none where it is badly formed.
+pub fn read_row(part: &[u8], count: usize) -> Option<Row>
     ensures { result ≡ reading_of count part.now }
 {
     let table = digit_table();
     read_row_by(&table, part, count)
 }
 
-// The same, with the table of the digits lent. All fields are read before the one test, and of a good row no branch depends on what its digits
-// are.
-pub fn read_row_by(table: &[u8; 256], part: &[u8], count: usize) -> Reading
-    requires { DigitTable table.now }
+// The same, with the table of the digits lent.
+pub fn read_row_by(table: &Digits, part: &[u8], count: usize) -> Option<Row>
     ensures { result ≡ reading_of count part.now }
 {
     if part.len() != 48 {
-        return Reading::Form;
+        return None;
     }
-    let hart = read_number(table, &part[0..1], 10);
-    let pc = read_number(table, &part[2..18], 16);
-    let word = read_number(table, &part[19..27], 16);
-    let rd = read_number(table, &part[28..30], 10);
-    let value = read_number(table, &part[31..47], 16);
-    let digits = hart.good & (pc.good & (word.good & (rd.good & value.good)));
-    if between(part) & (digits & (hart.value < count as u64)) {
-        return Reading::Read(Row {
-            hart: hart.value as usize,
-            pc: pc.value,
-            word: word.value as u32,
-            rd: rd.value as usize,
-            value: value.value,
-        });
+    if !between(part) {
+        return None;
     }
-    Reading::Form
+    let hart = read_number(table, &part[0..1], 10)? as usize;
+    let pc = read_number(table, &part[2..18], 16)?;
+    let word = read_number(table, &part[19..27], 16)? as u32;
+    let rd = read_number(table, &part[28..30], 10)? as usize;
+    let value = read_number(table, &part[31..47], 16)?;
+    if count <= hart {
+        return None;
+    }
+    Some(Row {
+        hart,
+        pc,
+        word,
+        rd,
+        value,
+    })
 }
 
 // A number in so many digits, and the byte after it.
-fn put_field(out: &mut [u8], at: usize, n: u64, k: usize, base: u64, after: u8) -> usize
-    requires { (at + (k + 1) ≤ length out.old) × (0 < base) × (base ≤ 16) }
-    ensures put { Put out.old at (digits_from base k n ++ (after ∷ [])) out.new result }
+fn put_field<const BASE: u64>(out: &mut [u8], at: usize, n: u64, k: usize, after: u8) -> usize
+    requires { (at + (k + 1) ≤ length out.old) × (0 < BASE) × (BASE ≤ 16) }
+    ensures put { Put out.old at (digits_from BASE k n ++ (after ∷ [])) out.new result }
     ensures value { result ≡ at + (k + 1) }
 {
-    let past = put_digits(out, at, n, k, base);
+    let past = put_digits::<BASE>(out, at, n, k);
     put_byte(out, past, after)
 }
 
@@ -89,9 +83,9 @@ pub fn put_row(out: &mut [u8], at: usize, r: Row) -> usize
     ensures put { Put out.old at (row_of r) out.new result }
     ensures value { result ≡ at + 48 }
 {
-    let pc = put_field(out, at, r.hart as u64, 1, 10, b' ');
-    let word = put_field(out, pc, r.pc, 16, 16, b' ');
-    let rd = put_field(out, word, r.word as u64, 8, 16, b' ');
-    let value = put_field(out, rd, r.rd as u64, 2, 10, b' ');
-    put_field(out, value, r.value, 16, 16, b'\n')
+    let pc = put_field::<10>(out, at, r.hart as u64, 1, b' ');
+    let word = put_field::<16>(out, pc, r.pc, 16, b' ');
+    let rd = put_field::<16>(out, word, u64::from(r.word), 8, b' ');
+    let value = put_field::<10>(out, rd, r.rd as u64, 2, b' ');
+    put_field::<16>(out, value, r.value, 16, b'\n')
 }

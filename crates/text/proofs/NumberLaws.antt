@@ -4,14 +4,14 @@ use mathlib.Core.Bool.{Bool, true, false, cond}
 use mathlib.Core.List.{List, [], ◌∷◌, ◌++◌}
 use Prim.Native.Nat.{ℕ, zero, suc, ◌+◌, ◌*◌, ◌-◌, ◌/◌, ◌%◌, ◌^◌, ◌≤◌, ◌<◌, zero-le}
 use borrow.Author.Tests.{lt-ltb, le-ltb, ltb-true, ltb-false}
-use native.Mathlib.Nat.{mod-lt, pow-suc, div-add-mod', div-div-eq-div-mul, zero-mul}
+use native.Mathlib.Nat.{mod-lt, one-le-pow, pow-zero, pow-suc, div-add-mod', div-lt_iff_lt-mul, zero-mul}
 use native.Mathlib.Omega.{arith}
 use lib.Dec.{eqb, eqb→eq, ltb, lit<, lit≤}
 use lib.ListN.{length, length-append, get_or}
 use Rattle.word.proofs.TableLaws.{rule_at}
 use Rattle.word.proofs.TestLaws.{bool_cases}
 use Rattle.text.specs.Ascii.{ascii}
-use Rattle.text.specs.Number.{glyph, decimal_from, decimal_of, hex_from, hex_of, digit_of, read_from, Digits, Numeral}
+use Rattle.text.specs.Number.{glyph, decimal_from, decimal_of, digits_from, hex_from, hex_of, digit_of, read_from, Digits, Numeral}
 
 pub decimal_from-le : (k n : ℕ) → length (decimal_from k n) ≤ k
 unfolding decimal_from
@@ -25,10 +25,21 @@ decimal_from-le (suc k) n = go (ltb n 10) (decimal_from-le k (n / 10))
 pub decimal_of-le : (n : ℕ) → length (decimal_of n) ≤ 20
 decimal_of-le n = decimal_from-le 20 n
 
+pub length_digits : (base k n : ℕ) → length (digits_from base k n) ≡ k
+unfolding digits_from
+length_digits base zero n = refl
+length_digits base (suc k) n = rw (length-append, length_digits base k (n / base)) (omega arith)
+
+pub digits_none : (base n : ℕ) → digits_from base 0 n ≡ []
+unfolding digits_from
+digits_none base n = refl
+
+pub digits_more : (base k n : ℕ) → digits_from base (suc k) n ≡ digits_from base k (n / base) ++ (glyph (n % base) ∷ [])
+unfolding digits_from
+digits_more base k n = refl
+
 pub length-hex_from : (k n : ℕ) → length (hex_from k n) ≡ k
-unfolding hex_from
-length-hex_from zero n = refl
-length-hex_from (suc k) n = rw (length-append, length-hex_from k (n / 16)) (omega arith)
+length-hex_from k n = length_digits 16 k n
 
 decimal_from_more : (k n : ℕ) → 10 ≤ n → decimal_from (suc k) n ≡ decimal_from k (n / 10) ++ (glyph (n % 10) ∷ [])
 unfolding decimal_from
@@ -59,27 +70,12 @@ length_last n h = ap length (decimal_last n h)
 pub length_more : (n : ℕ) → 10 ≤ n → n < 2 ^ 64 → length (decimal_of n) ≡ length (decimal_of (n / 10)) + 1
 length_more n h k = ap length (decimal_more n h k) ∙ length-append (decimal_of (n / 10)) (glyph (n % 10) ∷ [])
 
-pub length_two : (n : ℕ) → 10 ≤ n → n < 100 → length (decimal_of n) ≡ 2
-length_two n h k = omega (arith, length_more n h (omega arith), length_last (n / 10) (omega arith))
-
-pub length_three : (n : ℕ) → 100 ≤ n → n < 1000 → length (decimal_of n) ≡ 3
-length_three n h k = omega (arith, length_more n (omega arith) (omega arith), length_two (n / 10) (omega arith) (omega arith))
-
-pub length_four : (n : ℕ) → 1000 ≤ n → n < 10000 → length (decimal_of n) ≡ 4
-length_four n h k = omega (arith, length_more n (omega arith) (omega arith), length_three (n / 10) (omega arith) (omega arith))
-
--- four digits less
-by_four : (n : ℕ) → n / 10 / 10 / 10 / 10 ≡ n / 10000
-by_four n = div-div-eq-div-mul (n / 10 / 10) 10 10 ∙ div-div-eq-div-mul (n / 10) 10 100 ∙ div-div-eq-div-mul n 10 1000
-
-pub length_four_more : (n : ℕ) → 10000 ≤ n → n < 2 ^ 64 → length (decimal_of n) ≡ length (decimal_of (n / 10000)) + 4
-length_four_more n h k =
-    let a : length (decimal_of n) ≡ length (decimal_of (n / 10)) + 1 = length_more n (omega arith) k in
-    let b : length (decimal_of (n / 10)) ≡ length (decimal_of (n / 10 / 10)) + 1 = length_more (n / 10) (omega arith) (omega arith) in
-    let c : length (decimal_of (n / 10 / 10)) ≡ length (decimal_of (n / 10 / 10 / 10)) + 1 = length_more (n / 10 / 10) (omega arith) (omega arith) in
-    let d : length (decimal_of (n / 10 / 10 / 10)) ≡ length (decimal_of (n / 10 / 10 / 10 / 10)) + 1 =
-    length_more (n / 10 / 10 / 10) (omega arith) (omega arith) in
-    omega (arith, ap (λ (m : ℕ). length (decimal_of m)) (by_four n))
+pub length_power : (k n : ℕ) → 10 ^ k ≤ n → n < 10 * 10 ^ k → n < 2 ^ 64 → length (decimal_of n) ≡ k + 1
+length_power zero n low high h = length_last n (omega (arith, pow-zero 10)) ∙ omega arith
+length_power (suc k) n low high h =
+    let ten : 10 ≤ n = omega (arith, pow-suc 10 k, one-le-pow k 10 (lit< tt)) in
+    let below = length_power k (n / 10) (omega (arith, pow-suc 10 k)) (omega (arith, pow-suc 10 k)) (omega arith) in
+    omega (arith, length_more n ten h, below)
 
 -- a table of the characters of the hexadecimal digits
 abbrev pub hex_table : List ℕ
@@ -91,14 +87,6 @@ entry d x = eqb x (glyph d)
 pub hex_glyph : (d : ℕ) → d < 16 → get_or hex_table d 0 ≡ glyph d
 unfolding entry
 hex_glyph d h = eqb→eq (get_or hex_table d 0) (glyph d) (rule_at entry hex_table tt d h)
-
-pub hex_from_none : (n : ℕ) → hex_from 0 n ≡ []
-unfolding hex_from
-hex_from_none n = refl
-
-pub hex_from_more : (k n : ℕ) → hex_from (suc k) n ≡ hex_from k (n / 16) ++ (glyph (n % 16) ∷ [])
-unfolding hex_from
-hex_from_more k n = refl
 
 -- reading back
 
@@ -156,13 +144,16 @@ decimal_front (suc k) n some h = go (ltb n 10) refl (λ l. decimal_front k (n / 
     go true t f = rw t (omega arith)
     go false t f = first_append (decimal_from k (n / 10)) (glyph (n % 10) ∷ []) (f (ltb-false n 10 t))
 
--- k digits hold a number below 16 ^ k
+-- k digits of a base hold a number below its power
+pub digits_numeral : (base k n : ℕ) → 0 < base → base ≤ 16 → n < base ^ k → Numeral base n (digits_from base k n)
+unfolding digits_from
+digits_numeral base zero n some most h = record { digits = tt; value = omega (arith, pow-zero base) }
+digits_numeral base (suc k) n some most h =
+    let fewer : n / base < base ^ k = (div-lt_iff_lt-mul some).1 (rw pow-suc at h) in
+    numeral_more base some most n (digits_from base k (n / base)) (digits_numeral base k (n / base) some most fewer)
+
 pub hex_numeral : (k n : ℕ) → n < 16 ^ k → Numeral 16 n (hex_from k n)
-unfolding hex_from
-hex_numeral zero n h = record { digits = tt; value = omega arith }
-hex_numeral (suc k) n h =
-    let fewer : n / 16 < 16 ^ k = omega (arith, pow-suc 16 k) in
-    numeral_more 16 (lit< tt) (lit≤ tt) n (hex_from k (n / 16)) (hex_numeral k (n / 16) fewer)
+hex_numeral k n h = digits_numeral 16 k n (lit< tt) (lit≤ tt) h
 
 -- decimal_of n is n written in decimal: digits below ten that are the number n
 pub decimal_back : (n : ℕ) → n < 2 ^ 64 → Numeral 10 n (decimal_of n)

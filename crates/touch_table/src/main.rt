@@ -2,49 +2,25 @@
 // pair is four numbers of 8 bytes each. tools/touch-table makes the pairs and, by another way, the lines that are expected.
 #![tactic(auto)]
 
-ghost use Rattle.std.specs.Prelude.{◌≡◌, ◌+◌, ◌≤◌, length};
-ghost use Rattle.word.specs.Bytes.{le};
-ghost use Rattle.word.specs.Memory.{part};
-
 use input::read_full;
 use std::io;
-
-// The little-endian number at a place.
-fn number(pairs: &[u8], at: usize) -> u64
-    requires { at + 8 ≤ length pairs.now }
-    ensures { result ≡ le (part pairs.now at 8) }
-{
-    word::bytes::load_at(pairs, at, 8)
-}
-
-fn put(rt: &impl Print, n: u64) -> io::Result<()> {
-    print!(rt; "{n:016x} ")
-}
+use word::bytes::load_at;
 
 fn line(rt: &impl Print, b: u64, n: u64, c: u64, m: u64) -> io::Result<()> {
-    put(rt, b)?;
-    put(rt, n)?;
-    put(rt, c)?;
-    put(rt, m)?;
-    if reserve::touch(b, n, c, m) {
-        println!(rt; "1")
-    } else {
-        println!(rt; "0")
-    }
+    let touches = u64::from(reserve::touch(b, n, c, m));
+    println!(rt; "{b:016x} {n:016x} {c:016x} {m:016x} {touches}")
 }
 
 fn all(rt: &impl Print, pairs: &[u8]) -> io::Result<()> {
-    let mut i = 0;
-    while i < pairs.len() / 32 {
+    for i in 0..pairs.len() / 32 {
         let at = 32 * i;
         line(
             rt,
-            number(pairs, at),
-            number(pairs, at + 8),
-            number(pairs, at + 16),
-            number(pairs, at + 24),
+            load_at(pairs, at, 8),
+            load_at(pairs, at + 8, 8),
+            load_at(pairs, at + 16, 8),
+            load_at(pairs, at + 24, 8),
         )?;
-        i += 1;
     }
     Ok(())
 }

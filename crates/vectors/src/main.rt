@@ -1,18 +1,16 @@
-// The report of each case of data/, 0000 to 0883, in order, each after a line with its number.
+// The report of each case of data/, 0000 to 0991, in order, each after a line with its number.
 #![tactic(auto)]
 
 use arguments::{open_file, tell_failure};
 use input::read_full;
 use std::io;
 use std::io::Read;
+use text::put_digits;
 
 // The name of case i, four digits.
 fn name_of(i: u64) -> [u8; 4] {
-    let mut name = [48u8; 4];
-    name[0] = 48 + (i / 1000 % 10) as u8;
-    name[1] = 48 + (i / 100 % 10) as u8;
-    name[2] = 48 + (i / 10 % 10) as u8;
-    name[3] = 48 + (i % 10) as u8;
+    let mut name = [0; 4];
+    put_digits::<10>(&mut name, 0, i, 4);
     name
 }
 
@@ -38,10 +36,8 @@ fn run_case(rt: &HostRuntime, i: u64) -> io::Result<()> {
 }
 
 fn main(rt: HostRuntime) -> io::Result<()> {
-    let mut i: u64 = 0;
-    while i < 992 {
+    for i in 0..992 {
         run_case(&rt, i)?;
-        i += 1;
     }
     Ok(())
 }

@@ -5,22 +5,17 @@ use mathlib.Core.List.{List, [], ◌∷◌}
 use Prim.Native.Nat.{ℕ, suc, ◌/◌, ◌%◌}
 use lib.Dec.{eqb}
 use lib.ListN.{length, take}
+use Rattle.std.specs.Prelude.{Option, None, Some, Ok, Err}
 use Rattle.machine.specs.State.{refusal_of}
 use Rattle.machine.specs.declared.State.{State}
-use Rattle.events.specs.Events.{checked_of, events_of}
-use Rattle.events.specs.declared.Checked.{Checked}
-use Rattle.events.specs.declared.Checked.TheVariants.{Good, Bad}
+use Rattle.events.specs.Events.{Checked, checked_of, events_of}
 use Rattle.events.specs.declared.Event.TheVariants.{Step}
 use Rattle.model.specs.Perform.{Machine}
-use Rattle.model.specs.declared.Verdict.TheVariants.{Performed}
 use Rattle.model.specs.Run.{Result, performed_count, refused_run, performed_run, run_checked, result_of}
-use Rattle.steplog.specs.declared.Reading.{Reading}
-use Rattle.steplog.specs.declared.Reading.TheVariants.{Form, Read}
-use Rattle.rows.specs.Row.{told_by_word, told_by_pc, told_of, stepped}
+use Rattle.steplog.specs.declared.Row.{Row}
+use Rattle.rows.specs.Row.{Told, told_by_word, told_by_pc, told_of, stepped}
 use Rattle.rows.specs.Replay.{readings, End, end_by, end_of, ended, refused_replay, replay_of}
 use Rattle.rows.specs.Replay as Replay
-use Rattle.rows.specs.declared.Told.{Told}
-use Rattle.rows.specs.declared.Told.TheVariants.{Agrees, Stops}
 use Rattle.versions.specs.Versions.{state_under, under, DevicesSpare, SameVerdict, ran_under, replayed_under}
 use Rattle.versions.proofs.Versions.{width_same, refusal_same, same_answer, next_same, new_stays, same_run}
 
@@ -60,59 +55,59 @@ module _ (base : ℕ) (m : Machine) (body : List ℕ) (budget : ℕ) where
   SameRan a b = (a.ran.verdict ≡ b.ran.verdict) × (a.ran.performed ≡ b.ran.performed)
 
   checked_verdict : (c : Checked) → SameRan (run_checked c base mem old body budget) (run_checked c base mem new body budget)
-  checked_verdict Good = (refl, refl)
-  checked_verdict (Bad place) = (refl, refl)
+  checked_verdict (Ok x) = (refl, refl)
+  checked_verdict (Err place) = (refl, refl)
 
   pub same_verdict : SameVerdict base m body budget
   same_verdict =
       let r = run_by SameRan (λ t. checked_verdict body_checked) (refl, refl) in
       record { verdict = r.0; performed = r.1 }
 
-  performed_new : eqb number 0 ≡ true → body_checked ≡ Good → (result_of base mem new body budget).ran.verdict ≡ Performed
+  performed_new : eqb number 0 ≡ true → body_checked ≡ Ok tt → (result_of base mem new body budget).ran.verdict ≡ Ok tt
   unfolding result_of
   performed_new t g = rw (t, g)
 
   -- Where no device write among the events that the run performs breaks a reservation under 2.1, all of the answer is the same but for the version; so of
   -- every run that is refused.
-  pub same_result : ((result_of base mem new body budget).ran.verdict ≡ Performed
+  pub same_result : ((result_of base mem new body budget).ran.verdict ≡ Ok tt
       → DevicesSpare base (under 21 m) (take (performed_count body budget) (events_of body)))
       → result_of base mem old body budget ≡ ran_under 20 (result_of base mem new body budget)
   same_result spare = run_by (λ a b. a ≡ ran_under 20 b) (λ t. checked t body_checked refl) refl
     where
       checked : eqb number 0 ≡ true → (c : Checked) → body_checked ≡ c
           → run_checked c base mem old body budget ≡ ran_under 20 (run_checked c base mem new body budget)
-      checked t Good g =
+      checked t (Ok x) g =
           ap (performed_run (performed_count body budget))
           (same_run base (take (performed_count body budget) (events_of body)) m (spare (performed_new t g)))
-      checked t (Bad place) g = refl
+      checked t (Err place) g = refl
 
 -- ---- replays
 
 -- a row is told the same
-told_same : (base : ℕ) (m : Machine) (r : Reading) → told_of base (under 20 m) r ≡ told_of base (under 21 m) r
+told_same : (base : ℕ) (m : Machine) (r : Option Row) → told_of base (under 20 m) r ≡ told_of base (under 21 m) r
 unfolding told_of told_by_pc told_by_word
-told_same base m Form = refl
-told_same base m (Read r) = let a = same_answer base m (Step r.hart) in rw (width_same base m, a.outcome, a.registers)
+told_same base m None = refl
+told_same base m (Some r) = let a = same_answer base m (Step r.hart) in rw (width_same base m, a.outcome, a.registers)
 
 -- and its step leads to the same machine but for the version
-stepped_same : (base : ℕ) (m : Machine) (r : Reading) → stepped base (under 20 m) r ≡ under 20 (stepped base (under 21 m) r)
+stepped_same : (base : ℕ) (m : Machine) (r : Option Row) → stepped base (under 20 m) r ≡ under 20 (stepped base (under 21 m) r)
 unfolding stepped
-stepped_same base m Form = refl
-stepped_same base m (Read r) = next_same base m (Step r.hart) (λ d. absurd d)
+stepped_same base m None = refl
+stepped_same base m (Some r) = next_same base m (Step r.hart) (λ d. absurd d)
 
-stepped_stays : (base : ℕ) (m : Machine) (r : Reading) → under 21 (stepped base (under 21 m) r) ≡ stepped base (under 21 m) r
+stepped_stays : (base : ℕ) (m : Machine) (r : Option Row) → under 21 (stepped base (under 21 m) r) ≡ stepped base (under 21 m) r
 unfolding stepped
-stepped_stays base m Form = refl
-stepped_stays base m (Read r) = new_stays base m (Step r.hart)
+stepped_stays base m None = refl
+stepped_stays base m (Some r) = new_stays base m (Step r.hart)
 
 abbrev end_under : ℕ → End → End
 end_under version e = record { stop = e.stop; rows = e.rows; machine = under version e.machine }
 
 by_told : (t : Told) (m : Machine) (a b : End) → a ≡ end_under 20 b → end_by t (under 20 m) a ≡ end_under 20 (end_by t (under 21 m) b)
-by_told Agrees m a b e = ap (λ (rest : End). record { stop = rest.stop; rows = suc rest.rows; machine = rest.machine }) e
-by_told (Stops s) m a b e = refl
+by_told (Ok x) m a b e = ap (λ (rest : End). record { stop = rest.stop; rows = suc rest.rows; machine = rest.machine }) e
+by_told (Err s) m a b e = refl
 
-same_end : (base : ℕ) (rs : List Reading) (m : Machine) → end_of base (under 20 m) rs ≡ end_under 20 (end_of base (under 21 m) rs)
+same_end : (base : ℕ) (rs : List (Option Row)) (m : Machine) → end_of base (under 20 m) rs ≡ end_under 20 (end_of base (under 21 m) rs)
 unfolding end_of
 same_end base [] m = refl
 same_end base (r ∷ rs) m =

@@ -1,23 +1,22 @@
 -- The setting misaligned decides the cause of a misaligned LR, SC, AMO or AMOCAS, and nothing else. Assumes nothing.
-use mathlib.Core.Path.{◌≡◌, refl, sym, ◌∙◌, ap, fun_ext}
+use mathlib.Core.Path.{◌≡◌, refl, sym, ◌∙◌, ap}
 use mathlib.Core.Logic.{◌≢◌}
 use mathlib.Core.Bool.{Bool, true, false}
 use mathlib.Core.List.{List, [], ◌∷◌}
-use Prim.Native.Nat.{ℕ, zero, suc, ◌%◌, ◌<◌}
+use Prim.Native.Nat.{ℕ, ◌%◌}
 use native.Mathlib.Omega.{arith}
 use lib.Dec.{eqb, ltb}
 use lib.ListN.{length, get_or}
 use borrow.Author.Tests.{eqb-false}
+use Rattle.std.specs.Prelude.{Option}
 use Rattle.word.proofs.TestLaws.{bool_cases}
-use Rattle.settings.specs.Settings.{size_ok, version_ok, kind_ok, reading_ok, misaligned_ok, lr_cause, amo_cause}
+use Rattle.settings.specs.Settings.{devices_break, size_ok, version_ok, kind_ok, reading_ok, misaligned_ok, lr_cause, amo_cause}
 use Rattle.settings.proofs.SettingsLaws.{kind_xlen}
 use Rattle.settings.specs.declared.Settings.{Settings}
 use Rattle.reserve.specs.Range.{inside_of}
 use Rattle.reserve.proofs.RangeLaws.{inside_of_lem}
-use Rattle.reserve.specs.Reserve.{slot, covers_of, breaks_of, observe_of, observe_slot, broken_of, observe_all_of}
+use Rattle.reserve.specs.Reserve.{covers_of, observe_all_of}
 use Rattle.reserve.specs.declared.Reservation.{Reservation}
-use Rattle.reserve.specs.declared.Reservation.TheVariants.{None, Held}
-use Rattle.reserve.specs.declared.Slot.{Slot}
 use Rattle.reserve.specs.declared.Notice.{Notice}
 use Rattle.reserve.specs.declared.Notice.TheVariants as N
 use Rattle.isa.specs.Narrow.{decode_at}
@@ -38,6 +37,7 @@ use Rattle.events.specs.declared.Event.TheVariants.{Step, Device, Yield}
 use Rattle.model.specs.Act.{Act, refuse, fault, change, put, release, outcome_of, slots_after, broken_after, apply, leaves}
 use Rattle.model.specs.Perform.{Machine, xlen, reservation_of, fetch_of, of_exec, act_on, act_of, outcome_at, broke_at, answer_of, memory_of, next_of, run_of}
 use Rattle.model.proofs.Frame.{settings_next}
+use Rattle.versions.proofs.Observed.{Alike, access_alike, covers_same, observed_same}
 use Rattle.versions.specs.Misaligned.{giving, reach_bytes, MisalignedStep, same, lr, amo, OnlyCauses}
 
 -- ---- an instruction under 0 and under 1
@@ -54,14 +54,6 @@ data Differ (i : Instr) (x : ℕ → ℕ) (zero one : Exec) : Type 0 where
 aligned_same : (c d outside a n base len : ℕ) (e : Exec) → eqb (a % n) 0 ≡ true → checked c outside a n base len e ≡ checked d outside a n base len e
 unfolding checked fault_of
 aligned_same c d outside a n base len e t = rw t
-
--- 0: an LR
-kind_of : AtomicOp → ℕ
-kind_of Lr = 0
-kind_of Sc = 1
-kind_of Cas = 1
-kind_of CasPair = 1
-kind_of (Rmw op) = 1
 
 module _ (x : ℕ → ℕ) (base len : ℕ) (m : Atomic) where
   abbrev a : ℕ
@@ -88,18 +80,14 @@ module _ (x : ℕ → ℕ) (base len : ℕ) (m : Atomic) where
       (misaligned_traps 7 7 a n base len (omega arith) (omega arith) e skew))
 
 module _ (xlen word : ℕ) (x : ℕ → ℕ) (pc base : ℕ) (mem : List ℕ) (covered : ℕ → ℕ → Bool) where
-  not_lr : (m : Atomic) (op : AtomicOp) → m.op ≡ op → 0 < kind_of op → m.op ≢ Lr
-  unfolding kind_of
-  not_lr m op q some e = omega (arith, some, ap kind_of (sym q ∙ e))
-
   atomic_differs : (m : Atomic) (op : AtomicOp) → m.op ≡ op
       → Differ (I.Amo m) x (atomic_by xlen 0 op m x pc base mem covered) (atomic_by xlen 1 op m x pc base mem covered)
-  unfolding exec_lr exec_sc exec_amo exec_cas exec_cas_pair kind_of
+  unfolding exec_lr exec_sc exec_amo exec_cas exec_cas_pair
   atomic_differs m Lr q = lr_differs x base (length mem) m _ _ q (rw q)
-  atomic_differs m Sc q = amo_differs x base (length mem) m _ _ (not_lr m Sc q (omega arith)) (rw q)
-  atomic_differs m Cas q = amo_differs x base (length mem) m _ _ (not_lr m Cas q (omega arith)) (rw q)
-  atomic_differs m CasPair q = amo_differs x base (length mem) m _ _ (not_lr m CasPair q (omega arith)) (rw q)
-  atomic_differs m (Rmw op) q = amo_differs x base (length mem) m _ _ (not_lr m (Rmw op) q (omega arith)) (rw q)
+  atomic_differs m Sc q = amo_differs x base (length mem) m _ _ (λ e. cc) (rw q)
+  atomic_differs m Cas q = amo_differs x base (length mem) m _ _ (λ e. cc) (rw q)
+  atomic_differs m CasPair q = amo_differs x base (length mem) m _ _ (λ e. cc) (rw q)
+  atomic_differs m (Rmw op) q = amo_differs x base (length mem) m _ _ (λ e. cc) (rw q)
 
   execute_differs : (i : Instr) → Differ i x (execute xlen 0 i word x pc base mem covered) (execute xlen 1 i word x pc base mem covered)
   unfolding execute exec_atomic
@@ -124,48 +112,25 @@ module _ (xlen word : ℕ) (x : ℕ → ℕ) (pc base : ℕ) (mem : List ℕ) (c
 
 -- settings of one size and one version
 module _ (s t : Settings) (size : s.size ≡ t.size) (version : s.version ≡ t.version) where
-  covers_same : (r : Reservation) → covers_of s r ≡ covers_of t r
-  unfolding covers_of
-  covers_same None = refl
-  covers_same (Held a w) = rw size
+  noticed : (n : Notice) → Alike s t n → (count : ℕ) (l : List (Option Reservation)) → observe_all_of s count n l ≡ observe_all_of t count n l
+  noticed = observed_same s t size
 
-  breaks_same : (k : ℕ) (n : Notice) (r : Reservation) → breaks_of s k n r ≡ breaks_of t k n r
-  unfolding breaks_of
-  breaks_same k n None = refl
-  breaks_same k N.Quiet (Held a w) = refl
-  breaks_same k (N.LoadReserved g b v) (Held a w) = refl
-  breaks_same k (N.ScStored g b n) (Held a w) = rw size
-  breaks_same k (N.ScFailed g) (Held a w) = refl
-  breaks_same k (N.Write g b n) (Held a w) = rw size
-  breaks_same k (N.DeviceWrite b n) (Held a w) = rw version
-  breaks_same k (N.Yield g) (Held a w) = refl
+  device : devices_break s ≡ devices_break t
+  device = rw version
 
-  broken_same : (n : Notice) (count : ℕ) (l : List Slot) → broken_of s n count l ≡ broken_of t n count l
-  unfolding broken_of
-  broken_same n zero l = refl
-  broken_same n (suc k) l = rw (broken_same n k l, breaks_same k n (get_or l k (slot None)).reservation)
-
-  slot_same : (n : Notice) → observe_slot s n ≡ observe_slot t n
-  unfolding observe_of
-  slot_same n = fun_ext (λ k. fun_ext (λ x. rw (breaks_same k n x.reservation)))
-
-  observed_same : (n : Notice) (count : ℕ) (l : List Slot) → observe_all_of s count n l ≡ observe_all_of t count n l
-  unfolding observe_all_of
-  observed_same n count l = rw (slot_same n, broken_same n count l)
-
-  slots_same : (count : ℕ) (act : Act) (l : List Slot) → slots_after s count act l ≡ slots_after t count act l
+  slots_same : (count : ℕ) (act : Act) (l : List (Option Reservation)) → slots_after s count act l ≡ slots_after t count act l
   slots_same count (refuse number) l = refl
   slots_same count (fault cause value) l = refl
-  slots_same count (change h ws to u) l = ap (λ o. o.slots) (observed_same (notice_of h u) count l)
-  slots_same count (put a bs) l = ap (λ o. o.slots) (observed_same (N.DeviceWrite a (length bs)) count l)
-  slots_same count (release h) l = ap (λ o. o.slots) (observed_same (N.Yield h) count l)
+  slots_same count (change h ws to u) l = ap (λ o. o.slots) (noticed (notice_of h u) (access_alike s t h u) count l)
+  slots_same count (put a bs) l = ap (λ o. o.slots) (noticed (N.DeviceWrite a (length bs)) device count l)
+  slots_same count (release h) l = ap (λ o. o.slots) (noticed (N.Yield h) tt count l)
 
-  broke_same : (count : ℕ) (act : Act) (l : List Slot) → broken_after s count act l ≡ broken_after t count act l
+  broke_same : (count : ℕ) (act : Act) (l : List (Option Reservation)) → broken_after s count act l ≡ broken_after t count act l
   broke_same count (refuse number) l = refl
   broke_same count (fault cause value) l = refl
-  broke_same count (change h ws to u) l = ap (λ o. o.broken) (observed_same (notice_of h u) count l)
-  broke_same count (put a bs) l = ap (λ o. o.broken) (observed_same (N.DeviceWrite a (length bs)) count l)
-  broke_same count (release h) l = ap (λ o. o.broken) (observed_same (N.Yield h) count l)
+  broke_same count (change h ws to u) l = ap (λ o. o.broken) (noticed (notice_of h u) (access_alike s t h u) count l)
+  broke_same count (put a bs) l = ap (λ o. o.broken) (noticed (N.DeviceWrite a (length bs)) device count l)
+  broke_same count (release h) l = ap (λ o. o.broken) (noticed (N.Yield h) tt count l)
 
 -- ---- an event under 0 and under 1
 
@@ -230,7 +195,7 @@ module _ (base : ℕ) (m : Machine) where
           used,
           here,
           width_same,
-          covers_same high.state.settings low.state.settings refl refl (reservation_of m.state h),
+          covers_same high.state.settings low.state.settings refl (reservation_of m.state h),
         )
 
     skewed : (i : Atomic) → decode_at (xlen low) word ≡ I.Amo i → reg_at m.state.x h i.rs1 % reach_bytes i.op i.width ≢ 0

@@ -1,5 +1,5 @@
 -- Under A 2.0 a device write breaks no reservation, and all else is as under 2.1. Assumes nothing.
-use mathlib.Core.Path.{◌≡◌, refl, sym, ◌∙◌, ap, ap₂, subst, fun_ext}
+use mathlib.Core.Path.{◌≡◌, refl, sym, ◌∙◌, ap, ap₂, subst}
 use mathlib.Core.Bool.{cond}
 use mathlib.Core.List.{List, [], ◌∷◌}
 use Prim.Native.Nat.{ℕ, zero, suc, ◌/◌, ◌%◌, ◌^◌, ◌<◌}
@@ -8,16 +8,15 @@ use lib.Dec.{ltb}
 use lib.ListN.{length, get_or}
 use borrow.Author.Tests.{ne_eqb}
 use native.Mathlib.Nat.{zero-div}
+use Rattle.std.specs.Prelude.{Option, None, Some}
 use Rattle.word.proofs.TestLaws.{bool_cases}
 use Rattle.word.specs.Each.{each}
 use Rattle.word.specs.Bytes.{to_le}
-use Rattle.settings.specs.Settings.{size_ok, version_ok, kind_ok, reading_ok, misaligned_ok, at_version}
+use Rattle.settings.specs.Settings.{size_ok, version_ok, kind_ok, reading_ok, misaligned_ok}
 use Rattle.settings.proofs.SettingsLaws.{at_version-xlen}
 use Rattle.settings.specs.declared.Settings.{Settings}
-use Rattle.reserve.specs.Reserve.{slot, covers_of, breaks_of, own_of, observe_of, observe_slot, broken_of, Observed, observe_all_of}
+use Rattle.reserve.specs.Reserve.{breaks_of, own_of, observe_of, observe_slot, broken_of, Observed, observe_all_of}
 use Rattle.reserve.specs.declared.Reservation.{Reservation}
-use Rattle.reserve.specs.declared.Reservation.TheVariants.{None, Held}
-use Rattle.reserve.specs.declared.Slot.{Slot}
 use Rattle.reserve.specs.declared.Notice.{Notice}
 use Rattle.reserve.specs.declared.Notice.TheVariants as N
 use Rattle.reserve.proofs.BrokenLaws.{bit_exact}
@@ -25,13 +24,14 @@ use Rattle.reserve.proofs.NoticeLaws.{BreaksNone, each_none, spared_broken}
 use Rattle.machine.specs.State.{lent_ok, memory_ok, state_ok, refusal_of}
 use Rattle.machine.specs.declared.State.{State}
 use Rattle.machine.proofs.StateLaws.{top_same, harts_same}
-use Rattle.effect.specs.Effect.{Access, nothing, reserve, store, sc_stored, sc_failed, Exec, notice_of}
+use Rattle.effect.specs.Effect.{Exec, notice_of}
 use Rattle.events.specs.declared.Event.{Event}
 use Rattle.events.specs.declared.Event.TheVariants.{Step, Device, Yield}
 use Rattle.model.specs.Act.{Act, refuse, outcome_of, registers_after, pcs_after, slots_after, broken_after, apply, leaves}
 use Rattle.model.specs.Perform.{Machine, version, xlen, reservation_of, step_of, of_exec, act_on, act_of}
 use Rattle.model.specs.Perform.{broke_at, answer_of, memory_of, next_of, run_of}
 use Rattle.model.proofs.Frame.{acts}
+use Rattle.versions.proofs.Observed.{Alike, access_alike, covers_same, observed_same}
 use Rattle.versions.specs.Versions.{under, IsDevice, DeviceSpares, DevicesSpare, LeavesState, SameAnswer, SameReservations}
 
 -- ---- device writes under 2.0
@@ -40,33 +40,33 @@ module _ (settings : Settings) (v : settings.version ≡ 20) (b n : ℕ) where
   device_spares : BreaksNone settings (N.DeviceWrite b n)
   unfolding breaks_of
   device_spares k None = refl
-  device_spares k (Held a w) = rw (ne_eqb settings.version 21 (λ q. omega (arith, v, q)))
+  device_spares k (Some r) = rw (ne_eqb settings.version 21 (λ q. omega (arith, v, q)))
 
-  device_stays : (count : ℕ) (l : List Slot) → (observe_all_of settings count (N.DeviceWrite b n) l).slots ≡ l
+  device_stays : (count : ℕ) (l : List (Option Reservation)) → (observe_all_of settings count (N.DeviceWrite b n) l).slots ≡ l
   unfolding observe_all_of observe_of own_of
   device_stays count l =
-      each_none (observe_slot settings (N.DeviceWrite b n)) (λ k s. rw (device_spares k s.reservation)) count l
+      each_none (observe_slot settings (N.DeviceWrite b n)) (λ k s. rw (device_spares k s)) count l
 
-  device_breaks_none : (count : ℕ) (l : List Slot) → (observe_all_of settings count (N.DeviceWrite b n) l).broken ≡ 0
+  device_breaks_none : (count : ℕ) (l : List (Option Reservation)) → (observe_all_of settings count (N.DeviceWrite b n) l).broken ≡ 0
   unfolding observe_all_of
   device_breaks_none count l = spared_broken settings (N.DeviceWrite b n) device_spares count l
 
 -- a list of which no element below n is changed
-each_still : (f : ℕ → Slot → Slot) (n : ℕ) (l : List Slot) → ((k : ℕ) → k < n → f k (get_or l k (slot None)) ≡ get_or l k (slot None)) → each f n l ≡ l
+each_still : (f : ℕ → Option Reservation → Option Reservation) (n : ℕ) (l : List (Option Reservation)) → ((k : ℕ) → k < n → f k (get_or l k None) ≡ get_or l k None) → each f n l ≡ l
 each_still f zero l e = refl
 each_still f (suc n) [] e = refl
 each_still f (suc n) (s ∷ l) e =
-    ap₂ (λ (x : Slot) (xs : List Slot). x ∷ xs) (e 0 (omega arith)) (each_still (λ k. f (suc k)) n l (λ k h. e (suc k) (omega arith)))
+    ap₂ (λ (x : Option Reservation) (xs : List (Option Reservation)). x ∷ xs) (e 0 (omega arith)) (each_still (λ k. f (suc k)) n l (λ k h. e (suc k) (omega arith)))
 
 -- a device write that breaks none of the reservations below the count leaves the list
-device_unbroken : (settings : Settings) (b n count : ℕ) (l : List Slot) → broken_of settings (N.DeviceWrite b n) count l ≡ 0
+device_unbroken : (settings : Settings) (b n count : ℕ) (l : List (Option Reservation)) → broken_of settings (N.DeviceWrite b n) count l ≡ 0
     → each (observe_slot settings (N.DeviceWrite b n)) count l ≡ l
 unfolding observe_of own_of
 device_unbroken settings b n count l q = each_still (observe_slot settings (N.DeviceWrite b n)) count l stays
   where
-    stays : (k : ℕ) → k < count → observe_slot settings (N.DeviceWrite b n) k (get_or l k (slot None)) ≡ get_or l k (slot None)
+    stays : (k : ℕ) → k < count → observe_slot settings (N.DeviceWrite b n) k (get_or l k None) ≡ get_or l k None
     stays k h =
-        bool_cases (breaks_of settings k (N.DeviceWrite b n) (get_or l k (slot None)).reservation)
+        bool_cases (breaks_of settings k (N.DeviceWrite b n) (get_or l k None))
         (λ t.
         let bit = (bit_exact settings (N.DeviceWrite b n) l count k).1 (h, t) in
         let z : 0 / 2 ^ k % 2 ≡ 1 = ap (λ (i : ℕ). i / 2 ^ k % 2) (sym q) ∙ bit in
@@ -88,7 +88,7 @@ module _ (base : ℕ) (m : Machine) (v : version m ≡ 20) where
       (λ cause value i. (refl, refl))
       (λ h q u ws to t i. absurd (subst IsDevice q i))
       (λ a n w q i. (
-        ap (λ (l : List Slot). record { count = s.count; settings = s.settings; x = s.x; pc = s.pc; res = l })
+        ap (λ (l : List (Option Reservation)). record { count = s.count; settings = s.settings; x = s.x; pc = s.pc; res = l })
             (device_stays s.settings v a (length (to_le n w)) s.count s.res),
         device_breaks_none s.settings v a (length (to_le n w)) s.count s.res,
       ))
@@ -96,60 +96,6 @@ module _ (base : ℕ) (m : Machine) (v : version m ≡ 20) where
       record { state = r.0; broke = r.1 }
 
 -- ---- all else is the same
-
-abbrev Silent : Notice → Type 0
-Silent N.Quiet = Unit {0}
-Silent (N.LoadReserved g b w) = Unit {0}
-Silent (N.ScStored g b n) = Unit {0}
-Silent (N.ScFailed g) = Unit {0}
-Silent (N.Write g b n) = Unit {0}
-Silent (N.DeviceWrite b n) = ⊥
-Silent (N.Yield g) = Unit {0}
-
--- settings of one size and one kind
-module _ (settings : Settings) (v w : ℕ) where
-  abbrev s : Settings
-  s = at_version v settings
-
-  abbrev t : Settings
-  t = at_version w settings
-
-  covers_same : (r : Reservation) (b n : ℕ) → covers_of s r b n ≡ covers_of t r b n
-  unfolding covers_of
-  covers_same None b n = refl
-  covers_same (Held a k) b n = refl
-
-  breaks_same : (n : Notice) → Silent n → (k : ℕ) (r : Reservation) → breaks_of s k n r ≡ breaks_of t k n r
-  unfolding breaks_of
-  breaks_same n d k None = refl
-  breaks_same N.Quiet d k (Held a z) = refl
-  breaks_same (N.LoadReserved g b y) d k (Held a z) = refl
-  breaks_same (N.ScStored g b n) d k (Held a z) = refl
-  breaks_same (N.ScFailed g) d k (Held a z) = refl
-  breaks_same (N.Write g b n) d k (Held a z) = refl
-  breaks_same (N.DeviceWrite b n) d k (Held a z) = absurd d
-  breaks_same (N.Yield g) d k (Held a z) = refl
-
-  broken_same : (n : Notice) → Silent n → (count : ℕ) (l : List Slot) → broken_of s n count l ≡ broken_of t n count l
-  unfolding broken_of
-  broken_same n d zero l = refl
-  broken_same n d (suc k) l = rw (broken_same n d k l, breaks_same n d k (get_or l k (slot None)).reservation)
-
-  slot_same : (n : Notice) → Silent n → observe_slot s n ≡ observe_slot t n
-  unfolding observe_of
-  slot_same n d = fun_ext (λ k. fun_ext (λ x. rw (breaks_same n d k x.reservation)))
-
-  observed_same : (n : Notice) → Silent n → (count : ℕ) (l : List Slot) → observe_all_of s count n l ≡ observe_all_of t count n l
-  unfolding observe_all_of
-  observed_same n d count l =
-      ap₂ (λ (f : ℕ → Slot → Slot) (b : ℕ). record { slots = each f count l; broken = b }) (slot_same n d) (broken_same n d count l)
-
-access_silent : (h : ℕ) (x : Access) → Silent (notice_of h x)
-access_silent h nothing = tt
-access_silent h (reserve a w) = tt
-access_silent h (store a bs) = tt
-access_silent h (sc_stored a bs) = tt
-access_silent h sc_failed = tt
 
 module _ (base : ℕ) (m : Machine) where
   abbrev old : Machine
@@ -173,9 +119,7 @@ module _ (base : ℕ) (m : Machine) where
 
   step_same : (h : ℕ) → step_of base m.mem old.state h ≡ step_of base m.mem new.state h
   step_same h =
-      let c : covers_of old.state.settings (reservation_of m.state h) ≡ covers_of new.state.settings (reservation_of m.state h) =
-      fun_ext (λ b. fun_ext (λ n. covers_same m.state.settings 20 21 (reservation_of m.state h) b n)) in
-      rw (c, width_same)
+      rw (covers_same old.state.settings new.state.settings refl (reservation_of m.state h), width_same)
 
   on_same : (e : Event) → act_on base m.mem old.state e ≡ act_on base m.mem new.state e
   unfolding act_on
@@ -206,9 +150,9 @@ module _ (base : ℕ) (m : Machine) where
       (slots_after old.state.settings m.state.count act m.state.res ≡ slots_after new.state.settings m.state.count act m.state.res)
       × (broken_after old.state.settings m.state.count act m.state.res ≡ broken_after new.state.settings m.state.count act m.state.res)
 
-  noticed : (n : Notice) → Silent n
+  noticed : (n : Notice) → Alike old.state.settings new.state.settings n
       → observe_all_of old.state.settings m.state.count n m.state.res ≡ observe_all_of new.state.settings m.state.count n m.state.res
-  noticed n d = observed_same m.state.settings 20 21 n d m.state.count m.state.res
+  noticed n d = observed_same old.state.settings new.state.settings refl n d m.state.count m.state.res
 
   -- a device write that breaks no reservation under 2.1 leaves them all
   untouched : (e : Event) → IsDevice e → broke_at base new e ≡ 0 → (next_of base new e).state.res ≡ m.state.res
@@ -229,7 +173,7 @@ module _ (base : ℕ) (m : Machine) where
       let r =
       acts base m.mem new.state (λ act. (IsDevice e → ⊥) → Same act) (λ number i. (refl, refl)) e
       (λ cause value i. (refl, refl))
-      (λ h q u ws to t i. let o = noticed (notice_of h t) (access_silent h t) in (ap (λ (x : Observed). x.slots) o, ap (λ (x : Observed). x.broken) o))
+      (λ h q u ws to t i. let o = noticed (notice_of h t) (access_alike old.state.settings new.state.settings h t) in (ap (λ (x : Observed). x.slots) o, ap (λ (x : Observed). x.broken) o))
       (λ a n w q i. absurd (i (subst IsDevice (sym q) tt)))
       (λ h q u i. let o = noticed (N.Yield h) tt in (ap (λ (x : Observed). x.slots) o, ap (λ (x : Observed). x.broken) o)) none in
       let q = act_same e in
@@ -261,7 +205,7 @@ module _ (base : ℕ) (m : Machine) where
       let res = (next_of base old e).state.res in
       ap₂ (λ (x pc : List ℕ). record { state = record { count = s.count; settings = settings; x = x; pc = pc; res = res }; mem = mem })
       a.registers a.pcs
-      ∙ ap₂ (λ (l : List Slot) (bytes : List ℕ).
+      ∙ ap₂ (λ (l : List (Option Reservation)) (bytes : List ℕ).
       record {
         state = record { count = s.count; settings = settings; x = (next_of base new e).state.x; pc = (next_of base new e).state.pc; res = l };
         mem = bytes;

@@ -1,57 +1,56 @@
-use mathlib.Core.Path.{◌≡◌, refl, sym, ap, ◌∙◌}
-use mathlib.Core.Bool.{Bool, not, ◌&&◌}
+use mathlib.Core.Path.{◌≡◌, sym, ap, ◌∙◌}
+use mathlib.Core.Bool.{Bool, ◌&&◌}
 use mathlib.Core.List.{List, []}
-use Prim.Native.Nat.{ℕ, ◌+◌, ◌*◌, min}
+use Prim.Native.Nat.{ℕ, ◌+◌, ◌*◌, ◌<◌, min}
 use native.Mathlib.Omega.{arith}
-use lib.Dec.{eqb}
+use Rattle.std.proofs.lemmas.Bool.Decides.{nat_tests}
 use lib.ListN.{length, get_or, drop, drop_of_length-le}
+use Rattle.std.specs.Prelude.{Some}
 use Rattle.text.specs.Number.{digit_of, read_from}
 use Rattle.steplog.specs.Digits.{all_digits}
 use Rattle.steplog.proofs.DigitsLaws.{read_turn, digits_turn, digits_nil}
-use Rattle.arguments.proofs.NumberLaws.{read_capped, said_digits, said_none, known_digit, no_digit}
+use Rattle.arguments.proofs.NumberLaws.{read_capped, said_empty, said_digits, said_none, known_digit, no_digit}
 use Rattle.arguments.proofs.number_in.Goals as goal
 
-pub loop-i-init : goal.loop-i-init
-loop-i-init c = (omega arith, omega arith, refl, refl)
+pub returns-then-is_empty : goal.returns-then-is_empty
+returns-then-is_empty c =
+    let none : length c.args.text.now ≡ 0 = grind (arith, nat_tests, c.if-is_empty.ensures) in
+    sym (said_empty c.args.text.now none)
 
-pub returns-then-d-eq10 : goal.returns-then-d-eq10
-returns-then-d-eq10 c =
-    let turn = c.loop-i in
+pub returns-in_err-d : goal.returns-in_err-d
+returns-in_err-d c =
+    let turn = c.loop-c in
     let text = c.args.text.now in
-    let bad = no_digit (get_or text turn.i 0) c.digit-d.result c.digit-d.ensures c.if-d-eq10.true in
-    sym
+    let bad = no_digit (get_or text turn.c-index 0) (sym c.digit.ensures ∙ c.in_err-d.was) in
+    c.from_residual.ensures ∙ sym
     (said_none text
-    (turn.invariant.2 ∙ digits_turn 10 turn.i text (omega arith) ∙ ap (λ (b : Bool). b && all_digits 10 (drop (turn.i + 1) text)) bad))
+    (turn.invariant.1 ∙ digits_turn 10 turn.c-index text (omega arith) ∙ ap (λ (b : Bool). b && all_digits 10 (drop (turn.c-index + 1) text)) bad))
 
-pub longer-value-requires : goal.longer-value-requires
-longer-value-requires c =
-    let turn = c.loop-i in
+pub loop-c-preserved : goal.loop-c-preserved
+loop-c-preserved c =
+    let turn = c.loop-c in
     let text = c.args.text.now in
-    (turn.invariant.1, (known_digit (get_or text turn.i 0) c.digit-d.result c.digit-d.ensures c.if-d-eq10.false).2)
-
-pub loop-i-preserved : goal.loop-i-preserved
-loop-i-preserved c =
-    let turn = c.loop-i in
-    let text = c.args.text.now in
-    let d = c.digit-d in
-    let good = known_digit (get_or text turn.i 0) d.result d.ensures c.if-d-eq10.false in
-    let rest = drop (turn.i + 1) text in
-    let next : c.longer-value.result ≡ min 1000 (turn.value * 10 + digit_of (get_or text turn.i 0)) =
-    c.longer-value.ensures ∙ ap (λ (n : ℕ). min 1000 (turn.value * 10 + n)) good.1 in (
+    let i = turn.c-index in
+    let character = get_or text i 0 in
+    let good = known_digit character c.in_ok-d.d (sym c.digit.ensures ∙ c.in_ok-d.was) in
+    let rest = drop (i + 1) text in
+    let value : c.min-value.result ≡ min (turn.value * 10 + digit_of character) 1000 =
+    c.min-value.ensures ∙ ap (λ (d : ℕ). min (turn.value * 10 + d) 1000) good.1 in
+    let next : c.min-value.result ≡ min 1000 (turn.value * 10 + digit_of character) = omega (arith, value) in (
       omega arith,
-      omega (arith, c.longer-value.ensures),
-      turn.invariant.2 ∙ digits_turn 10 turn.i text (omega arith) ∙ ap (λ (b : Bool). b && all_digits 10 rest) good.0,
-      turn.invariant.3 ∙ ap (min 1000) (read_turn 10 turn.value turn.i text (omega arith))
-          ∙ read_capped (turn.value * 10 + digit_of (get_or text turn.i 0)) rest
+      turn.invariant.1 ∙ digits_turn 10 i text (omega arith) ∙ ap (λ (b : Bool). b && all_digits 10 rest) good.0,
+      turn.invariant.2 ∙ ap (min 1000) (read_turn 10 turn.value i text (omega arith))
+          ∙ read_capped (turn.value * 10 + digit_of character) rest
           ∙ ap (λ (n : ℕ). min 1000 (read_from 10 n rest)) (sym next),
     )
 
 pub returns : goal.returns
 returns c =
-    let turn = c.loop-i in
+    let turn = c.loop-c in
     let text = c.args.text.now in
-    let end : drop turn.i text ≡ [] = drop_of_length-le text {i = turn.i} (omega arith) in
-    let all = turn.invariant.2 ∙ ap (all_digits 10) end ∙ digits_nil 10 in
-    let read : min 1000 (read_from 10 0 text) ≡ min 1000 turn.value = turn.invariant.3 ∙ ap (λ (l : List ℕ). min 1000 (read_from 10 turn.value l)) end in
-    let value : min 1000 (read_from 10 0 text) ≡ turn.value = omega (arith, read, turn.invariant.1) in
-    sym (said_digits text all ∙ ap (λ (n : ℕ). record { said = not (eqb (length text) 0); value = n }) value)
+    let end : drop turn.c-index text ≡ [] = drop_of_length-le text {i = turn.c-index} (omega arith) in
+    let all = turn.invariant.1 ∙ ap (all_digits 10) end ∙ digits_nil 10 in
+    let read : min 1000 (read_from 10 0 text) ≡ min 1000 turn.value = turn.invariant.2 ∙ ap (λ (l : List ℕ). min 1000 (read_from 10 turn.value l)) end in
+    let value : min 1000 (read_from 10 0 text) ≡ turn.value = omega (arith, read, turn.invariant.0) in
+    let some : 0 < length text = grind (arith, nat_tests, c.if-is_empty.ensures) in
+    sym (said_digits text some all ∙ ap Some value)

@@ -1,6 +1,6 @@
 use mathlib.Core.Path.{◌≡◌}
-use Prim.Native.Nat.{◌+◌, ◌*◌, ◌-◌, ◌≤◌}
-use lib.ListN.{length, get_or}
+use Prim.Native.Nat.{◌+◌, ◌*◌}
+use lib.ListN.{get_or}
 use Rattle.word.specs.Memory.{splice}
 use Rattle.boards.specs.File.{no_board}
 use Rattle.boards.specs.Write.{blocks, body_bytes}
@@ -8,7 +8,4 @@ use Rattle.boards.proofs.put_bodies.Given as goal
 
 abbrev pub invariant-loop-k : goal.invariant-loop-k
 invariant-loop-k l =
-    (l.k ≤ l.count) × (length l.out ≡ length l.initial.out) × (l.out ≡ splice l.initial.out (8 + 8 * l.count) (blocks (λ j. body_bytes (get_or l.boards j no_board)) l.k))
-
-abbrev pub decreases-loop-k : goal.decreases-loop-k
-decreases-loop-k l = l.count - l.k
+    (l.out ≡ splice l.initial.out (8 + 8 * l.count) (blocks (λ j. body_bytes (get_or l.boards j no_board)) l.k))

@@ -1,14 +1,8 @@
 use mathlib.Core.Path.{refl, sym, ap, ◌∙◌}
-use Prim.Native.Nat.{◌≤◌, ◌<◌}
 use native.Mathlib.Omega.{arith}
-use lib.ListN.{get_or}
-use borrow.Author.Tests.{eq-eqb, ne_eqb}
-use Rattle.settings.specs.Boards.{board_ok}
-use Rattle.boards.specs.File.{no_board, start_of}
-use Rattle.boards.specs.Write.{first_bad_board}
-use Rattle.boards.specs.declared.Written.TheVariants.{Refused}
-use Rattle.boards.proofs.FileLaws.{first_within}
-use Rattle.boards.proofs.WriteLaws.{write_few, write_many, write_short, write_bad, write_good, answered, put_none, put_whole}
+use Rattle.boards.specs.Write.{refused_write, by_boards}
+use Rattle.boards.proofs.FileLaws.{first_found}
+use Rattle.boards.proofs.WriteLaws.{write_few, write_many, write_short, write_by, answered}
 use Rattle.boards.proofs.write_settings.Goals as goal
 
 pub returns-then-count-lt1 : goal.returns-then-count-lt1
@@ -32,25 +26,24 @@ returns-then-out-count c =
     answered a.count a.boards a.out.now _ _ (write_short _ _ _ (omega arith) (omega arith) c.if-out-count.true) refl in
     record { value = t.0; out_after = t.1 }
 
-pub returns-then-bad-count : goal.returns-then-bad-count
-returns-then-bad-count c =
+pub start_of-place-requires : goal.start_of-place-requires
+start_of-place-requires c = (omega arith, omega (arith, (first_found _ _ _ (sym c.first_bad_board.ensures ∙ c.in-Some.is)).0))
+
+pub returns-in-Some : goal.returns-in-Some
+returns-in-Some c =
     let a = c.args in
-    let bad = c.first_bad_board-bad.ensures in
-    let below : first_bad_board a.count a.boards < a.count = omega (arith, bad, c.if-bad-count.true) in
     let t =
     answered a.count a.boards a.out.now _ _
-    (write_bad _ _ _ (omega arith) (omega arith) (omega arith) below
-    ∙ ap (Refused 23) (ap (start_of 2 a.count) (sym bad) ∙ sym c.start_of-place.ensures))
-    (put_none _ _ _ _ c.put_if.ensures (ne_eqb c.first_bad_board-bad.result a.count (λ e. omega (arith, e, c.if-bad-count.true)))) in
+    (write_by _ _ _ (omega arith) (omega arith) (omega arith) ∙ ap (by_boards a.count) (sym c.first_bad_board.ensures ∙ c.in-Some.is)
+    ∙ ap (refused_write 23) (sym c.start_of-place.ensures))
+    refl in
     record { value = t.0; out_after = t.1 }
 
 pub returns : goal.returns
 returns c =
     let a = c.args in
-    let bad = c.first_bad_board-bad.ensures in
-    let most = first_within (λ k. board_ok (get_or a.boards k no_board)) a.count in
-    let all : a.count ≤ first_bad_board a.count a.boards = omega (arith, bad, c.if-bad-count.false) in
     let t =
-    answered a.count a.boards a.out.now _ _ (write_good _ _ _ (omega arith) (omega arith) (omega arith) all)
-    (put_whole _ _ _ _ c.put_if.ensures (eq-eqb c.first_bad_board-bad.result a.count (omega (arith, bad, most, c.if-bad-count.false)))) in
+    answered a.count a.boards a.out.now _ _
+    (write_by _ _ _ (omega arith) (omega arith) (omega arith) ∙ ap (by_boards a.count) (sym c.first_bad_board.ensures ∙ c.in_default.is))
+    c.put_file.ensures in
     record { value = t.0; out_after = t.1 }

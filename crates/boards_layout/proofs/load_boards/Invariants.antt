@@ -1,5 +1,5 @@
 use mathlib.Core.Path.{◌≡◌}
-use Prim.Native.Nat.{◌*◌, ◌-◌, ◌≤◌, min}
+use Prim.Native.Nat.{◌*◌}
 use lib.ListN.{replicate}
 use Rattle.word.specs.Each.{each}
 use Rattle.boards.specs.File.{no_board}
@@ -7,8 +7,4 @@ use Rattle.boards_layout.specs.Boards.{board_from}
 use Rattle.boards_layout.proofs.load_boards.Given as goal
 
 abbrev pub invariant-loop-k : goal.invariant-loop-k
-invariant-loop-k l =
-    (l.k ≤ l.n) × (l.n ≡ min l.count 16) × (l.boards ≡ each (λ j _. board_from l.bytes (24 * j)) l.k (replicate 16 no_board))
-
-abbrev pub decreases-loop-k : goal.decreases-loop-k
-decreases-loop-k l = l.n - l.k
+invariant-loop-k l = l.boards ≡ each (λ j _. board_from l.bytes (24 * j)) l.k (replicate 16 no_board)

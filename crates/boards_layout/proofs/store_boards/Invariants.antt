@@ -1,6 +1,5 @@
 use mathlib.Core.Path.{◌≡◌}
-use Prim.Native.Nat.{◌-◌, ◌≤◌}
-use lib.ListN.{length, get_or}
+use lib.ListN.{get_or}
 use Rattle.word.specs.Memory.{splice}
 use Rattle.boards.specs.File.{no_board}
 use Rattle.boards.specs.Write.{blocks}
@@ -8,8 +7,4 @@ use Rattle.boards_layout.specs.Boards.{board_bytes}
 use Rattle.boards_layout.proofs.store_boards.Given as goal
 
 abbrev pub invariant-loop-k : goal.invariant-loop-k
-invariant-loop-k l =
-    (l.k ≤ 16) × (length l.bytes ≡ length l.initial.bytes) × (l.bytes ≡ splice l.initial.bytes 0 (blocks (λ j. board_bytes (get_or l.boards j no_board)) l.k))
-
-abbrev pub decreases-loop-k : goal.decreases-loop-k
-decreases-loop-k l = 16 - l.k
+invariant-loop-k l = l.bytes ≡ splice l.initial.bytes 0 (blocks (λ j. board_bytes (get_or l.boards j no_board)) l.k)

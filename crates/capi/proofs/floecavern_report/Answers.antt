@@ -1,18 +1,6 @@
-use mathlib.Core.Path.{◌≡◌, refl, sym, ◌∙◌}
-use Prim.Native.Nat.{◌≤◌}
-use native.Mathlib.Omega.{arith}
-use lib.ListN.{length, drop}
+use Rattle.std.proofs.Common.{◌≡◌, ◌≤◌, length, drop, ◌∙◌, arith}
 use lib.Seq.{length-take-le, take-append-le, drop_at}
 use Rattle.capi.proofs.floecavern_report.Goals as goal
-
-pub returns-then-out-lt262144 : goal.returns-then-out-lt262144
-returns-then-out-lt262144 c = record { small = λ _. (refl, refl); large = λ h. absurd (omega (arith, h, c.if-out-lt262144.true)) }
-
-pub slice_bounds-put_report-end-2 : goal.slice_bounds-put_report-end-2
-slice_bounds-put_report-end-2 c = sym (length-take-le 262144 c.args.out.now c.if-out-lt262144.false)
-
-pub put_report-requires : goal.put_report-requires
-put_report-requires c = length-take-le 262144 c.args.out.now c.if-out-lt262144.false
 
 pub returns : goal.returns
 returns c =

@@ -1,47 +1,30 @@
-use mathlib.Core.Bool.{true, false, ◌&&◌}
-use mathlib.Core.Path.{◌≡◌, refl, sym, ◌∙◌}
+use Rattle.std.proofs.Common.{◌≡◌, refl, sym, ◌∙◌, ℕ, true, ◌||◌, ◌==◌}
 use lib.Dec.{eqb}
-use borrow.Author.Tests.{eq-eqb, ne_eqb}
-use Rattle.isa.specs.Narrow.{lacks}
-use Rattle.reserve.specs.Reserve.{covers_of}
-use Rattle.effect.specs.Execute.{reg_at, execute}
+use Rattle.settings.specs.Settings.{xlen_of}
+use Rattle.settings.proofs.SettingsLaws.{xlen_is}
+use Rattle.effect.specs.Execute.{execute}
+use Rattle.word.proofs.ChooseLaws.{cond_all}
 use Rattle.dispatch.proofs.NarrowedLaws.{met_as, lacked_word, had_word, had_fits}
 use Rattle.dispatch.proofs.execute_word.Goals as goal
 
-pub returns-then-lacks : goal.returns-then-lacks
+pub returns-then-lacked_at : goal.returns-then-lacked_at
 unfolding execute
-returns-then-lacks c =
-    let asked = c in
-    let a = asked.args in
-    let gone : (eqb a.xlen 32 && lacks asked.decode-i.result) ≡ true
-    = rw (eq-eqb _ _ asked.if-xlen-eq32.true) (sym c.lacks.ensures ∙ c.if-lacks.true) in
-    met_as
-    (lacked_word a.xlen a.word _ asked.decode-i.ensures gone a.settings.misaligned (reg_at a.x.now a.h) a.pc a.base
-    a.mem.now (covers_of a.settings a.res))
-    (record { answer = refl; memory = refl })
+returns-then-lacked_at c =
+    let gone = rw c.xlen.ensures at (sym c.lacked_at.ensures ∙ c.if-lacked_at.true) in
+    met_as (lacked_word _ _ _ c.decode-i.ensures gone _ _ _ _ _ _) (rw c.from.ensures (record { answer = refl; memory = refl }))
+
+pub invariant_of-site : goal.invariant_of-site
+unfolding xlen_of
+invariant_of-site c = record {
+  width = rw c.xlen.ensures (cond_all (λ (k : ℕ). (k == 32 || k == 64) ≡ true) (eqb c.args.s.now.settings.kind 1) 32 64 refl refl);
+  hart_bound = c.requires.0;
+}
 
 pub execute-requires : goal.execute-requires
 execute-requires c =
-    let read = c in
-    let pre = read.requires in
-    let has : (eqb read.args.xlen 32 && lacks read.decode-i.result) ≡ false
-    = elim c.if-xlen-eq32.branch [
-      | goal.then-xlen-eq32+else-lacks w ↦ rw (eq-eqb _ _ w.if-xlen-eq32.true) (sym w.lacks.ensures ∙ w.if-lacks.false)
-      | goal.else-xlen-eq32 w ↦ rw (ne_eqb _ _ w.if-xlen-eq32.false)
-    ] in
-    (pre.0, pre.1, pre.2, had_fits _ _ _ read.decode-i.ensures has pre.2)
+    (c.requires.1, had_fits _ _ _ c.decode-i.ensures (sym c.lacked_at.ensures ∙ c.if-lacked_at.false) (rw c.xlen.ensures (xlen_is _)))
 
 pub returns : goal.returns
 returns c =
-    let joined = c in
-    let read = joined in
-    let a = read.args in
-    let has : (eqb a.xlen 32 && lacks read.decode-i.result) ≡ false
-    = elim c.if-xlen-eq32.branch [
-      | goal.then-xlen-eq32+else-lacks w ↦ rw (eq-eqb _ _ w.if-xlen-eq32.true) (sym w.lacks.ensures ∙ w.if-lacks.false)
-      | goal.else-xlen-eq32 w ↦ rw (ne_eqb _ _ w.if-xlen-eq32.false)
-    ] in
-    met_as
-    (had_word a.xlen a.word _ read.decode-i.ensures has a.settings.misaligned (reg_at a.x.now a.h) a.pc a.base a.mem.now
-    (covers_of a.settings a.res))
-    c.execute.ensures
+    let has = rw c.xlen.ensures at (sym c.lacked_at.ensures ∙ c.if-lacked_at.false) in
+    met_as (had_word _ _ _ c.decode-i.ensures has _ _ _ _ _ _) (rw c.xlen.ensures at c.execute.ensures)

@@ -1,12 +1,7 @@
-use mathlib.Core.Path.{◌≡◌}
-use Prim.Native.Nat.{◌-◌, ◌/◌, ◌%◌, ◌≤◌}
-use lib.ListN.{length}
-use Rattle.events.specs.Events.{checked_of, first_bad}
+use Rattle.std.proofs.Common.{◌≡◌, ◌*◌, ◌-◌}
+use Rattle.events.specs.Events.{first_bad, checked_of}
 use Rattle.events.proofs.check.Given as goal
 
-abbrev pub invariant-loop-at : goal.invariant-loop-at
-invariant-loop-at l =
-    (l.at ≤ length l.body) × ((length l.body - l.at) % 24 ≡ 0) × (checked_of l.count l.base l.len l.body ≡ first_bad l.count l.base l.len l.body ((length l.body - l.at) / 24) l.at)
-
-abbrev pub decreases-loop-at : goal.decreases-loop-at
-decreases-loop-at l = length l.body - l.at
+-- what is left to look at decides
+abbrev pub invariant-loop-i : goal.invariant-loop-i
+invariant-loop-i l = checked_of l.count l.base l.len l.body ≡ first_bad l.count l.base l.len l.body (l.i-end - l.i) (24 * l.i)

@@ -1,5 +1,4 @@
-use mathlib.Core.Path.{◌≡◌, sym, ◌∙◌}
-use mathlib.Core.Logic.{⊎_elim}
+use Rattle.std.proofs.Common.{◌≡◌, sym, ◌∙◌, ⊎_elim}
 use Rattle.settings.specs.Settings.{xlen_of}
 use Rattle.settings.proofs.SettingsLaws.{xlen_is}
 use Rattle.machine.specs.State.{top_ok}
@@ -12,8 +11,7 @@ returns-then-xlen-eq32 c = rw (sym c.xlen.ensures ∙ c.if-xlen-eq32.true)
 
 pub returns : goal.returns
 returns c =
-    let start = c in
-    let s = start.args.settings in
+    let s = c.args.settings in
     let wide : xlen_of s ≡ 64 =
     ⊎_elim (λ (e : xlen_of s ≡ 32). absurd (c.if-xlen-eq32.false (c.xlen.ensures ∙ e))) (λ (e : xlen_of s ≡ 64). e) (xlen_is s) in
-    sym ((top_exact s _ _).1 (top_64 s _ _ wide start.requires))
+    sym ((top_exact s _ _).1 (top_64 s _ _ wide c.requires))

@@ -1,9 +1,8 @@
-use mathlib.Core.Path.{◌≡◌, sym, ap, ◌∙◌, subst}
+use mathlib.Core.Path.{◌≡◌, sym, ap, subst}
 use mathlib.Core.List.{List}
 use Prim.Native.Nat.{ℕ, ◌-◌}
 use native.Mathlib.Omega.{arith}
 use lib.ListN.{length-drop}
-use lib.Seq.{length-take-le}
 use Rattle.machine.specs.State.{refusal_of}
 use Rattle.events.specs.Events.{events_of}
 use Rattle.events.proofs.EventLaws.{length_events}
@@ -12,22 +11,6 @@ use Rattle.lines.specs.Lines.{lines_of}
 use Rattle.lines.proofs.BehindLaws.{front_length, front_behind, front_put}
 use Rattle.report.specs.Report.{lines_of_case}
 use Rattle.report.proofs.put_lines_of_case.Goals as goal
-
-pub overflow_sub-bytes : goal.overflow_sub-bytes
-overflow_sub-bytes c = c.requires.body_bound.1
-
-pub slice_bounds-put_case-end : goal.slice_bounds-put_case-end
-slice_bounds-put_case-end c = c.requires.body_bound.1
-
-pub slice_bounds-put_case-end-2 : goal.slice_bounds-put_case-end-2
-slice_bounds-put_case-end-2 c =
-    let begun = c in
-    sym (length-take-le begun.args.from begun.args.out.now begun.requires.body_bound.1)
-
-pub put_case-p-requires : goal.put_case-p-requires
-put_case-p-requires c =
-    let begun = c in
-    omega (arith, length-take-le begun.args.from begun.args.out.now begun.requires.body_bound.1, begun.requires)
 
 pub put_lines-q-requires : goal.put_lines-q-requires
 put_lines-q-requires c =
@@ -38,24 +21,6 @@ put_lines-q-requires c =
       body_bound = (omega (arith, h.ensures.upper_bound, pre), omega (arith, long, pre));
       s_value = subst (λ (k : ℕ). refusal_of a.base (k - a.from) a.s ≡ 0) (sym long) pre.s_value;
     }
-
-pub put_end-requires : goal.put_end-requires
-put_end-requires c =
-    let a = c.args in
-    let pre = c.requires in
-    let h = c.put_case-p in
-    let l = c.put_lines-q in
-    let long = front_length a.out.now h.new.out a.from pre.body_bound.1 h.auto.out in
-    omega (arith, long, pre, h.ensures.upper_bound, l.auto.out, l.ensures.upper_bound)
-
-pub shape_of-out : goal.shape_of-out
-shape_of-out c =
-    let a = c.args in
-    let pre = c.requires in
-    let h = c.put_case-p in
-    c.put_end.auto.out
-    ∙ c.put_lines-q.auto.out
-    ∙ front_length a.out.now h.new.out a.from pre.body_bound.1 h.auto.out
 
 pub returns : goal.returns
 unfolding lines_of_case

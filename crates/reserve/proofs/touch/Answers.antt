@@ -12,11 +12,6 @@ use Rattle.reserve.proofs.touch.Goals as goal
 told : (b n c m : ℕ) (r : Bool) → (Touch b n c m → r ≡ true) → (r ≡ true → Touch b n c m) → ((r ≡ true) ↔ Touch b n c m) × (r ≡ touches b n c m)
 told b n c m r always only = ((only, always), touches_only b n c m r (only, always))
 
-pub last-requires-2 : goal.last-requires-2
-last-requires-2 c =
-    let some : c.args.m ≡ 0 → ⊥ = λ e. omega (arith, e, c.if-m-eq0.false) in
-    not_zero c.args.m some
-
 pub returns-then-n-eq0 : goal.returns-then-n-eq0
 returns-then-n-eq0 c =
     let a = c.args in
@@ -29,14 +24,12 @@ returns-then-n-eq0 c =
 
 pub returns : goal.returns
 returns c =
-    let ends = c in
-    let tried = ends in
-    let a = tried.args in
-    let some-n = not_zero a.n (λ (e : a.n ≡ 0). omega (arith, e, tried.if-n-eq0.false)) in
-    let some-m = not_zero a.m (λ (e : a.m ≡ 0). omega (arith, e, tried.if-m-eq0.false)) in
-    let exact : (ends.higher.result ≤ c.lower.result) ↔ Touch a.b a.n a.c a.m =
-    rw (ends.higher.ensures, c.lower.ensures, ends.last.ensures, c.last-2.ensures)
+    let a = c.args in
+    let some-n = not_zero a.n (λ (e : a.n ≡ 0). omega (arith, e, c.if-n-eq0.false)) in
+    let some-m = not_zero a.m (λ (e : a.m ≡ 0). omega (arith, e, c.if-m-eq0.false)) in
+    let exact : (c.max.result ≤ c.min.result) ↔ Touch a.b a.n a.c a.m =
+    rw (c.max.ensures, c.min.ensures, c.last.ensures, c.last-2.ensures)
     (ends_exact a.b a.n a.c a.m (2 ^ 64) (omega arith) (omega arith) some-n some-m) in
-    let t = told a.b a.n a.c a.m _ (λ s. le-leb ends.higher.result c.lower.result (exact.1 s))
-    (λ e. exact.0 (leb-true ends.higher.result c.lower.result e)) in
+    let t = told a.b a.n a.c a.m _ (λ s. le-leb c.max.result c.min.result (exact.1 s))
+    (λ e. exact.0 (leb-true c.max.result c.min.result e)) in
     record { variant = t.0; value = t.1 }

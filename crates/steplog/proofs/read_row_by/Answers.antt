@@ -1,89 +1,70 @@
-use mathlib.Core.Path.{sym}
+use mathlib.Core.Path.{◌≡◌, sym, ◌∙◌}
 use native.Mathlib.Omega.{arith}
+use lib.ListN.{length}
 use Rattle.word.specs.Memory.{part}
-use Rattle.steplog.proofs.ReadLaws.{reading_form, form_length, Seen, word_below, row_read, row_refused}
-use borrow.Author.Rules.{rules}
+use Rattle.word.proofs.MemoryLaws.{length_part}
+use Rattle.word.proofs.TestLaws.{contrary}
+use Rattle.steplog.proofs.DigitsLaws.{number_none, number_below}
+use Rattle.steplog.proofs.ReadLaws.{form_fails, digits_say, counts, field_is, row_read}
 use Rattle.steplog.proofs.read_row_by.Goals as goal
 
 pub returns-then-part-ne48 : goal.returns-then-part-ne48
-returns-then-part-ne48 c =
-    let x = c.args in
-    sym (reading_form x.count x.part.now (form_length x.count x.part.now c.if-part-ne48.true))
+returns-then-part-ne48 c = form_fails _ _ (λ f. c.if-part-ne48.true f.long)
 
-pub read_number-hart-requires : goal.read_number-hart-requires
-read_number-hart-requires c = record {
-  digit_table = c.requires;
-  lt_base = search rules;
-}
+pub returns-then-not-between : goal.returns-then-not-between
+returns-then-not-between c = form_fails _ _ (λ f. contrary f.between (sym c.between.ensures ∙ c.if-not-between.true))
 
-pub read_number-pc-requires : goal.read_number-pc-requires
-read_number-pc-requires c = record {
-  digit_table = c.requires;
-  lt_base = search rules;
-}
-
-pub read_number-word-requires : goal.read_number-word-requires
-read_number-word-requires c = record {
-  digit_table = c.requires;
-  lt_base = search rules;
-}
-
-pub read_number-rd-requires : goal.read_number-rd-requires
-read_number-rd-requires c = record {
-  digit_table = c.requires;
-  lt_base = search rules;
-}
-
-pub read_number-value-requires : goal.read_number-value-requires
-read_number-value-requires c = record {
-  digit_table = c.requires;
-  lt_base = search rules;
-}
-
-pub between-requires : goal.between-requires
-between-requires c = omega arith
-
-pub overflow_cast-result : goal.overflow_cast-result
+pub returns-in_err-hart : goal.returns-in_err-hart
 unfolding part
-overflow_cast-result c =
-    let seen : Seen c.args.part.now c.read_number-hart.result c.read_number-pc.result c.read_number-word.result c.read_number-rd.result
-    c.read_number-value.result c.between.result = record {
-      long = omega arith;
-      is_hart = c.read_number-hart.ensures;
-      is_pc = c.read_number-pc.ensures;
-      is_word = c.read_number-word.ensures;
-      is_rd = c.read_number-rd.ensures;
-      is_value = c.read_number-value.ensures;
-      is_between = c.between.ensures;
-    } in
-    record { fits = word_below seen }
+returns-in_err-hart c =
+    let none = number_none _ _ (sym c.read_number.ensures ∙ c.in_err-hart.was) in
+    c.from_residual.ensures ∙ form_fails _ _ (λ f. contrary (digits_say _ f.digits).hart none)
 
-pub returns-then-between-digits : goal.returns-then-between-digits
+pub returns-in_err-pc : goal.returns-in_err-pc
 unfolding part
-returns-then-between-digits c =
-    let seen : Seen c.args.part.now c.read_number-hart.result c.read_number-pc.result c.read_number-word.result c.read_number-rd.result
-    c.read_number-value.result c.between.result = record {
-      long = omega arith;
-      is_hart = c.read_number-hart.ensures;
-      is_pc = c.read_number-pc.ensures;
-      is_word = c.read_number-word.ensures;
-      is_rd = c.read_number-rd.ensures;
-      is_value = c.read_number-value.ensures;
-      is_between = c.between.ensures;
-    } in
-    row_read seen _ c.if-between-digits.true
+returns-in_err-pc c =
+    let none = number_none _ _ (sym c.read_number-2.ensures ∙ c.in_err-pc.was) in
+    c.from_residual-in_err-pc.ensures ∙ form_fails _ _ (λ f. contrary (digits_say _ f.digits).pc none)
+
+pub returns-in_err-word : goal.returns-in_err-word
+unfolding part
+returns-in_err-word c =
+    let none = number_none _ _ (sym c.read_number-3.ensures ∙ c.in_err-word.was) in
+    c.from_residual-in_err-word.ensures ∙ form_fails _ _ (λ f. contrary (digits_say _ f.digits).word none)
+
+pub returns-in_err-rd : goal.returns-in_err-rd
+unfolding part
+returns-in_err-rd c =
+    let none = number_none _ _ (sym c.read_number-4.ensures ∙ c.in_err-rd.was) in
+    c.from_residual-in_err-rd.ensures ∙ form_fails _ _ (λ f. contrary (digits_say _ f.digits).rd none)
+
+pub returns-in_err-value : goal.returns-in_err-value
+unfolding part
+returns-in_err-value c =
+    let none = number_none _ _ (sym c.read_number-5.ensures ∙ c.in_err-value.was) in
+    c.from_residual-in_err-value.ensures ∙ form_fails _ _ (λ f. contrary (digits_say _ f.digits).value none)
+
+pub overflow_cast-word : goal.overflow_cast-word
+unfolding part
+overflow_cast-word c =
+    let p = c.args.part.now in
+    let few : length (part p 19 8) ≡ 8 = length_part p 19 8 (omega arith) in
+    record { fits = rw few at (number_below 16 (part p 19 8) c.in_ok-word.field-0 (sym c.read_number-3.ensures ∙ c.in_ok-word.was)) }
+
+pub returns-then-count-hart : goal.returns-then-count-hart
+unfolding part
+returns-then-count-hart c =
+    let hart = field_is c.args.part.now 10 0 1 c.in_ok-hart.hart (sym c.read_number.ensures ∙ c.in_ok-hart.was) in
+    form_fails _ _ (λ f. let l = counts _ _ _ f hart in omega (arith, l))
 
 pub returns : goal.returns
 unfolding part
 returns c =
-    let seen : Seen c.args.part.now c.read_number-hart.result c.read_number-pc.result c.read_number-word.result c.read_number-rd.result
-    c.read_number-value.result c.between.result = record {
-      long = omega arith;
-      is_hart = c.read_number-hart.ensures;
-      is_pc = c.read_number-pc.ensures;
-      is_word = c.read_number-word.ensures;
-      is_rd = c.read_number-rd.ensures;
-      is_value = c.read_number-value.ensures;
-      is_between = c.between.ensures;
-    } in
-    row_refused seen _ c.if-between-digits.false
+    let p = c.args.part.now in
+    row_read c.args.count p _ (omega arith) (sym c.between.ensures ∙ c.if-not-between.false)
+    (field_is p 10 0 1 c.in_ok-hart.hart (sym c.read_number.ensures ∙ c.in_ok-hart.was))
+    (field_is p 16 2 16 c.in_ok-pc.pc (sym c.read_number-2.ensures ∙ c.in_ok-pc.was))
+    (field_is p 16 19 8 c.in_ok-word.field-0 (sym c.read_number-3.ensures ∙ c.in_ok-word.was))
+    (field_is p 10 28 2 c.in_ok-rd.rd (sym c.read_number-4.ensures ∙ c.in_ok-rd.was))
+    (field_is p 16 31 16 c.in_ok-value.value (sym c.read_number-5.ensures ∙ c.in_ok-value.was))
+    (omega arith)

@@ -5,5 +5,4 @@ use Rattle.alu.proofs.integer.subtract.Goals as goal
 pub returns : goal.returns
 returns c =
     let x = c.args in
-    let d = c.wrapping_sub_u64 in
-    c.wrap.ensures ∙ low_sub x.bits x.a x.b d.result c.requires.bits_bound c.requires.b_bound d.ensures.value
+    c.wrap.ensures ∙ low_sub x.bits x.a x.b c.requires.bits_bound c.requires.b_bound

@@ -1,10 +1,7 @@
-use Rattle.std.proofs.Common.{◌≡◌, ◌-◌, ◌≤◌, length}
+use Rattle.std.proofs.Common.{◌≡◌}
 use Rattle.word.specs.Each.{each}
 use Rattle.event_table.specs.Build.{filler}
 use Rattle.event_table.proofs.build.fill.Given as goal
 
 abbrev pub invariant-loop-i : goal.invariant-loop-i
-invariant-loop-i l = (l.i ≤ l.len) × (length l.mem ≡ length l.initial.mem) × (l.mem ≡ each (λ k _. filler k) l.i l.initial.mem)
-
-abbrev pub decreases-loop-i : goal.decreases-loop-i
-decreases-loop-i l = l.len - l.i
+invariant-loop-i l = l.mem ≡ each (λ k _. filler k) l.i l.initial.mem

@@ -18,6 +18,6 @@ returns c =
     let pre = c.requires in
     let p = x.old in
     let k = bits_of x.w in
-    let lo : low k (joined x.w p) ≡ p.low = low_half (2 ^ k) p.low p.high pre.1 in
-    let hi : low k (joined x.w p / 2 ^ k) ≡ p.high = ap (low k) (high_half (2 ^ k) p.low p.high pre.1) ∙ low_id k p.high pre.2 in
+    let lo : low k (joined x.w p) ≡ p.low = low_half (2 ^ k) p.low p.high pre.0 in
+    let hi : low k (joined x.w p / 2 ^ k) ≡ p.high = ap (low k) (high_half (2 ^ k) p.low p.high pre.0) ∙ low_id k p.high pre.1 in
     simp (ne_eqb _ _ c.if-first-eq0.false, lo, hi, c.add.ensures)

@@ -1,6 +1,4 @@
-use mathlib.Core.Path.{refl, sym, ◌∙◌}
-use native.Mathlib.Omega.{arith}
-use Rattle.settings.proofs.SettingsLaws.{xlen_is}
+use Rattle.std.proofs.Common.{refl, sym, ◌∙◌, arith}
 use Rattle.effect.proofs.Fits.{value_lt}
 use Rattle.reserve.proofs.RangeLaws.{inside_of_lem}
 use Rattle.effect.specs.Memory.{value_at}
@@ -21,16 +19,10 @@ pub overflow_cast-word : goal.overflow_cast-word
 unfolding value_at
 overflow_cast-word c =
     let x = c.args in
-    record { fits = rw c.load_at-word.ensures (value_lt x.base x.mem.now (λ k. (c.slice_known-1.given k).fits) x.pc 4) }
-
-pub execute_word-requires : goal.execute_word-requires
-execute_word-requires c =
-    let start = c in
-    (start.requires.0, start.requires.1, rw c.xlen-xlen.ensures (xlen_is start.args.settings))
+    record { fits = rw c.load_at-word.ensures (value_lt x.base x.mem.now (λ k. (c.slice_known-1.given k).fits) _ 4) }
 
 pub returns : goal.returns
 unfolding fetch_of value_at
 returns c =
-    let load = c in
-    let inside = sym load.inside.ensures ∙ load.if-not-inside.false in
-    rw (inside, ← load.load_at-word.ensures, ← c.xlen-xlen.ensures) c.execute_word.ensures
+    let inside = sym c.inside.ensures ∙ c.if-not-inside.false in
+    rw (inside, ← c.load_at-word.ensures) c.execute_word.ensures

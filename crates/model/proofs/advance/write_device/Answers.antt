@@ -1,47 +1,36 @@
-use mathlib.Core.Path.{refl, sym, ap, ◌∙◌}
-use native.Mathlib.Omega.{arith}
-use borrow.Author.Tests.{lt-leb, le-leb}
-use Prim.Native.Nat.{ℕ}
+use Rattle.std.proofs.Common.{◌≡◌, ℕ, false, ◌&&◌, refl, sym, ap, ◌∙◌, arith, le-leb}
+use lib.Dec.{leb}
+use borrow.Author.Tests.{lt-leb}
+use Rattle.word.proofs.TestLaws.{and_false}
 use Rattle.word.proofs.BytesLaws.{length-to_le}
 use Rattle.reserve.specs.Reserve.{observe_all_of, Observed}
-use Rattle.reserve.specs.Packed.{slots_in}
 use Rattle.reserve.specs.declared.Notice.TheVariants.{DeviceWrite}
 use Rattle.reserve.proofs.RangeLaws.{inside_of_lem}
-use Rattle.model.specs.Act.{leaves}
+use Rattle.model.specs.Act.{apply, leaves}
 use Rattle.model.specs.Perform.{device_of}
+use Rattle.model.specs.declared.Outcome.TheVariants as O
 use Rattle.model.proofs.advance.write_device.Goals as goal
+use Rattle.model.proofs.advance.write_device.Goals.{then-size-eq0-via-then-size-eq0, then-size-eq0-via-else-size-eq0+then-size-gt8}
 
 pub returns-then-size-eq0 : goal.returns-then-size-eq0
-unfolding device_of leaves
+unfolding device_of apply leaves
 returns-then-size-eq0 c =
-    let told = c.broke_none.ensures in record {
-      outcome_value = rw (lt-leb 1 c.args.size (omega arith)) (told.0);
-      broke_value = rw (lt-leb 1 c.args.size (omega arith)) (told.1);
-      t_after = rw (lt-leb 1 c.args.size (omega arith)) (refl);
-      mem_after = rw (lt-leb 1 c.args.size (omega arith)) (refl);
-    }
-
-pub returns-then-size-gt8 : goal.returns-then-size-gt8
-unfolding device_of leaves
-returns-then-size-gt8 c =
-    let size = c.args.size in
-    let told = c.broke_none-then-size-gt8.ensures in record {
-      outcome_value = rw (le-leb 1 size (omega arith), lt-leb size 8 c.if-size-gt8.true) (told.0);
-      broke_value = rw (le-leb 1 size (omega arith), lt-leb size 8 c.if-size-gt8.true) (told.1);
-      t_after = rw (le-leb 1 size (omega arith), lt-leb size 8 c.if-size-gt8.true) (refl);
-      mem_after = rw (le-leb 1 size (omega arith), lt-leb size 8 c.if-size-gt8.true) (refl);
-    }
+    let n = c.args.size in
+    let bad : (leb 1 n && leb n 8) ≡ false = elim c.then-size-eq0.branch [
+      | then-size-eq0-via-then-size-eq0 w ↦ rw (lt-leb 1 n (omega arith)) refl
+      | then-size-eq0-via-else-size-eq0+then-size-gt8 w ↦ rw (lt-leb n 8 (omega arith)) (and_false (leb 1 n))
+    ] in
+    record { reply = rw bad c.broke_none.ensures; state = rw bad refl; memory = rw bad refl }
 
 pub returns-then-not-inside : goal.returns-then-not-inside
-unfolding device_of leaves
+unfolding device_of apply leaves
 returns-then-not-inside c =
-    let size = c.args.size in
+    let n = c.args.size in
     let outside = sym c.inside.ensures ∙ c.if-not-inside.true in
-    let told = c.broke_none-then-not-inside.ensures in record {
-      outcome_value = rw (le-leb 1 size (omega arith), le-leb size 8 (omega arith), outside) (told.0);
-      broke_value = rw (le-leb 1 size (omega arith), le-leb size 8 (omega arith), outside) (told.1);
-      t_after = rw (le-leb 1 size (omega arith), le-leb size 8 (omega arith), outside) (refl);
-      mem_after = rw (le-leb 1 size (omega arith), le-leb size 8 (omega arith), outside) (refl);
+    record {
+      reply = rw (le-leb 1 n (omega arith), le-leb n 8 (omega arith), outside) c.broke_none-then-not-inside.ensures;
+      state = rw (le-leb 1 n (omega arith), le-leb n 8 (omega arith), outside) refl;
+      memory = rw (le-leb 1 n (omega arith), le-leb n 8 (omega arith), outside) refl;
     }
 
 pub overflow_sub-addr : goal.overflow_sub-addr
@@ -51,16 +40,18 @@ pub store_at-requires : goal.store_at-requires
 store_at-requires c = let i = inside_of_lem _ _ _ _ (sym c.inside.ensures ∙ c.if-not-inside.false) in omega arith
 
 pub returns : goal.returns
-unfolding device_of leaves
+unfolding device_of apply leaves
 returns c =
-    let store = c in
-    let left = store in
-    let inside = sym left.inside.ensures ∙ left.if-not-inside.false in
-    let a = left.args in
-    let seen : ℕ → Observed = λ k. observe_all_of a.settings a.count (DeviceWrite a.addr k) (slots_in a.t.now) in
-    let q = c.device_write.ensures ∙ ap seen (sym (length-to_le a.size a.value)) in record {
-      outcome_value = rw (le-leb 1 a.size (omega arith), le-leb a.size 8 (omega arith), inside) (refl);
-      broke_value = rw (le-leb 1 a.size (omega arith), le-leb a.size 8 (omega arith), inside) (ap (λ (o : Observed). o.broken) q);
-      t_after = rw (le-leb 1 a.size (omega arith), le-leb a.size 8 (omega arith), inside) (ap (λ (o : Observed). o.slots) q);
-      mem_after = rw (le-leb 1 a.size (omega arith), le-leb a.size 8 (omega arith), inside) (store.store_at.ensures);
+    let a = c.args in
+    let s = a.s.now in
+    let n = a.size in
+    let inside = sym c.inside.ensures ∙ c.if-not-inside.false in
+    let seen : ℕ → Observed = λ k. observe_all_of s.settings s.count (DeviceWrite a.addr k) s.res in
+    let q = c.device_write.ensures ∙ ap seen (sym (length-to_le n a.value)) in
+    record {
+      reply = rw (le-leb 1 n (omega arith), le-leb n 8 (omega arith), inside)
+          (ap (λ (o : Observed). record { outcome = O.Retired; broke = o.broken }) q);
+      state = rw (le-leb 1 n (omega arith), le-leb n 8 (omega arith), inside)
+          (ap (λ (o : Observed). record { count = s.count; settings = s.settings; x = s.x; pc = s.pc; res = o.slots }) q);
+      memory = rw (le-leb 1 n (omega arith), le-leb n 8 (omega arith), inside) c.store_at.ensures;
     }

@@ -1,67 +1,46 @@
-use mathlib.Core.Path.{refl, sym, ◌∙◌}
-use native.Mathlib.Omega.{arith}
+use Rattle.std.proofs.Common.{sym, ◌∙◌, arith}
 use Rattle.reserve.proofs.RangeLaws.{inside_of_lem}
 use Rattle.effect.specs.Memory.{value_at}
-use Rattle.rows.specs.Row.{after_row}
 use Rattle.rows.proofs.ToldLaws.{told_pc, past_pc, told_word, past_word}
 use Rattle.rows.proofs.RowLaws.{told_unfetched}
 use Rattle.rows.proofs.row.against.Goals as goal
 
-pub returns-then-r-at : goal.returns-then-r-at
-unfolding after_row
-returns-then-r-at c = record {
-  value = told_pc _ _ _ c.if-r-at.true;
-  mem_after = refl;
-}
+pub returns-then-r-at-clause-value : goal.returns-then-r-at-clause-value
+returns-then-r-at-clause-value c = told_pc _ _ _ c.if-r-at.true
 
-pub returns-then-not-inside : goal.returns-then-not-inside
-unfolding after_row
-returns-then-not-inside c =
-    let first = c in
-    let start = first in
-    let out = sym c.inside.ensures ∙ c.if-not-inside.true in record {
-      value = told_unfetched _ _ _ first.if-r-at.false start.requires.0 start.requires.1 out;
-      mem_after = refl;
-    }
+pub returns-then-not-inside-clause-value : goal.returns-then-not-inside-clause-value
+returns-then-not-inside-clause-value c =
+    told_unfetched _ _ _ c.if-r-at.false c.requires.0 c.requires.1 (sym c.inside.ensures ∙ c.if-not-inside.true)
 
 pub overflow_sub-at : goal.overflow_sub-at
 overflow_sub-at c = (inside_of_lem _ _ _ _ (sym c.inside.ensures ∙ c.if-not-inside.false)).0
 
-pub load_at-word-requires : goal.load_at-word-requires
-load_at-word-requires c =
+pub load_at-word-requires-clause-n_in_bounds : goal.load_at-word-requires-clause-n_in_bounds
+load_at-word-requires-clause-n_in_bounds c =
     let i = inside_of_lem _ _ _ _ (sym c.inside.ensures ∙ c.if-not-inside.false) in
-    omega (arith, i)
+    omega arith
 
-pub returns-then-r-word : goal.returns-then-r-word
-unfolding after_row value_at
-returns-then-r-word c =
-    let loaded = c in
-    let second = loaded in
-    let inside = sym second.inside.ensures ∙ second.if-not-inside.false in record {
-      value = told_word _ _ _ second.if-r-at.false inside loaded.load_at-word.ensures c.if-r-word.true;
-      mem_after = refl;
-    }
+pub returns-then-from-word-clause-value : goal.returns-then-from-word-clause-value
+unfolding value_at
+returns-then-from-word-clause-value c =
+    let inside = sym c.inside.ensures ∙ c.if-not-inside.false in
+    rw c.from-then-from-word.ensures (told_word _ _ _ c.if-r-at.false inside c.load_at-word.ensures (rw c.from.ensures at c.if-from-word.true))
 
 pub perform-requires : goal.perform-requires
 unfolding value_at
 perform-requires c =
-    let third = c in
-    let second = third in
-    let first = second in
-    let start = first in
-    let inside = inside_of_lem _ _ _ _ (sym second.inside.ensures ∙ second.if-not-inside.false) in
-    let word = third.if-r-word.false ∙ third.load_at-word.ensures in
-    record { valid = start.requires.0; counted = start.requires.1; pc = first.if-r-at.false; inside = rw first.if-r-at.false inside; word = word }
-
-pub returns : goal.returns
-unfolding value_at
-returns c =
-    let done = c in
-    let third = done in
-    let second = third in
-    let first = second in
-    let inside = sym second.inside.ensures ∙ second.if-not-inside.false in
-    let word = third.if-r-word.false ∙ third.load_at-word.ensures in record {
-      value = done.perform.ensures.value ∙ sym (past_pc _ _ _ first.if-r-at.false ∙ past_word _ _ _ inside word);
-      mem_after = done.perform.ensures.mem_after;
+    let inside = inside_of_lem _ _ _ _ (sym c.inside.ensures ∙ c.if-not-inside.false) in
+    record {
+      valid = c.requires.0;
+      counted = c.requires.1;
+      pc = c.if-r-at.false;
+      inside = rw c.if-r-at.false inside;
+      word = sym c.from.ensures ∙ c.if-from-word.false ∙ c.load_at-word.ensures;
     }
+
+pub returns-clause-value : goal.returns-clause-value
+unfolding value_at
+returns-clause-value c =
+    let inside = sym c.inside.ensures ∙ c.if-not-inside.false in
+    let word = sym c.from.ensures ∙ c.if-from-word.false ∙ c.load_at-word.ensures in
+    c.perform.ensures.value ∙ sym (past_pc _ _ _ c.if-r-at.false ∙ past_word _ _ _ inside word)

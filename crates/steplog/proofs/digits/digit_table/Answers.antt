@@ -22,5 +22,5 @@ right-table : DigitTable table
 unfolding right is_digit
 right-table c h = eqb→eq (get_or table c 0) (cond (is_digit 16 c) (digit_of c) 16) (rule_at right table tt c h)
 
-pub returns : goal.returns
-returns c = right-table
+pub invariant_of-result : goal.invariant_of-result
+invariant_of-result c = record { is_table = right-table }

@@ -5,5 +5,5 @@ pub returns : goal.returns
 returns c =
     let x = c.args in record {
       value = c.load_at.ensures;
-      upper_bound = rw c.load_at.ensures (part_lt x.file.now x.place 4 (λ i. (c.shared_slice_known-1.given i).fits));
+      upper_bound = rw c.load_at.ensures (part_lt x.file.now x.place 4 (λ i. (c.type_inv.file i).fits));
     }

@@ -1,13 +1,7 @@
-use mathlib.Core.Path.{◌≡◌}
-use Prim.Native.Nat.{◌≤◌}
-use lib.ListN.{length, drop}
+use Rattle.std.proofs.Common.{◌≡◌, length, ◌-◌, drop}
 use Rattle.word.specs.Bytes.{le}
 use Rattle.word.proofs.bytes.load_le.Given as goal
 
--- `word::bytes::load_le` meets its contract. The loop's invariant: v is the number of the bytes from i on.
--- Assumes nothing.
-abbrev pub invariant-loop-i : goal.invariant-loop-i
-invariant-loop-i l = (l.i ≤ length l.bytes) × (l.v ≡ le (drop l.i l.bytes))
-
-abbrev pub decreases-loop-i : goal.decreases-loop-i
-decreases-loop-i l = l.i
+-- v is the number of the bytes from the last one read on
+abbrev pub invariant-loop-b : goal.invariant-loop-b
+invariant-loop-b l = l.v ≡ le (drop (length l.bytes - length l.yielded) l.bytes)

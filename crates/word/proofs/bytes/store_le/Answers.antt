@@ -1,33 +1,16 @@
-use mathlib.Core.Path.{◌≡◌, refl, sym, ◌∙◌}
-use mathlib.Core.List.{append-nil}
-use native.Mathlib.Nat.{sub-zero}
-use lib.Seq.{take_all}
-use Rattle.word.proofs.BytesLaws.{to_le-step}
-use Prim.Native.Nat.{◌-◌}
-use native.Mathlib.Omega.{arith}
-use lib.ListN.{length, length-set}
-use borrow.Author.Rules.{rules}
+use Rattle.std.proofs.Common.{◌≡◌, ◌-◌, length, sym, ◌∙◌, append-nil, arith, take_all}
 use Rattle.word.specs.Bytes.{to_le}
+use Rattle.word.proofs.BytesLaws.{to_le-step}
 use Rattle.word.proofs.bytes.store_le.Goals as goal
 
-pub loop-i-init : goal.loop-i-init
-loop-i-init c = (search rules, refl, rw sub-zero)
-
-pub loop-i-preserved : goal.loop-i-preserved
-loop-i-preserved c =
-    let at = c.loop-i in (
-      omega arith,
-      simp length-set at.invariant.1,
-      to_le-step at.bytes at.i (length c.args.bytes.now) at.rest (omega arith) at.invariant.1 ∙ at.invariant.2,
-    )
-
-pub shape_of-bytes : goal.shape_of-bytes
-shape_of-bytes c = c.loop-i.invariant.1
+pub loop-b-preserved : goal.loop-b-preserved
+loop-b-preserved c =
+    let at = c.loop-b in
+    to_le-step at.bytes at.b-index (length c.args.bytes.now) at.rest (omega arith) at.auto.bytes ∙ at.invariant
 
 pub returns : goal.returns
 unfolding to_le
 returns c =
-    let at = c.loop-i in
-    let n = length c.args.bytes.now in
-    let e : n - at.i ≡ 0 = omega arith in
-    sym (take_all at.i at.bytes (omega arith)) ∙ sym (append-nil _) ∙ (rw e at at.invariant.2)
+    let at = c.loop-b in
+    let e : length c.args.bytes.now - at.b-index ≡ 0 = omega arith in
+    sym (take_all at.b-index at.bytes (omega arith)) ∙ sym (append-nil _) ∙ (rw e at at.invariant)
