@@ -43,6 +43,41 @@ fn tell() {
         fits(1);
     }
 }
+
+// A byte and where it stands.
+#[derive(Copy)]
+pub struct Place {
+    pub at: u64,
+    ghost below: { small at 8 },
+}
+
+impl Place {
+    ghost use Rattle.other.specs.Add.{◌+◌};
+
+    // The next one.
+    pub fn next(self) -> u64
+        ensures { follows result (self.at + 1) }
+    {
+        if true {
+            self.at + 1
+        } else {
+            1
+        }
+    }
+
+    #[cold]
+    fn same(self) -> u64 {
+        self.at
+    }
+}
+
+impl From<Place> for u64 {
+    ghost from_gives = { λ p n. stands n p.at };
+
+    fn from(p: Place) -> u64 {
+        p.at
+    }
+}
 '''
 SPECS = '''-- Bytes.
 use Rattle.std.specs.Prelude.{
@@ -114,7 +149,7 @@ tell-spec = tie.close tie.spec
 '''
 FILES = {'src/lib.rt': SOURCE, 'specs/Fits.antt': SPECS, 'proofs/FitsLaws.antt': PROOFS, 'proofs/fits/Invariants.antt': INVARIANTS,
          'proofs/fits/Answers.antt': ANSWERS, 'proofs/tell/Proof.antt': OWN, 'proofs/Answers.antt': '-- Laws, too.\npub told : 0 ≡ 0\ntold = refl\n'}
-STAYED = ['contracts: 3 of 3', 'types: 3 of 3', 'definitions: 2 of 2', 'statements: 8 of 8']
+STAYED = ['contracts: 6 of 6', 'types: 5 of 5', 'definitions: 2 of 2', 'statements: 8 of 8']
 
 
 class Promises(unittest.TestCase):
@@ -200,6 +235,11 @@ class Promises(unittest.TestCase):
             ('specs/Fits.antt', 'specs.Below', 'specs.Other', 'fits_of'),
             ('src/lib.rt', 'fn tell() {', 'pub fn tell() {', 'tell'),
             ('src/lib.rt', 'by: u8', 'by: u16', 'enum Kind'),
+            ('src/lib.rt', 'at 8 }', 'at 9 }', 'struct Place'),
+            ('src/lib.rt', '(self.at + 1)', '(self.at + 2)', 'Place::next'),
+            ('src/lib.rt', '    #[cold]\n', '', 'Place::same'),
+            ('src/lib.rt', 'Rattle.other.specs.Add', 'Rattle.other.specs.Sum', 'Place::next'),
+            ('src/lib.rt', 'p.at };', 'p.at + 1 };', 'impl From<Place> for u64'),
             ('src/lib.rt', 'u64 = 255', 'u64 = 256', 'const MOST'),
             ('specs/Fits.antt', 'ltb n 256', 'ltb n 255', 'fits_of'),
             ('specs/Fits.antt', 'infix 40', 'infix 41', '◌~◌'),
