@@ -8,7 +8,7 @@ ghost use Rattle.alu.specs.Pair.{joined};
 use isa::Width;
 use word::bytes::{load_at, load_le, store_at, store_le};
 
-// A number as a pair of registers holds it, each half of them of a width.
+// A number as a pair of registers holds it, each half of them of a width. The halves' bound is a clause and no invariant: the width isn't in the pair.
 #[derive(Clone, Copy, PartialEq, Eq)]
 pub struct Pair {
     pub low: u64,
@@ -38,7 +38,7 @@ pub fn compare_swap_at(mem: &mut [u8], at: usize, n: usize, want: u64, new: u64)
     compare_swap(&mut mem[at..at + n], want, new)
 }
 
-// Whether two pairs are one number.
+// Whether two pairs are one number. The width is in the contract alone: pairs of other halves could differ and be one number.
 pub fn same(w: Width, p: Pair, q: Pair) -> bool
     requires { (p.low < 2 ^ bits_of w) × (q.low < 2 ^ bits_of w) }
     ensures { result ≡ (joined w p == joined w q) }

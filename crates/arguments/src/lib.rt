@@ -78,10 +78,8 @@ pub fn argument<R: Env>(rt: &R, i: usize, other: u64) -> Option<u64>
 
 // What stands before the number that std puts behind the system's words for an error.
 fn words_of(all: &str) -> &str {
-    match all.split_once(" (os error ") {
-        Some((words, _)) => words,
-        None => all,
-    }
+    all.split_once(" (os error ")
+        .map_or(all, |(words, _)| words)
 }
 
 // Writes the system's words for an error, with std's number behind them where there is no memory to leave it out.
@@ -109,7 +107,7 @@ pub fn tell_failure<R: Alloc, W: Write>(rt: &R, err: &mut W, what: &[u8], why: E
     let _ = write_failure(rt, err, what, why);
 }
 
-// The same, under the program's name.
+// The same, under the program's name. rt, err and program go through three functions and into no struct: it would lend a writer, of which no contract speaks.
 pub fn tell<R: Alloc, W: Write>(rt: &R, err: &mut W, program: &[u8], what: &[u8], why: Error) {
     let _ = err.write_all(program);
     let _ = err.write_all(b": ");

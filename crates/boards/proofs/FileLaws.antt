@@ -1,6 +1,6 @@
 -- The laws of `first_not`, of where bodies start, and of a file read. Assumes nothing.
-use Rattle.std.specs.Prelude.{Option, Some, None, Result}
-use mathlib.Core.Path.{◌≡◌, refl, ap, ap₂, ◌∙◌}
+use Rattle.std.specs.Prelude.{Option, Some, None, Result, MatchOption}
+use mathlib.Core.Path.{◌≡◌, refl, sym, ap, ap₂, ◌∙◌}
 use mathlib.Core.Bool.{Bool, true, false, ◌&&◌}
 use mathlib.Core.List.{List}
 use mathlib.Core.Logic.{⊎_elim}
@@ -66,6 +66,24 @@ module _ (p : ℕ → Bool) where
   pub first_all : (n : ℕ) → first_not p n ≡ None → (j : ℕ) → j < n → p j ≡ true
   first_all n e = rw e at (first_is n)
 
+-- what a search of all numbers below n answers
+pub first_of : (p : ℕ → Bool) (n : ℕ) (r : Option ℕ)
+    → MatchOption r ((k : ℕ) → 0 ≤ k → k < n → p k ≡ true) (λ i. (0 ≤ i) × (i < n) × (p i ≡ false) × ((k : ℕ) → 0 ≤ k → k < i → p k ≡ true))
+    → r ≡ first_not p n
+first_of p n None f = sym (first_none p n (λ k h. f k (omega arith) h))
+first_of p n (Some i) f = sym (first_at p n i f.1 (λ k h. f.3 k (omega arith) h) f.2)
+
+next_same : (p q : ℕ → Bool) (n : ℕ) (o : Option ℕ) → p n ≡ q n → or_next p n o ≡ or_next q n o
+next_same p q n (Some k) e = refl
+next_same p q n None e = rw e
+
+-- tests that are the same at every number below n
+pub first_same : (p q : ℕ → Bool) (n : ℕ) → ((k : ℕ) → k < n → p k ≡ q k) → first_not p n ≡ first_not q n
+unfolding first_not
+first_same p q zero e = refl
+first_same p q (suc n) e =
+    ap (or_next p n) (first_same p q n (λ k h. e k (omega arith))) ∙ next_same p q n (first_not q n) (e n (omega arith))
+
 -- ---- where bodies start
 
 -- the two formats apart
@@ -105,9 +123,9 @@ start_within format n k (suc m) h =
     (λ t. omega (arith, start_next format n m, start_within format n k m (ltb-true k m t)))
     (λ t. let e : k ≡ m = omega (arith, ltb-false k m t) in rw e (omega (arith, start_next format n m)))
 
-pub start-table : (format n k : ℕ) → 8 + 8 * n ≤ start_of format n k
+pub start_table : (format n k : ℕ) → 8 + 8 * n ≤ start_of format n k
 unfolding start_of
-start-table format n k = omega arith
+start_table format n k = omega arith
 
 -- and none beyond 200
 pub start_most : (format n k : ℕ) → n ≤ 16 → k ≤ 16 → start_of format n k ≤ 200

@@ -25,7 +25,7 @@ use Rattle.boards.specs.File.{refused_file, boards_in, read_of}
 use Rattle.boards.specs.Rules.{FormatRules, BodyLength, TableRules, BodySays, SettingsRow, shorter, bad_format, bad_table, bad_body, number_at}
 use Rattle.boards.specs.Rules.{RefusedBy, UnrefusedFile, SaysBoards}
 use Rattle.boards.specs.declared.SettingsFile.{SettingsFile}
-use Rattle.boards.proofs.FileLaws.{first_found, first_all, body_1, body_else, start_next, start_first, start_within, start-table}
+use Rattle.boards.proofs.FileLaws.{first_found, first_all, body_1, body_else, start_next, start_first, start_within, start_table}
 use Rattle.boards.proofs.FileLaws.{table_whole, whole_table, first_bad, read_short, read_format, read_table, read_by}
 
 -- ---- formats and boards
@@ -104,7 +104,7 @@ module _ (file : List ℕ) where
         record {
           some = w.some;
           most = w.most;
-          table = omega (arith, w.ends, start-table f n n);
+          table = omega (arith, w.ends, start_table f n n);
           first = (entry_said 0 w.some).0 ∙ start_first f n;
           next = λ k h.
               omega (arith, (entry_said (suc k) h).0, (entry_said k (omega arith)).0, (entry_said k (omega arith)).1, start_next f n k);

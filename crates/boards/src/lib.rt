@@ -7,7 +7,7 @@ ghost use Rattle.word.specs.Memory.{part, splice};
 ghost use Rattle.word.specs.Each.{all_below};
 ghost use Rattle.settings.specs.Boards.{board_ok};
 ghost use Rattle.boards.specs.First.{first_not};
-ghost use Rattle.boards.specs.File.{body_size, start_of, board_in, entry_ok, table_ok, no_board, boards_in, read_of, Kept};
+ghost use Rattle.boards.specs.File.{format_ok, body_size, start_of, board_in, entry_ok, table_ok, no_board, boards_in, read_of, Kept};
 ghost use Rattle.boards.specs.Write.{blocks, entry_bytes, body_bytes, file_of, first_bad_board, written_of, left_of};
 
 use refusal::Refusal;
@@ -30,9 +30,17 @@ const NO_TABLE: Refusal = Refusal {
 // A file read. Boards stand in fixed memory: C gets sixteen of them, of which those from count on are zeros.
 #[derive(Clone, Copy)]
 pub struct SettingsFile {
+    // A number and no enum, since C is told it.
     pub format: usize,
     pub count: usize,
     pub boards: [Board; 16],
+}
+
+// Whether it is a format that is read.
+fn format_ok(format: usize) -> bool
+    ensures { result ≡ format_ok format }
+{
+    matches!(format, 1 | 2)
 }
 
 // How many bytes a body has.
@@ -47,11 +55,7 @@ fn start_of(format: usize, count: usize, k: usize) -> usize
     requires { (count ≤ 16) × (k ≤ 16) }
     ensures { result ≡ start_of format count k }
 {
-    if format == 1 {
-        8 + 8 * count + 3 * k
-    } else {
-        8 + 8 * count + 4 * k
-    }
+    8 + 8 * count + body_size(format) * k
 }
 
 // A file with the table of so many bodies in a format: it ends where the last of them does.
@@ -65,19 +69,21 @@ struct Table<'a> {
 }
 
 // Whether the entry of body k has its start and its length.
+#[tactic(auto, using(crate::proofs::FileLaws::start_table), unfolding(crate::specs::File::entry_ok))]
 fn entry_ok(table: Table, k: usize) -> bool
     requires { k < table.count }
     ensures { result ≡ entry_ok table.entry.file.now table.entry.format table.entry.count k }
 {
     let start = start_of(table.format, table.count, k);
     let size = body_size(table.format);
-    (field(table.file, 8 + 8 * k) == start) & (field(table.file, 12 + 8 * k) == size)
+    (field(table.file, 8 + 8 * k) == start) && (field(table.file, 12 + 8 * k) == size)
 }
 
 // Whether all entries have.
 fn entries_ok(table: Table) -> bool
     ensures { result ≡ all_below (entry_ok table.entry.file.now table.entry.format table.entry.count) table.entry.count }
 {
+    // Tried as (0..n).all(..): the proof didn't close, for want of a law of it over a range.
     for k in 0..table.count {
         if !entry_ok(table, k) {
             return false;
@@ -92,13 +98,7 @@ fn table_in<'a>(file: &'a [u8], format: usize, count: usize) -> Option<Table<'a>
     ensures { MatchOption result (table_ok file.now format count ≡ false)
         (λ t. (table_ok file.now format count ≡ true) × (t.file.now ≡ file.now) × (t.format ≡ format) × (t.count ≡ count)) }
 {
-    if count < 1 {
-        return None;
-    }
-    if 16 < count {
-        return None;
-    }
-    if file.len() != start_of(format, count, count) {
+    if (count < 1) || (16 < count) || (file.len() != start_of(format, count, count)) {
         return None;
     }
     let table = Table {
@@ -137,12 +137,11 @@ fn board_in(table: Table, k: usize) -> Board
 fn first_bad(table: Table) -> Option<usize>
     ensures { result ≡ first_not (λ k. board_ok (board_in table.entry.file.now table.entry.format table.entry.count k)) table.entry.count }
 {
-    for k in 0..table.count {
-        if !settings::board_ok(board_in(table, k)) {
-            return Some(k);
-        }
-    }
-    None
+    (0..table.count).find(
+        |&k|
+            requires { k < table.count }
+        { !settings::board_ok(board_in(table, k)) },
+    )
 }
 
 // The boards of the bodies.
@@ -165,7 +164,7 @@ pub fn read_settings(file: &[u8]) -> Result<SettingsFile, Refusal>
         return Err(NO_TABLE);
     }
     let format = field(file, 0);
-    if !((format == 1) | (format == 2)) {
+    if !format_ok(format) {
         return Err(Refusal {
             number: 22,
             place: 0,
@@ -190,12 +189,11 @@ pub fn read_settings(file: &[u8]) -> Result<SettingsFile, Refusal>
 }
 
 // The first board that no settings file may have, if there is one.
-fn first_bad_board(count: usize, boards: [Board; 16]) -> Option<usize>
-    requires { count ≤ 16 }
-    ensures { result ≡ first_bad_board count boards }
+fn first_bad_board(boards: &[Board]) -> Option<usize>
+    ensures { result ≡ first_bad_board (length boards.now) boards.now }
 {
-    for k in 0..count {
-        if !settings::board_ok(boards[k]) {
+    for (k, &board) in boards.iter().enumerate() {
+        if !settings::board_ok(board) {
             return Some(k);
         }
     }
@@ -232,24 +230,26 @@ fn put_body(out: &mut [u8], place: usize, board: Board)
 }
 
 // Writes the bodies, which start where the table ends.
-fn put_bodies(out: &mut [u8], count: usize, boards: [Board; 16])
-    requires { (count ≤ 16) × (8 + 12 * count ≤ length out.old) }
-    ensures { out.new ≡ splice out.old (8 + 8 * count) (blocks (λ k. body_bytes (get_or boards k no_board)) count) }
+fn put_bodies(out: &mut [u8], boards: &[Board])
+    requires { (length boards.now ≤ 16) × (8 + 12 * length boards.now ≤ length out.old) }
+    ensures { out.new ≡ splice out.old (8 + 8 * length boards.now) (blocks (λ k. body_bytes (get_or boards.now k no_board)) (length boards.now)) }
 {
-    for k in 0..count {
-        put_body(out, 8 + 8 * count + 4 * k, boards[k]);
+    let first = 8 + 8 * boards.len();
+    for (k, &board) in boards.iter().enumerate() {
+        put_body(out, first + 4 * k, board);
     }
 }
 
-// Writes the file of the first count boards.
-fn put_file(out: &mut [u8], count: usize, boards: [Board; 16])
-    requires { (count ≤ 16) × (8 + 12 * count ≤ length out.old) }
-    ensures { out.new ≡ splice out.old 0 (file_of count boards) }
+// Writes the file of these boards.
+fn put_file(out: &mut [u8], boards: &[Board])
+    requires { (length boards.now ≤ 16) × (8 + 12 * length boards.now ≤ length out.old) }
+    ensures { out.new ≡ splice out.old 0 (file_of (length boards.now) boards.now) }
 {
+    let count = boards.len();
     store_at(out, 0, 4, 2);
     store_at(out, 4, 4, count as u64);
     put_entries(out, count);
-    put_bodies(out, count, boards);
+    put_bodies(out, boards);
 }
 
 // Writes the settings file of the first count boards to the front of out, and answers how many bytes it has, or says why there is none, with nothing written.
@@ -258,19 +258,14 @@ pub fn write_settings(count: usize, boards: [Board; 16], out: &mut [u8]) -> Resu
     ensures value { result ≡ written_of count boards (length out.old) }
     ensures out_after { out.new ≡ left_of count boards out.old }
 {
-    if count < 1 {
+    if (count < 1) || (16 < count) || (out.len() < 8 + 12 * count) {
         return Err(NO_TABLE);
     }
-    if 16 < count {
-        return Err(NO_TABLE);
-    }
-    if out.len() < 8 + 12 * count {
-        return Err(NO_TABLE);
-    }
-    if let Some(bad) = first_bad_board(count, boards) {
+    let written = &boards[..count];
+    if let Some(bad) = first_bad_board(written) {
         let place = start_of(2, count, bad);
         return Err(Refusal { number: 23, place });
     }
-    put_file(out, count, boards);
+    put_file(out, written);
     Ok(8 + 12 * count)
 }

@@ -27,6 +27,7 @@ pub fn load_boards(bytes: &[u8], count: usize) -> [Board; 16]
     ensures { result ≡ boards_from bytes.now count }
 {
     let mut boards = [NO_BOARD; 16];
+    // By index: of what an adapter of iter_mut() goes over std promises nothing afterwards.
     for k in 0..count.min(16) {
         boards[k] = load_board(bytes, 24 * k);
     }
@@ -45,7 +46,7 @@ pub fn store_boards(bytes: &mut [u8], boards: [Board; 16])
     requires { length bytes.old ≡ 384 }
     ensures { bytes.new ≡ boards_bytes boards }
 {
-    for k in 0..16 {
-        store_words(bytes, 24 * k, &board_words(boards[k]));
+    for (k, &board) in boards.iter().enumerate() {
+        store_words(bytes, 24 * k, &board_words(board));
     }
 }

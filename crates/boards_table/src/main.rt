@@ -41,7 +41,7 @@ fn put_refused(rt: &impl Print, refusal: Refusal) -> io::Result<()> {
 // The boards of a file that was read, and whatever stands behind them.
 fn put_boards(rt: &impl Print, count: usize, boards: &[Board; 16]) -> io::Result<()> {
     for (k, board) in boards.iter().enumerate() {
-        if (k < count) | (board.size != 0) | (board.version != 0) | (board.misaligned != 0) {
+        if (k < count) || (board.size != 0) || (board.version != 0) || (board.misaligned != 0) {
             print!(rt;
                 " board {} {} {}",
                 board.size, board.version, board.misaligned
@@ -65,10 +65,9 @@ fn put_read(rt: &impl Print, read: Result<SettingsFile, Refusal>) -> io::Result<
 fn filled_from(out: &[u8]) -> usize
     ensures { IsPrefixLen result out.now }
 {
-    match out.iter().rposition(|b| *b != FILLING) {
-        Some(last) => last + 1,
-        None => 0,
-    }
+    out.iter()
+        .rposition(|b| *b != FILLING)
+        .map_or(0, |last| last + 1)
 }
 
 fn put_hex(rt: &impl Print, bytes: &[u8]) -> io::Result<()> {
@@ -147,7 +146,8 @@ fn case<R: Read>(rt: &impl Print, reader: &mut R, item: &[u8; 24], line: u64) ->
 
 fn main(rt: HostRuntime) -> io::Result<()> {
     let mut item: [u8; 24] = [0; 24];
-    for line in 1..1000000 {
+    // A for, whose numbers no input gets through, since no contract of C's read says that an input ends.
+    for line in 1..u64::MAX {
         if read_full(&mut rt.stdin(), &mut item)? != 24 {
             return Ok(());
         }

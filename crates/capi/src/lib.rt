@@ -14,9 +14,9 @@ use retry::LoopAnswer;
 use settings::Settings;
 
 // The answer to arguments of a wrong size: a number, since C gets one.
-pub const BAD_SIZE: u64 = 18446744073709551615;
+pub const BAD_SIZE: u64 = u64::MAX;
 
-// The text of any bytes: the first r bytes of out are all that the program writes for them where no board is given. 2^64 - 1 if out has
+// The text of any bytes: as many bytes of out as the result says are all that the program writes for them where no board is given. 2^64 - 1 if out has
 // fewer than 262,144 bytes.
 pub fn floecavern_report(file: &[u8], out: &mut [u8]) -> u64
     ensures { Reported file.now out.old out.new result }
@@ -34,8 +34,8 @@ fn loop_number(settings: Settings, bytes: &[u8]) -> u64
 {
     match retry::check_bytes(settings, bytes) {
         LoopAnswer::Accepted => 0,
-        LoopAnswer::Rejected { place, reason } => 256 * (place as u64 + 1) + reason as u64,
-        LoopAnswer::Refused { number } => number as u64,
+        LoopAnswer::Rejected { place, reason } => 256 * (place as u64 + 1) + reason,
+        LoopAnswer::Refused { number } => number,
     }
 }
 

@@ -1,4 +1,5 @@
 // The exports of the static library: each is the function of `capi` with its name, and states its clauses. None has a precondition.
+// In two crates: the crate of an export is no library of others, and `capi_means` states theorems of `capi`.
 #![tactic(auto)]
 
 ghost use Rattle.std.specs.Prelude.{◌≡◌};

@@ -126,7 +126,7 @@ fn put_differs<const BASE: u64>(
     put_last(out, s, k)
 }
 
-// The whole answer.
+// The whole answer. at stands in each of these functions, as in `text`.
 #[tactic(auto, unfolding(crate::specs::Answer::answer_text))]
 pub fn put_answer(out: &mut [u8], at: usize, all: u64, k: u64, stop: Stop) -> usize
     requires { at + 128 ≤ length out.old }

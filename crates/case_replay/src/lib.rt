@@ -57,7 +57,7 @@ pub fn replay_next(before: usize, s: State, base: u64, mem: &mut [u8], part: &[u
     }
 }
 
-// The text of an answer: the first r bytes of out. all is the number of rows of the log, k that of the rows before the stop.
+// The text of an answer: as many bytes of out as the result says. all is the number of rows of the log, k that of the rows before the stop.
 pub fn answer_text(all: u64, k: u64, stop: Stop, out: &mut [u8; 128]) -> usize
     ensures prefix_len { IsPrefixLen result out.new }
     ensures out_after { take result out.new ≡ answer_text all k stop }
@@ -65,7 +65,7 @@ pub fn answer_text(all: u64, k: u64, stop: Stop, out: &mut [u8; 128]) -> usize
     answer::put_answer(out, 0, all, k, stop)
 }
 
-// The text of any two inputs: the first r bytes of out. The program, which reads a log in parts, has to write the same where no board is given.
+// The text of any two inputs: as many bytes of out as the result says. The program, which reads a log in parts, has to write the same where no board is given.
 #[tactic(auto, unfolding(crate::specs::Answer::replay_text_of))]
 pub fn replay_report(file: &mut [u8], log: &[u8], out: &mut [u8; 128]) -> usize
     ensures prefix_len { IsPrefixLen result out.new }

@@ -9,7 +9,7 @@ ghost use Rattle.casefile.specs.Harts.{number_of, register_of, pc_of, harts_ok, 
 ghost use Rattle.casefile.specs.Case.{memory_body_ok, parts_of, case_on, case_of, SoundCase};
 ghost use Rattle.settings.specs.Boards.{BoardRules};
 
-use machine::State;
+use machine::{LEAST, MOST, NARROW, State, TOP};
 use refusal::Refusal;
 use settings::{Board, Settings, remainder};
 use word::bytes::{field, load_at};
@@ -86,7 +86,8 @@ struct Harts<'a> {
 }
 
 impl Harts<'_> {
-    // Whether the pc of each hart is a multiple of 4.
+    // Whether the pc of each hart is a multiple of 4. Tried as (0..count).all(..), here and below: the proof didn't close, since std says it by a list of
+    // numbers and the definition by all_below.
     #[tactic(auto, using(word::proofs::EachLaws::all_none, word::proofs::EachLaws::all_more))]
     fn pcs_ok(self) -> bool
         ensures { result ≡ all_below (λ h. eqb (pc_of self.entry.body.now h % 4) 0) self.entry.count }
@@ -108,7 +109,7 @@ impl Harts<'_> {
             return true;
         }
         for i in 0..32 * self.count {
-            if 4294967295 < load_at(self.body, 16 + 8 * i, 8) {
+            if NARROW <= load_at(self.body, 16 + 8 * i, 8) {
                 return false;
             }
         }
@@ -146,7 +147,8 @@ impl Harts<'_> {
         x
     }
 
-    // The pcs, hart by hart, as a state holds them.
+    // The pcs, hart by hart, as a state holds them. Tried as pc.iter_mut().take(count).enumerate(): the proof didn't close, since the loop's
+    // invariant has no name for the array then. The registers' loop is of that shape too.
     fn pcs(self) -> [u64; 8]
         requires { self.count ≤ 8 }
         ensures { result ≡ each (λ h _. pc_of self.entry.body.now h) self.entry.count (replicate 8 0) }
@@ -182,7 +184,7 @@ fn read_settings(board: Board, body: &[u8]) -> Settings
     settings::on_board(board, field(body, 12) as u64)
 }
 
-// Whether refusal 9 does not name a harts body.
+// Whether refusal 9 does not name a harts body. The kind's two numbers are written out, as in the definition: `settings` asks it of settings, with the version.
 #[tactic(auto, unfolding(crate::specs::Harts::harts_ok))]
 fn harts_ok(board: Board, body: &[u8]) -> bool
     requires { BoardRules board }
@@ -204,7 +206,7 @@ fn harts_ok(board: Board, body: &[u8]) -> bool
         && count <= 8
         && (kind == 0 || kind == 1)
         && remainder(base, granule) == 0
-        && base <= 1099511627776
+        && base <= TOP
         && harts.pcs_ok()
         && harts.halves_ok(kind)
 }
@@ -218,13 +220,14 @@ fn memory_ok(board: Board, harts: &[u8], len: usize) -> bool
 {
     let settings = read_settings(board, harts);
     let granule = settings::granule(settings);
-    64 <= len
-        && len <= 1048576
+    LEAST <= len
+        && len <= MOST
         && remainder(len as u64, granule) == 0
         && machine::top_ok(settings, load_at(harts, 0, 8), len)
 }
 
-// A machine without harts, with the default settings and all else zero: what stands for the state of a file that is refused.
+// A machine without harts, with the default settings and all else zero: what stands for the state of a file that is refused. A replay's
+// answer to such a file has a state (file_replay), so that there has to be one.
 #[tactic(auto, unfolding(crate::specs::Harts::no_state))]
 pub fn no_state() -> State
     ensures { result ≡ no_state }

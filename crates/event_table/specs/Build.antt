@@ -40,14 +40,14 @@ unfoldable pub pcs_of : ℕ → ℕ → List ℕ → List ℕ
 pcs_of count base x = each (λ h _. pc_at count base x h) 8 (replicate 8 0)
 
 -- a used hart has no reservation, another that of its x2 and x3
-abbrev pub slot_as : Bool → ℕ → ℕ → Option Reservation
-slot_as used addr width = cond used None (held addr width)
+abbrev pub reservation_as : Bool → ℕ → ℕ → Option Reservation
+reservation_as used addr width = cond used None (held addr width)
 
-abbrev pub slot_at : ℕ → List ℕ → ℕ → Option Reservation
-slot_at count x h = slot_as (nat_lt h count) (slice_index x (h * 32 + 2)) (slice_index x (h * 32 + 3))
+abbrev pub reservation_at : ℕ → List ℕ → ℕ → Option Reservation
+reservation_at count x h = reservation_as (nat_lt h count) (slice_index x (h * 32 + 2)) (slice_index x (h * 32 + 3))
 
-unfoldable pub slots_of : ℕ → List ℕ → List (Option Reservation)
-slots_of count x = each (λ h _. slot_at count x h) 8 (replicate 8 None)
+unfoldable pub reservations_of : ℕ → List ℕ → List (Option Reservation)
+reservations_of count x = each (λ h _. reservation_at count x h) 8 (replicate 8 None)
 
 -- the default state of count harts, and the default case
 unfoldable pub start_of : ℕ → ℕ → State
@@ -57,7 +57,7 @@ start_of count base =
       settings = defaults;
       x = registers_of count;
       pc = pcs_of count base (registers_of count);
-      res = slots_of count (registers_of count);
+      res = reservations_of count (registers_of count);
     }
 
 unfoldable pub first_of : ℕ → Case
@@ -104,8 +104,8 @@ with_register s i v = record { count = s.count; settings = s.settings; x = slice
 abbrev pub with_pc : State → ℕ → ℕ → State
 with_pc s h v = record { count = s.count; settings = s.settings; x = s.x; pc = slice_set s.pc (h % 8) v; res = s.res }
 
-abbrev pub with_slot : State → ℕ → ℕ → ℕ → State
-with_slot s h addr width =
+abbrev pub with_reservation : State → ℕ → ℕ → ℕ → State
+with_reservation s h addr width =
     record { count = s.count; settings = s.settings; x = s.x; pc = s.pc; res = slice_set s.res (h % 8) (held addr width) }
 
 -- the default state, or a blank one
@@ -119,7 +119,7 @@ harts_of s base item =
     (cond (item_kind item == 2) (begun_of (item_a item) base (item_b item))
     (cond (item_kind item == 3) (with_register s (item_n item) (item_a item))
     (cond (item_kind item == 4) (with_pc s (item_n item) (item_a item))
-    (with_slot s (item_n item) (item_a item) (item_b item)))))
+    (with_reservation s (item_n item) (item_a item) (item_b item)))))
 
 -- a case after an item that is no event: kind 1 sets base and length, 6 leaves the case
 unfoldable pub patch_of : Case → List ℕ → Case

@@ -1,9 +1,9 @@
 // The state and the memory of a case.
 ghost use Rattle.std.specs.Prelude.{◌≡◌, if◌then◌else◌};
 ghost use Rattle.word.specs.Each.{each};
-ghost use Rattle.event_table.specs.Build.{filler, register_as, registers_of, pcs_of, slot_as, slots_of};
+ghost use Rattle.event_table.specs.Build.{filler, register_as, registers_of, pcs_of, reservation_as, reservations_of};
 ghost use Rattle.event_table.specs.Build.{start_of, blank_of, begun_of, first_of, item_n, item_a, item_b};
-ghost use Rattle.event_table.specs.Build.{with_setting, with_register, with_pc, with_slot, harts_of, wiped, bytes_at, patch_of, memory_after};
+ghost use Rattle.event_table.specs.Build.{with_setting, with_register, with_pc, with_reservation, harts_of, wiped, bytes_at, patch_of, memory_after};
 
 use machine::State;
 use reserve::Reservation;
@@ -41,8 +41,8 @@ pub fn b(item: &[u8; 24]) -> u64
 pub fn fill(mem: &mut [u8; 8192])
     ensures { mem.new ≡ each (λ i _. filler i) 8192 mem.old }
 {
-    for i in 0..8192 {
-        mem[i] = ((i * 167 + 13) % 256) as u8;
+    for (i, byte) in mem.iter_mut().enumerate() {
+        *byte = ((i * 167 + 13) % 256) as u8;
     }
 }
 
@@ -60,11 +60,7 @@ fn wipe_memory(mem: &mut [u8; 8192], wipe: u64)
 fn register(i: usize, count: usize, v: u64) -> u64
     ensures { result ≡ register_as i count v }
 {
-    if (i % 32 == 0) & (i / 32 < count) {
-        0
-    } else {
-        v
-    }
+    if i % 32 == 0 && i / 32 < count { 0 } else { v }
 }
 
 // The default state's registers, pcs and reservations.
@@ -73,8 +69,8 @@ fn registers(count: usize) -> [u64; 256]
 {
     let mut x: [u64; 256] = [0; 256];
     let mut v: u64 = 0;
-    for i in 0..256 {
-        x[i] = register(i, count, v);
+    for (i, value) in x.iter_mut().enumerate() {
+        *value = register(i, count, v);
         v = v.wrapping_add(0x9E3779B97F4A7C15);
     }
     x
@@ -91,15 +87,15 @@ fn pcs(count: usize, base: u64, x: &[u64; 256]) -> [u64; 8]
     ensures { result ≡ pcs_of count base x.now }
 {
     let mut pc: [u64; 8] = [0; 8];
-    for h in 0..8 {
-        pc[h] = pc_value(h < count, base, x[h * 32 + 1]);
+    for (h, value) in pc.iter_mut().enumerate() {
+        *value = pc_value(h < count, base, x[h * 32 + 1]);
     }
     pc
 }
 
 // A used hart has no reservation.
-fn slot(used: bool, addr: u64, width: u64) -> Option<Reservation>
-    ensures { result ≡ slot_as used addr width }
+fn reservation(used: bool, addr: u64, width: u64) -> Option<Reservation>
+    ensures { result ≡ reservation_as used addr width }
 {
     if used {
         return None;
@@ -107,12 +103,12 @@ fn slot(used: bool, addr: u64, width: u64) -> Option<Reservation>
     Some(Reservation { addr, width })
 }
 
-fn slots(count: usize, x: &[u64; 256]) -> [Option<Reservation>; 8]
-    ensures { result ≡ slots_of count x.now }
+fn reservations(count: usize, x: &[u64; 256]) -> [Option<Reservation>; 8]
+    ensures { result ≡ reservations_of count x.now }
 {
     let mut res = [None; 8];
-    for h in 0..8 {
-        res[h] = slot(h < count, x[h * 32 + 2], x[h * 32 + 3]);
+    for (h, held) in res.iter_mut().enumerate() {
+        *held = reservation(h < count, x[h * 32 + 2], x[h * 32 + 3]);
     }
     res
 }
@@ -128,7 +124,7 @@ fn start(count: usize, base: u64) -> State
         settings: settings::defaults(),
         x,
         pc: pcs(count, base, &x),
-        res: slots(count, &x),
+        res: reservations(count, &x),
     }
 }
 
@@ -171,8 +167,8 @@ pub fn first(number: u64) -> Case
 }
 
 // Setting 0 is the size of a reservation's set, 1 the version of A, 2 the kind of core, and 3 what a misaligned atomic access gives.
-fn set_setting(mut s: State, n: u64, v: u64) -> State
-    ensures { result ≡ with_setting s n v }
+fn set_setting(s: &mut State, n: u64, v: u64)
+    ensures { s.new ≡ with_setting s.old n v }
 {
     match n {
         0 => s.settings.size = v,
@@ -181,28 +177,24 @@ fn set_setting(mut s: State, n: u64, v: u64) -> State
         3 => s.settings.misaligned = v,
         _ => {}
     }
-    s
 }
 
-fn set_register(mut s: State, i: usize, v: u64) -> State
-    ensures { result ≡ with_register s i v }
+fn set_register(s: &mut State, i: usize, v: u64)
+    ensures { s.new ≡ with_register s.old i v }
 {
     s.x[i % 256] = v;
-    s
 }
 
-fn set_pc(mut s: State, h: usize, v: u64) -> State
-    ensures { result ≡ with_pc s h v }
+fn set_pc(s: &mut State, h: usize, v: u64)
+    ensures { s.new ≡ with_pc s.old h v }
 {
     s.pc[h % 8] = v;
-    s
 }
 
-fn set_slot(mut s: State, h: usize, addr: u64, width: u64) -> State
-    ensures { result ≡ with_slot s h addr width }
+fn set_reservation(s: &mut State, h: usize, addr: u64, width: u64)
+    ensures { s.new ≡ with_reservation s.old h addr width }
 {
     s.res[h % 8] = Some(Reservation { addr, width });
-    s
 }
 
 // Puts the n lowest bytes of v into memory.
@@ -210,32 +202,30 @@ fn set_slot(mut s: State, h: usize, addr: u64, width: u64) -> State
 fn set_bytes(mem: &mut [u8; 8192], at: usize, n: usize, v: u64)
     ensures { mem.new ≡ bytes_at mem.old at n v }
 {
-    if at <= 8184 {
-        if n <= 8 {
-            word::bytes::store_at(mem, at, n, v);
-        }
+    if at <= 8184 && n <= 8 {
+        word::bytes::store_at(mem, at, n, v);
     }
 }
 
 // A state after an item of kind 0 or 2 to 5. One of kind 2 puts the default settings back, so one of kind 0 has to come behind it.
 #[tactic(auto, unfolding(crate::specs::Build::harts_of))]
-fn harts(s: State, base: u64, item: &[u8; 24]) -> State
-    ensures { result ≡ harts_of s base item.now }
+fn harts(s: &mut State, base: u64, item: &[u8; 24])
+    ensures { s.new ≡ harts_of s.old base item.now }
 {
     let place = n(item) as usize;
     match item[0] {
         0 => set_setting(s, n(item), a(item)),
-        2 => begin(a(item) as usize, base, b(item)),
+        2 => *s = begin(a(item) as usize, base, b(item)),
         3 => set_register(s, place, a(item)),
         4 => set_pc(s, place, a(item)),
-        _ => set_slot(s, place, a(item), b(item)),
+        _ => set_reservation(s, place, a(item), b(item)),
     }
 }
 
 // A case after an item that is no event.
 #[tactic(auto, unfolding(crate::specs::Build::patch_of, crate::specs::Build::memory_after))]
-pub fn patch(mut c: Case, mem: &mut [u8; 8192], item: &[u8; 24]) -> Case
-    ensures { (result ≡ patch_of c item.now) × (mem.new ≡ memory_after mem.old item.now) }
+pub fn patch(c: &mut Case, mem: &mut [u8; 8192], item: &[u8; 24])
+    ensures { (c.new ≡ patch_of c.old item.now) × (mem.new ≡ memory_after mem.old item.now) }
 {
     match item[0] {
         1 => {
@@ -244,7 +234,6 @@ pub fn patch(mut c: Case, mem: &mut [u8; 8192], item: &[u8; 24]) -> Case
             c.len = b(item) as usize;
         }
         6 => set_bytes(mem, a(item) as usize, n(item) as usize, b(item)),
-        _ => c.state = harts(c.state, c.base, item),
+        _ => harts(&mut c.state, c.base, item),
     }
-    c
 }

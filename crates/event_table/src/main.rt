@@ -27,7 +27,7 @@ fn answer(s: State, base: u64, mem: &mut [u8], len: usize, e: Event) -> Answer
 }
 
 // Performs the event of a case, and writes the case's lines.
-fn perform(rt: &impl Print, c: Case, mem: &mut [u8; 8192], e: Event) -> io::Result<()> {
+fn perform(rt: &impl Print, c: &Case, mem: &mut [u8; 8192], e: Event) -> io::Result<()> {
     let old = *mem;
     let a = answer(c.state, c.base, mem, c.len, e);
     show::outcome(rt, c.number, a.outcome, a.broke)?;
@@ -56,17 +56,18 @@ fn event(item: &[u8; 24]) -> Event
 }
 
 // A case after one more item: an event ends it, and the next case begins. Only an event is written of, which may fail.
-fn take(rt: &impl Print, c: Case, mem: &mut [u8; 8192], item: &[u8; 24]) -> io::Result<Case>
-    ensures value { IfOk result (λ r. r ≡ (if nat_lt (item_kind item.now) 7 then patch_of c item.now else first_of ((c.number + 1) % 2 ^ 64))) }
+fn take(rt: &impl Print, c: &mut Case, mem: &mut [u8; 8192], item: &[u8; 24]) -> io::Result<()>
+    ensures value { IfOk result (λ _. c.new ≡ (if nat_lt (item_kind item.now) 7 then patch_of c.old item.now else first_of ((c.old.number + 1) % 2 ^ 64))) }
     ensures err { OnErr result (7 ≤ item_kind item.now) }
 {
     if item[0] < 7 {
-        return Ok(build::patch(c, mem, item));
+        build::patch(c, mem, item);
+        return Ok(());
     }
-    let number = c.number;
     perform(rt, c, mem, event(item))?;
     build::fill(mem);
-    Ok(build::first(number.wrapping_add(1)))
+    *c = build::first(c.number.wrapping_add(1));
+    Ok(())
 }
 
 // Reads the next item: how many of its bytes there were.
@@ -81,11 +82,12 @@ fn main(rt: HostRuntime) -> io::Result<()> {
     build::fill(&mut mem);
     let mut item: [u8; 24] = [0; 24];
     let mut c = build::first(0);
-    for _ in 0..1000000 {
+    // The bound on the turns is beyond any table.
+    for _ in 0..u64::MAX {
         if read(&mut rt.stdin(), &mut item)? != 24 {
             break;
         }
-        c = take(&rt, c, &mut mem, &item)?;
+        take(&rt, &mut c, &mut mem, &item)?;
     }
     Ok(())
 }

@@ -39,9 +39,8 @@ fn settings(rt: &impl Print, before: Settings, after: Settings) -> io::Result<()
 }
 
 fn registers(rt: &impl Print, before: &[u64; 256], after: &[u64; 256]) -> io::Result<()> {
-    for i in 0..256 {
-        let value = after[i];
-        if before[i] != value {
+    for (i, (&old, &value)) in before.iter().zip(after).enumerate() {
+        if old != value {
             println!(rt; "h{} x{} {value:016x}", i / 32, i % 32)?;
         }
     }
@@ -49,9 +48,8 @@ fn registers(rt: &impl Print, before: &[u64; 256], after: &[u64; 256]) -> io::Re
 }
 
 fn pcs(rt: &impl Print, before: &[u64; 8], after: &[u64; 8]) -> io::Result<()> {
-    for h in 0..8 {
-        let pc = after[h];
-        if before[h] != pc {
+    for (h, (&old, &pc)) in before.iter().zip(after).enumerate() {
+        if old != pc {
             println!(rt; "h{h} pc {pc:016x}")?;
         }
     }
@@ -70,9 +68,9 @@ fn reservations(
     before: &[Option<Reservation>; 8],
     after: &[Option<Reservation>; 8],
 ) -> io::Result<()> {
-    for h in 0..8 {
-        if before[h] != after[h] {
-            reservation(rt, h, after[h])?;
+    for (h, (&old, &new)) in before.iter().zip(after).enumerate() {
+        if old != new {
+            reservation(rt, h, new)?;
         }
     }
     Ok(())
@@ -95,7 +93,7 @@ pub fn memory(
 ) -> io::Result<()>
     requires { len ≤ 8192 }
 {
-    for k in 0..(len + 7) / 8 {
+    for k in 0..len.div_ceil(8) {
         let at = k * 8;
         let value = load_at(after, at, 8);
         if load_at(before, at, 8) != value {

@@ -16,7 +16,7 @@ pub enum Event {
     Yield { hart: usize },
 }
 
-// Whether the fields of a step or a yield are right.
+// Whether the fields of a step or a yield are right. 24 bytes as a clause, here and below, not as `&[u8; 24]`: events are cut out of a lent body.
 #[tactic(auto, unfolding(crate::specs::Events::hart_event))]
 fn hart_event(e: &[u8], count: usize) -> bool
     requires { length e.now ≡ 24 }
@@ -54,7 +54,7 @@ fn good_event(e: &[u8], count: usize, base: u64, len: usize) -> bool
 }
 
 // Refusal 11 of an events body, with the place of the first bad event, counted from the body's first byte.
-#[tactic(auto, using(crate::proofs::EventLaws::first_bad_none, crate::proofs::EventLaws::first_bad_next), unfolding(crate::specs::Events::checked_of, word::specs::Memory::part))]
+#[tactic(auto, unfolding(crate::specs::Events::checked_of))]
 pub fn check(body: &[u8], count: usize, base: u64, len: usize) -> Result<(), usize>
     ensures value { result ≡ checked_of count base len body.now }
     ensures within { Within result (length body.now) }
@@ -62,10 +62,9 @@ pub fn check(body: &[u8], count: usize, base: u64, len: usize) -> Result<(), usi
     if body.len() % 24 != 0 {
         return Err(0);
     }
-    for i in 0..body.len() / 24 {
-        let at = 24 * i;
-        if !good_event(&body[at..at + 24], count, base, len) {
-            return Err(at);
+    for (i, e) in body.chunks_exact(24).enumerate() {
+        if !good_event(e, count, base, len) {
+            return Err(24 * i);
         }
     }
     Ok(())

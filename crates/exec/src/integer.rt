@@ -64,7 +64,7 @@ pub fn holds(xlen: u32, op: BranchOp, a: u64, b: u64) -> bool
         BranchOp::Lt => less(x, y, xlen),
         BranchOp::Ge => !less(x, y, xlen),
         BranchOp::Ltu => x < y,
-        BranchOp::Geu => !(x < y),
+        BranchOp::Geu => x >= y,
     }
 }
 

@@ -13,7 +13,7 @@ pub mod integer;
 pub mod memory;
 
 // Where an instruction is performed: by which hart, at which pc, in which memory. Registers and addresses have xlen bits, base is the address of the memory's
-// first byte, and misaligned is the setting that gives the cause of a misaligned LR, SC, AMO or AMOCAS.
+// first byte, and misaligned is the setting, a number as it stands there, that gives the cause of a misaligned LR, SC, AMO or AMOCAS.
 #[derive(Clone, Copy)]
 pub struct Site {
     pub xlen: u32,

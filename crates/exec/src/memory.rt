@@ -14,13 +14,10 @@ fn load_bytes(op: LoadOp) -> usize
     ensures { (result ≡ load_bytes op) × (0 < result) × (result ≤ 8) }
 {
     match op {
-        LoadOp::Lb => 1,
-        LoadOp::Lh => 2,
-        LoadOp::Lw => 4,
+        LoadOp::Lb | LoadOp::Lbu => 1,
+        LoadOp::Lh | LoadOp::Lhu => 2,
+        LoadOp::Lw | LoadOp::Lwu => 4,
         LoadOp::Ld => 8,
-        LoadOp::Lbu => 1,
-        LoadOp::Lhu => 2,
-        LoadOp::Lwu => 4,
     }
 }
 

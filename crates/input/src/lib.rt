@@ -9,7 +9,8 @@ ghost use Rattle.io.specs.Counts.{IsPrefixLen};
 use std::io;
 use std::io::{Error, Read};
 
-// How many bytes were read, and why a read failed before the end, if one did.
+// How many bytes were read, and why a read failed before the end, if one did. Both, and no Result: of bytes read before a failure too `bytes` of read_input says
+// where they are.
 #[derive(Drop)]
 pub struct Input {
     pub length: usize,

@@ -61,7 +61,7 @@ pub enum AluOp {
 }
 
 // The operations of the nine AMOs.
-#[derive(Clone, Copy)]
+#[derive(Clone, Copy, PartialEq, Eq)]
 pub enum AmoOp {
     Swap,
     Add,
@@ -75,7 +75,7 @@ pub enum AmoOp {
 }
 
 // CasPair compares and swaps a pair of registers: AMOCAS.Q, and AMOCAS.D of RV32.
-#[derive(Clone, Copy)]
+#[derive(Clone, Copy, PartialEq, Eq)]
 pub enum AtomicOp {
     Lr,
     Sc,
@@ -85,7 +85,7 @@ pub enum AtomicOp {
 }
 
 // The width of what an atomic instruction moves to or from one register.
-#[derive(Clone, Copy)]
+#[derive(Clone, Copy, PartialEq, Eq)]
 pub enum Width {
     Word,
     Double,

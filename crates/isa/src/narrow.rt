@@ -1,6 +1,6 @@
 // What RV32I, A and Zacas have of an instruction.
 ghost use Rattle.std.specs.Prelude.{◌≡◌, cond};
-ghost use Rattle.isa.specs.Narrow.{kept_load, kept_store, kept_imm, is_double, is_cas, pairs, lacks, paired_if, narrowed};
+ghost use Rattle.isa.specs.Narrow.{kept_load, kept_store, kept_imm, pairs, lacks, paired_if, narrowed};
 
 use crate::{AluOp, Atomic, AtomicOp, Instr, LoadOp, StoreOp, Width};
 
@@ -26,25 +26,11 @@ pub fn kept_imm(op: AluOp, imm: u64) -> bool
     }
 }
 
-fn is_double(w: Width) -> bool
-    ensures { result ≡ is_double w }
-{
-    matches!(w, Width::Double)
-}
-
-fn is_cas(op: AtomicOp) -> bool
-    ensures { result ≡ is_cas op }
-{
-    matches!(op, AtomicOp::Cas)
-}
-
 // Whether an atomic instruction becomes a pair of words: AMOCAS.D, whose registers are even.
 pub fn pairs(a: Atomic) -> bool
     ensures { result ≡ pairs a }
 {
-    let op = a.op;
-    let width = a.width;
-    is_double(width) & (is_cas(op) & ((a.rd % 2 == 0) & (a.rs2 % 2 == 0)))
+    (a.width == Width::Double) & ((a.op == AtomicOp::Cas) & ((a.rd % 2 == 0) & (a.rs2 % 2 == 0)))
 }
 
 // Whether RV32 lacks an instruction: of the atomic ones of width D it has AMOCAS.D alone.
@@ -64,8 +50,7 @@ pub fn lacks(i: Instr) -> bool
 fn double_lacked(a: Atomic) -> bool
     ensures { result ≡ lacks (Instr.Amo a) }
 {
-    let width = a.width;
-    is_double(width) & !pairs(a)
+    (a.width == Width::Double) & !pairs(a)
 }
 
 // What an instruction is where registers have 32 bits.
@@ -88,11 +73,7 @@ fn paired_if(paired: bool, a: Atomic) -> Atomic
     Atomic {
         op: op_if(paired, a),
         width: width_if(paired, a),
-        aq: a.aq,
-        rl: a.rl,
-        rd: a.rd,
-        rs1: a.rs1,
-        rs2: a.rs2,
+        ..a
     }
 }
 

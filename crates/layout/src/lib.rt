@@ -18,8 +18,8 @@ pub fn load_words(bytes: &[u8], place: usize, out: &mut [u64])
     requires { place + 8 * length out.old ≤ length bytes.now }
     ensures { out.new ≡ table (λ i. word_at bytes.now (place + 8 * i)) (length out.old) }
 {
-    for i in 0..out.len() {
-        out[i] = load_at(bytes, place + 8 * i, 8);
+    for (i, word) in out.iter_mut().enumerate() {
+        *word = load_at(bytes, place + 8 * i, 8);
     }
 }
 
@@ -44,8 +44,8 @@ fn load_reservations(bytes: &[u8]) -> [Option<Reservation>; 8]
     ensures { result ≡ table (λ h. reservation_at bytes.now (2120 + 24 * h)) 8 }
 {
     let mut res = [None; 8];
-    for k in 0..8 {
-        res[k] = load_reservation(bytes, 2120 + 24 * k);
+    for (k, held) in res.iter_mut().enumerate() {
+        *held = load_reservation(bytes, 2120 + 24 * k);
     }
     res
 }
@@ -110,8 +110,9 @@ fn store_reservations(bytes: &mut [u8], res: &[Option<Reservation>; 8], count: u
     requires { length bytes.old ≡ state_size }
     ensures { bytes.new ≡ splice bytes.old 2120 (word_bytes (slot_words (take count res.now))) }
 {
-    for k in 0..count.min(8) {
-        store_words(bytes, 2120 + 24 * k, &reservation_words(res[k]));
+    let used = &res[..count.min(8)];
+    for (k, r) in used.iter().enumerate() {
+        store_words(bytes, 2120 + 24 * k, &reservation_words(*r));
     }
 }
 

@@ -107,9 +107,8 @@ pub fn put_lines(out: &mut [u8], at: usize, from: usize, s: State, base: u64, bo
 {
     let mut state = s;
     let mut p = at;
-    for i in 0..body.len() / 24 {
-        let start = i * 24;
-        let e = events::read_event(&body[start..start + 24]);
+    for (i, bytes) in body.chunks_exact(24).enumerate() {
+        let e = events::read_event(bytes);
         let r = advance(&mut state, base, &mut out[from..], e);
         p = put_line(&mut out[..from], p, i as u64, e, r);
     }

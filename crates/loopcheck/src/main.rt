@@ -3,7 +3,6 @@
 // 32: a line `accepted`, `rejected PLACE REASON` or `refused NUMBER`. What can't be read or written is told on standard error.
 #![tactic(auto)]
 
-ghost use Rattle.std.specs.Io.{ReadsAtMost};
 ghost use Rattle.std.specs.Prelude.{IfOk, IfSome, ◌≤◌, length};
 
 use arguments::{argument, is_given, tell};

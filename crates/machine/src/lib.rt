@@ -10,8 +10,19 @@ ghost use Rattle.machine.specs.Rules.{LentRules};
 use reserve::Reservation;
 use settings::{Settings, remainder};
 
+// A lent memory has LEAST to MOST bytes, at a base of at most TOP.
+pub const LEAST: usize = 64;
+
+pub const MOST: usize = 1048576;
+
+pub const TOP: u64 = 1099511627776; // 2^40
+
+// What the numbers of the 32-bit core are below.
+pub const NARROW: u64 = 4294967296; // 2^32
+
 // count harts are used, all with the same settings. x of hart h stands at 32 * h to 32 * h + 31, its pc and its reservation at h. Arrays beside
 // one another and no array of harts: so C keeps a state's bytes (layout), and so the theorems of answers, sc_history and progress read a state.
+// No invariant bounds the count or a hart: a state is given with any numbers, and refusal 2 is for those that have no meaning.
 #[derive(Clone, Copy)]
 pub struct State {
     pub count: usize,
@@ -28,10 +39,11 @@ fn lent_ok(settings: Settings, base: u64, len: usize) -> bool
     ensures { result ≡ lent_ok settings base len }
 {
     let granule = settings::granule(settings);
-    (64 <= len)
-        & ((len <= 1048576)
-            & ((remainder(len as u64, granule) == 0)
-                & ((remainder(base, granule) == 0) & (base <= 1099511627776))))
+    LEAST <= len
+        && len <= MOST
+        && remainder(len as u64, granule) == 0
+        && remainder(base, granule) == 0
+        && base <= TOP
 }
 
 // Whether the end of such a memory is an address of the core's width, or one past the last. At 64 bits it always is.
@@ -41,7 +53,7 @@ pub fn top_ok(settings: Settings, base: u64, len: usize) -> bool
     ensures { result ≡ top_ok settings base len }
 {
     if settings::xlen(settings) == 32 {
-        return base + (len as u64) <= 4294967296;
+        return base + (len as u64) <= NARROW;
     }
     true
 }
@@ -51,13 +63,7 @@ pub fn top_ok(settings: Settings, base: u64, len: usize) -> bool
 fn memory_ok(settings: Settings, base: u64, len: usize) -> bool
     ensures { result ≡ memory_ok settings base len }
 {
-    if !settings::size_ok(settings) {
-        return false;
-    }
-    if lent_ok(settings, base, len) {
-        return top_ok(settings, base, len);
-    }
-    false
+    settings::size_ok(settings) && lent_ok(settings, base, len) && top_ok(settings, base, len)
 }
 
 #[tactic(auto, unfolding(crate::specs::State::reservation_ok))]
@@ -67,12 +73,10 @@ fn reservation_ok(settings: Settings, base: u64, len: usize, r: Option<Reservati
     match r {
         None => true,
         Some(Reservation { addr, width }) => {
-            if (width == 4) | (width == 8) {
-                return (8 * width <= settings::xlen(settings) as u64)
-                    & ((remainder(addr, width) == 0)
-                        & reserve::inside(base, len as u64, addr, width));
-            }
-            false
+            (width == 4 || width == 8)
+                && 8 * width <= u64::from(settings::xlen(settings))
+                && remainder(addr, width) == 0
+                && reserve::inside(base, len as u64, addr, width)
         }
     }
 }
@@ -83,7 +87,7 @@ fn hart_ok(base: u64, len: usize, s: &State, k: usize) -> bool
     requires { k < 8 }
     ensures { result ≡ hart_ok s.now.settings base len (get_or s.now.x (k * 32) 0) (get_or s.now.pc k 0) (get_or s.now.res k None) }
 {
-    (s.x[k * 32] == 0) & ((s.pc[k] % 4 == 0) & reservation_ok(s.settings, base, len, s.res[k]))
+    s.x[k * 32] == 0 && s.pc[k] % 4 == 0 && reservation_ok(s.settings, base, len, s.res[k])
 }
 
 // Whether hart k's registers and pc have no upper half, which only the 32-bit core asks. All 32 are looked at without a branch.
@@ -97,18 +101,18 @@ fn upper_ok(s: &State, k: usize) -> bool
     }
     let mut ok = true;
     for r in 0..32 {
-        ok = ok & (s.x[k * 32 + r] < 4294967296);
+        ok &= s.x[k * 32 + r] < NARROW;
     }
-    ok & (s.pc[k] < 4294967296)
+    ok & (s.pc[k] < NARROW)
 }
 
-// Whether each of the harts that are used is well formed.
+// Whether each of the harts that are used is well formed. By place: a hart is three arrays' parts.
 fn harts_ok(base: u64, len: usize, s: &State) -> bool
     requires { s.now.count ≤ 8 }
     ensures { result ≡ all_below (hart_at s.now.settings base len s.now.x s.now.pc s.now.res) s.now.count }
 {
     for k in 0..s.count {
-        if !(hart_ok(base, len, s, k) & upper_ok(s, k)) {
+        if !(hart_ok(base, len, s, k) && upper_ok(s, k)) {
             return false;
         }
     }
@@ -126,7 +130,7 @@ pub fn refusal(base: u64, len: usize, s: &State) -> Option<u64>
     if s.count == 0 || 8 < s.count {
         return Some(2);
     }
-    if !(settings::reading_ok(s.settings) & settings::misaligned_ok(s.settings)) {
+    if !(settings::reading_ok(s.settings) && settings::misaligned_ok(s.settings)) {
         return Some(2);
     }
     if !harts_ok(base, len, s) {

@@ -1,6 +1,5 @@
 -- What a step comes to is what its act does, and an act done on a machine that isn't refused is the event. Assumes nothing.
-use Rattle.std.proofs.Common.{◌≡◌, refl, ap, ap₂, ◌∙◌, ℕ, zero, suc, ◌+◌, ◌*◌, ◌-◌, ◌≤◌, ◌<◌, List, ◌∷◌, length, take, drop, None, arith}
-use lib.Seq.{drop-drop}
+use Rattle.std.proofs.Common.{◌≡◌, refl, ap, ap₂, ◌∙◌, ℕ, zero, suc, ◌≤◌, List, ◌∷◌, length, take, drop, None, arith}
 use Rattle.machine.specs.State.{refusal_of, refused}
 use Rattle.machine.specs.declared.State.{State}
 use Rattle.machine.proofs.StateLaws.{refused_none, refusal_0}
@@ -68,25 +67,8 @@ take_events zero n body h = refl
 take_events (suc k) zero body h = absurd (omega arith)
 take_events (suc k) (suc n) body h = ap (λ (l : List Event). event_of (take 24 body) ∷ l) (take_events k n (drop 24 body) (omega arith))
 
--- an event whose bytes are cut out of a body
-pub event_cut : (i : ℕ) (body : List ℕ) {e : Event} → e ≡ event_of (take (i * 24 + 24 - i * 24) (drop (i * 24) body))
-    → e ≡ event_of (take 24 (drop (i * 24) body))
-event_cut i body p =
-    let width : i * 24 + 24 - i * 24 ≡ 24 = omega arith in
-    rw width at p
-
--- one event more of a body
-pub events_more : (n i : ℕ) (body : List ℕ) → i < n
-    → first_events (n - i) (drop (i * 24) body) ≡ event_of (take 24 (drop (i * 24) body)) ∷ first_events (n - (i + 1)) (drop ((i + 1) * 24) body)
-unfolding first_events
-events_more n i body h =
-    let e : n - i ≡ suc (n - (i + 1)) = omega arith in
-    let f : (i + 1) * 24 ≡ i * 24 + 24 = omega arith in
-    rw (e, f, drop-drop 24 (i * 24) body)
-
--- event i, performed on m, leaves m': the run from there is the run from m
-pub run_more : (base : ℕ) (m : Machine) {m' : Machine} (n i : ℕ) (body : List ℕ) {e : Event} → i < n
-    → e ≡ event_of (take 24 (drop (i * 24) body)) → m' ≡ next_of base m e
-    → run_of base m' (first_events (n - (i + 1)) (drop ((i + 1) * 24) body)) ≡ run_of base m (first_events (n - i) (drop (i * 24) body))
+-- the event e, performed on m, leaves m': the run of the events after it from there is the run from m
+pub run_more : (base : ℕ) (m : Machine) {m' : Machine} {es left : List Event} {e next : Event} → es ≡ next ∷ left → e ≡ next → m' ≡ next_of base m e
+    → run_of base m' left ≡ run_of base m es
 unfolding run_of
-run_more base m n i body h pe pm = rw (events_more n i body h, pm, pe)
+run_more base m h pe pm = rw (h, pm, pe)

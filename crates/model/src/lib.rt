@@ -12,7 +12,8 @@ use events::Event;
 use machine::State;
 use refusal::Refusal;
 
-// How an event ends. ScStored and ScFailed are the two ends of an SC that does not trap, whatever its rd: 0 and 1.
+// How an event ends. ScStored and ScFailed are the two ends of an SC that does not trap, whatever its rd: 0 and 1. A trap's
+// cause and value and a refusal's number stand in the variants and in no struct of their own: so the theorems of answers and sc_history name them.
 #[derive(Clone, Copy)]
 pub enum Outcome {
     Retired,
@@ -22,14 +23,14 @@ pub enum Outcome {
     Refused { number: u64 },
 }
 
-// What is told of an event: its outcome, and the harts whose reservation it broke, bit k for hart k.
+// What is told of an event: its outcome, and the harts whose reservation it broke, bit k for hart k: bits, as the C interface and the lines have them.
 #[derive(Clone, Copy)]
 pub struct Reply {
     pub outcome: Outcome,
     pub broke: u64,
 }
 
-// The same with the state afterwards.
+// The same with the state afterwards. Beside Reply and not around it: `perform` is public, and its equation names these three fields.
 #[derive(Clone, Copy)]
 pub struct Answer {
     pub outcome: Outcome,
@@ -37,7 +38,8 @@ pub struct Answer {
     pub state: State,
 }
 
-// How a run ended: whether its events were performed or refused, how many were, and the state afterwards.
+// How a run ended: whether its events were performed or refused, how many were, and the state afterwards. No Result around the
+// three: a refused run gives back the state as given, and its equation (result_of) names all three fields.
 #[derive(Clone, Copy)]
 pub struct Ran {
     pub verdict: Result<(), Refusal>,

@@ -26,9 +26,8 @@ fn perform_first(s: &mut State, base: u64, mem: &mut [u8], body: &[u8], n: usize
     requires n_in_bounds { n * 24 ≤ length body.now }
     ensures { record { state = s.new; mem = mem.new } ≡ run_of base (record { state = s.old; mem = mem.old }) (first_events n body.now) }
 {
-    for i in 0..n {
-        let at = i * 24;
-        let e = events::read_event(&body[at..at + 24]);
+    for bytes in body.chunks_exact(24).take(n) {
+        let e = events::read_event(bytes);
         advance(s, base, mem, e);
     }
 }

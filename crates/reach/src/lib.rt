@@ -25,8 +25,8 @@ pub struct Reach {
     pub at: u64,
 }
 
-// What a step of a hart may change, as it was: rd and the register behind it, the pc, the reservations, and 16 bytes of memory, from at on, as two
-// numbers.
+// What a step of a hart may change, as it was: rd and the register behind it, the pc, the reservations, and 16 bytes of memory, from at on. They are two
+// numbers, low and high: so they are saved and put back by two loads and two stores of 8 bytes, with no copy of a buffer.
 #[derive(Clone, Copy)]
 pub struct Saved {
     pub hart: usize,
@@ -40,7 +40,8 @@ pub struct Saved {
     pub high: u64,
 }
 
-// What hart h's word may change, by its class, where registers have xlen bits. Decoding it here too would cost as much as all else of a row.
+// What hart h's word may change, by its class, where registers have xlen bits. Decoding it here too would cost as much as all else of a row. Where a word
+// writes nothing, at is 0, since any window of memory does there.
 #[tactic(auto, unfolding(crate::specs::Reach::reach_in))]
 pub fn reach_in(xlen: u32, word: u32, x: &[u64; 256], h: usize) -> Reach
     requires { (h < 8) × (xlen ≤ 64) }

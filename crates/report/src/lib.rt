@@ -100,7 +100,8 @@ pub fn put_report_on(board: Board, out: &mut [u8], file: &[u8]) -> usize
     }
 }
 
-// The report of any bytes, put into a lent buffer.
+// The report of any bytes, put into a lent buffer, whose length is a clause: C lends a slice, and `capi` refuses a shorter one. `report` below has an
+// array for callers from Rattle.
 #[tactic(auto, using(settings::proofs::SettingsLaws::default_board_allowed))]
 pub fn put_report(out: &mut [u8], file: &[u8]) -> usize
     requires { length out.old ≡ 262144 }
@@ -110,7 +111,7 @@ pub fn put_report(out: &mut [u8], file: &[u8]) -> usize
     put_report_on(settings::default_board(), out, file)
 }
 
-// The text of any bytes on a board: the first r bytes of out are all that the program writes for them.
+// The text of any bytes on a board: as many bytes of out as the result says are all that the program writes for them.
 pub fn report_on(board: Board, file: &[u8], out: &mut [u8; 262144]) -> usize
     requires { BoardRules board }
     ensures prefix_len { IsPrefixLen result out.new }
@@ -119,7 +120,7 @@ pub fn report_on(board: Board, file: &[u8], out: &mut [u8; 262144]) -> usize
     put_report_on(board, out, file)
 }
 
-// The text of any bytes: the first r bytes of out are all that the program writes for them where no board is given.
+// The text of any bytes: as many bytes of out as the result says are all that the program writes for them where no board is given.
 #[tactic(auto, using(settings::proofs::SettingsLaws::default_board_allowed))]
 pub fn report(file: &[u8], out: &mut [u8; 262144]) -> usize
     ensures prefix_len { IsPrefixLen result out.new }

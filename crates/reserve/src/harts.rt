@@ -1,4 +1,5 @@
-// What an event does to the reservations of all harts, which are lent and changed in place.
+// What an event does to the reservations of all harts, which are lent and changed in place. Count and settings are
+// lent beside them and no state is, since a state is of the crate above; that the count is at most 8 is a clause, as there (refusal 2 is for others).
 ghost use Rattle.std.specs.Prelude.{◌≡◌, ◌≤◌};
 ghost use Rattle.word.specs.Each.{each};
 ghost use Rattle.settings.specs.Settings.{SizeRules};
@@ -31,6 +32,7 @@ fn break_all(
     ensures value { result ≡ broken_of settings (write_notice w) count res.old }
 {
     let mut broken: u64 = 0;
+    // tried as res.iter_mut().take(count).enumerate(): the proof didn't close
     for k in 0..count {
         if breaks(settings, k, w, res[k]) {
             res[k] = None;

@@ -16,7 +16,7 @@ fn word_at(bytes: &[u8], i: usize) -> u32
     load_at(bytes, 4 * i, 4) as u32
 }
 
-// The first n words, and zeros. With n beside them, since there is no heap here.
+// The first n words, and zeros. With n beside them, since there is no heap here; by place, since a word is cut out of bytes.
 #[tactic(auto, unfolding(crate::specs::Loop::words_of))]
 fn words(bytes: &[u8], n: usize) -> [u32; 16]
     requires { (n ≤ 16) × (4 * n ≤ length bytes.now) }

@@ -28,8 +28,8 @@ pub enum View {
 #[derive(Clone, Copy)]
 pub enum LoopAnswer {
     Accepted,
-    Rejected { place: usize, reason: usize },
-    Refused { number: usize },
+    Rejected { place: usize, reason: u64 },
+    Refused { number: u64 },
 }
 
 // The words from place 0 on, which is an LR of this rs1 and width.

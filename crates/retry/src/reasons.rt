@@ -15,7 +15,7 @@ fn not_permitted(past: bool, place: usize, v: View) -> bool
 {
     match v {
         View::Lr { .. } | View::Other => 0 < place,
-        View::Sc { .. } => (0 < place) & past,
+        View::Sc { .. } => 0 < place && past,
         _ => false,
     }
 }
@@ -26,9 +26,9 @@ fn wrong_offset(past: bool, place: usize, offset: u64) -> bool
     requires { place < 16 }
     ensures { result ≡ wrong_offset past place offset }
 {
-    let is_above = (0 < offset) & (offset < 0x8000000000000000);
+    let is_above = 0 < offset.cast_signed();
     let target = (4 * (place as u64)).wrapping_add(offset);
-    (offset % 4 != 0) | (!is_above & !(past & (target == 0)))
+    offset % 4 != 0 || (!is_above && !(past && target == 0))
 }
 
 fn bad_jump(past: bool, place: usize, v: View) -> bool
@@ -45,7 +45,7 @@ fn bad_jump(past: bool, place: usize, v: View) -> bool
 fn is_source(rs1: usize, rd: usize) -> bool
     ensures { result ≡ clobbers rs1 rd }
 {
-    (rd == rs1) & (rs1 != 0)
+    rd == rs1 && rs1 != 0
 }
 
 fn overwrites(rs1: usize, past: bool, v: View) -> bool
@@ -53,7 +53,7 @@ fn overwrites(rs1: usize, past: bool, v: View) -> bool
 {
     match v {
         View::Lr { rd, .. } | View::Plain { rd } | View::Jump { rd, .. } => {
-            !past & is_source(rs1, rd)
+            !past && is_source(rs1, rd)
         }
         _ => false,
     }
@@ -63,14 +63,14 @@ fn other_target(rs1: usize, width: usize, past: bool, v: View) -> bool
     ensures { result ≡ reason5 rs1 width past v }
 {
     match v {
-        View::Sc { rs1: s, width: w } => !past & ((w != width) | (s != rs1)),
+        View::Sc { rs1: s, width: w } => !past && (w != width || s != rs1),
         _ => false,
     }
 }
 
 // The lowest reason at a place of the block behind an LR of this rs1 and width.
 #[tactic(auto, unfolding(crate::specs::Loop::lowest_of))]
-pub fn lowest(rs1: usize, width: usize, past: bool, place: usize, v: View) -> Option<usize>
+pub fn lowest(rs1: usize, width: usize, past: bool, place: usize, v: View) -> Option<u64>
     requires { place < 16 }
     ensures { result ≡ reason_in (lowest_of rs1 width past place v) }
 {

@@ -4,10 +4,12 @@ use mathlib.Core.Bool.{Bool, true, false, cond, ◌&&◌, not}
 use Prim.Native.Nat.{ℕ}
 use lib.Dec.{eqb}
 use borrow.Author.Tests.{eq-eqb, ne_eqb}
-use Rattle.std.specs.Prelude.{Ok, Err}
+use Rattle.std.specs.Prelude.{Ok, Err, Option}
+use Rattle.std.specs.Result.{is_err}
+use Rattle.word.proofs.TestLaws.{contrary}
 use Rattle.model.specs.Perform.{Machine}
 use Rattle.steplog.specs.declared.Row.{Row}
-use Rattle.rows.specs.Row.{Told, pc_at, word_at, fetchable, told_by_step, told_by_word, told_by_pc}
+use Rattle.rows.specs.Row.{Told, pc_at, word_at, fetchable, told_by_step, told_by_word, told_by_pc, stepped, after_row}
 use Rattle.rows.specs.declared.Stop.{Stop}
 use Rattle.rows.specs.declared.Stop.TheVariants as S
 
@@ -15,6 +17,18 @@ use Rattle.rows.specs.declared.Stop.TheVariants as S
 pub agrees : (t : Told) → ((s : Stop) → t ≡ Err s → ⊥) → t ≡ Ok tt
 agrees (Ok x) n = refl
 agrees (Err s) n = absurd (n s refl)
+
+-- the machine after a row, by the test of what was told of it
+module _ (base : ℕ) (m : Machine) (r : Option Row) where
+  pub stops : (t : Told) → is_err t ≡ true → m ≡ after_row t base m r
+  unfolding after_row
+  stops (Ok x) e = contrary e refl
+  stops (Err s) e = refl
+
+  pub goes : (t : Told) → is_err t ≡ false → stepped base m r ≡ after_row t base m r
+  unfolding after_row
+  goes (Ok x) e = refl
+  goes (Err s) e = contrary refl e
 
 module _ (base : ℕ) (m : Machine) (r : Row) where
   by_pc : Bool → Told

@@ -3,16 +3,16 @@
 
 pub mod row;
 
-ghost use Rattle.std.specs.Prelude.{◌≡◌, ◌*◌, ◌≤◌, length};
+ghost use Rattle.std.specs.Prelude.{◌≡◌, ◌/◌, length};
 ghost use Rattle.model.specs.Valid.{Valid};
 ghost use Rattle.rows.specs.Replay.{readings, end_of, ended, replay_of};
 
 use machine::State;
 use refusal::Refusal;
-use steplog::digits::digit_table;
 
 // Why a replay ended: all rows agreed, or the first row that did not. Of a difference, the row's own value comes first, the model's second.
 // The place of a refusal by 7 to 11 is one in a case file; that of the others is 0.
+// Four differences are four ends and no one end with a field in it: so the theorems of replay_words name them, and C has a number for each.
 #[derive(Clone, Copy)]
 pub enum Stop {
     Agreed,
@@ -43,19 +43,15 @@ fn refused(number: u64, state: State) -> Replayed
     }
 }
 
-// The first n rows of a log.
-fn replay_rows(state: State, base: u64, mem: &mut [u8], log: &[u8], n: usize) -> Replayed
-    requires valid { Valid base (record { state = state; mem = mem.old }) }
-    requires n_in_bounds { n * 48 ≤ length log.now }
+// The rows of a log.
+fn replay_rows(state: State, base: u64, mem: &mut [u8], log: &[u8]) -> Replayed
+    requires { Valid base (record { state = state; mem = mem.old }) }
     ensures { record { replayed = result; mem = mem.new }
-        ≡ ended (end_of base (record { state = state; mem = mem.old }) (readings state.count n log.now)) }
+        ≡ ended (end_of base (record { state = state; mem = mem.old }) (readings state.count (length log.now / 48) log.now)) }
 {
-    let digits = digit_table();
     let mut s = state;
-    for i in 0..n {
-        let at = i * 48;
-        let end = at + 48;
-        if let Err(stop) = row::compare(&mut s, base, mem, &log[at..end], &digits) {
+    for (i, part) in log.chunks_exact(48).enumerate() {
+        if let Err(stop) = row::compare(&mut s, base, mem, part) {
             return Replayed {
                 stop,
                 rows: i,
@@ -65,7 +61,7 @@ fn replay_rows(state: State, base: u64, mem: &mut [u8], log: &[u8], n: usize) ->
     }
     Replayed {
         stop: Stop::Agreed,
-        rows: n,
+        rows: log.len() / 48,
         state: s,
     }
 }
@@ -82,8 +78,8 @@ pub fn replay(s: State, base: u64, mem: &mut [u8], log: &[u8]) -> Replayed
     if log.len() % 48 != 0 {
         return refused(12, s);
     }
-    if log.len() == 0 {
+    if log.is_empty() {
         return refused(13, s);
     }
-    replay_rows(s, base, mem, log, log.len() / 48)
+    replay_rows(s, base, mem, log)
 }

@@ -13,7 +13,6 @@ use model::Outcome;
 use model::advance::advance;
 use refusal::Refusal;
 use steplog::Row;
-use steplog::digits::Digits;
 
 // rd and value, in this order, against the model's.
 #[tactic(auto, unfolding(crate::specs::Row::told_as))]
@@ -59,13 +58,14 @@ fn perform(s: &mut State, base: u64, mem: &mut [u8], r: Row) -> Result<(), Stop>
     let rd = saved.rd;
     let reply = advance(s, base, mem, Event::Step { hart: h });
     let told = judge(reply.outcome, r, rd, reg(&s.x, h, rd));
-    if let Err(_) = told {
+    if told.is_err() {
         reach::put_back(s, mem, &saved);
     }
     told
 }
 
-// A row that is well formed: its pc, its word if that can be fetched, and the rest. A word that can't be fetched is a trap.
+// A row that is well formed: its pc, its word if that can be fetched, and the rest. A word that can't be fetched is a trap. It is fetched here as
+// well as by the step (`model::advance`), since it is compared before the step is performed.
 #[tactic(auto, unfolding(crate::specs::Row::after_row))]
 fn against(s: &mut State, base: u64, mem: &mut [u8], r: Row) -> Result<(), Stop>
     requires { Valid base (record { state = s.old; mem = mem.old }) × (r.hart < s.old.count) }
@@ -96,22 +96,16 @@ fn against(s: &mut State, base: u64, mem: &mut [u8], r: Row) -> Result<(), Stop>
     perform(s, base, mem, r)
 }
 
-// The 48 bytes of a row; the table of the digits is lent. Where it stops, nothing changes.
+// The 48 bytes of a row. Where it stops, nothing changes.
 #[tactic(auto, unfolding(crate::specs::Row::told_of, crate::specs::Row::after_row))]
-pub fn compare(
-    s: &mut State,
-    base: u64,
-    mem: &mut [u8],
-    part: &[u8],
-    digits: &Digits,
-) -> Result<(), Stop>
+pub fn compare(s: &mut State, base: u64, mem: &mut [u8], part: &[u8]) -> Result<(), Stop>
     requires { Valid base (record { state = s.old; mem = mem.old }) }
     ensures value { result
         ≡ told_of base (record { state = s.old; mem = mem.old }) (reading_of s.old.count part.now) }
     ensures after { record { state = s.new; mem = mem.new }
         ≡ after_row result base (record { state = s.old; mem = mem.old }) (reading_of s.old.count part.now) }
 {
-    match steplog::read_row_by(digits, part, s.count) {
+    match steplog::read_row(part, s.count) {
         None => Err(Stop::Form),
         Some(r) => against(s, base, mem, r),
     }

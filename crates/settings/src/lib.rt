@@ -8,7 +8,8 @@ ghost use Rattle.settings.specs.Boards.{default_board, on_board, board_ok};
 
 // size is the number of bytes of a reservation's set, the same for all harts; version that of A, 20 for 2.0 and 21 for 2.1; kind that of the core, 0 for
 // registers of 64 bits and 1 for registers of 32; misaligned is 0 where a misaligned LR, SC, AMO or AMOCAS gives cause 4 or 6, and 1 where it gives 5 or 7.
-#[derive(Clone, Copy)]
+// SizeRules stands as a clause and in no type, since a state is given with any settings.
+#[derive(Clone, Copy, PartialEq, Eq)]
 pub struct Settings {
     pub size: u64,
     pub version: u64,
@@ -17,7 +18,8 @@ pub struct Settings {
 }
 
 // What a settings file says of a board, as numbers too: board_ok refuses those that are not allowed. The kind isn't in it: every case says its own.
-#[derive(Clone, Copy)]
+// BoardRules stands as a clause and in no type, since C and files give any numbers.
+#[derive(Clone, Copy, PartialEq, Eq)]
 pub struct Board {
     pub size: u64,
     pub version: u64,
@@ -28,24 +30,15 @@ pub struct Board {
 pub fn defaults() -> Settings
     ensures { result ≡ defaults }
 {
-    Settings {
-        size: 64,
-        version: 21,
-        kind: 0,
-        misaligned: 0,
-    }
+    of_kind(21, 0)
 }
 
 // The same with another version of A and another kind.
 pub fn of_kind(version: u64, kind: u64) -> Settings
     ensures { result ≡ of_kind version kind }
 {
-    Settings {
-        size: 64,
-        version,
-        kind,
-        misaligned: 0,
-    }
+    let board = default_board();
+    on_board(Board { version, ..board }, kind)
 }
 
 // What a case runs under that is given without a board.
@@ -87,16 +80,14 @@ pub fn remainder(n: u64, power: u64) -> u64
     n & (power - 1)
 }
 
-// Whether the set's size is allowed (refusal 1): a power of two has no bit in common with the number before it.
+// Whether the set's size is allowed (refusal 1): a power of two has no bit in common with the number before it. Tried as is_power_of_two: the proof
+// didn't close, as it counts the bits that are set, and no lemma says what that count has to do with the rule.
 #[tactic(auto, unfolding(crate::specs::Settings::size_ok))]
 pub fn size_ok(settings: Settings) -> bool
     ensures { result ≡ size_ok settings }
 {
     let size = settings.size;
-    if size < 8 {
-        return false;
-    }
-    (size <= 4096) & (size & (size - 1) == 0)
+    8 <= size && size <= 4096 && size & (size - 1) == 0
 }
 
 // What memory's base and length are multiples of.
@@ -111,7 +102,8 @@ pub fn granule(settings: Settings) -> u64
 fn version_ok(settings: Settings) -> bool
     ensures { result ≡ version_ok settings }
 {
-    (settings.version == 20) | (settings.version == 21)
+    let version = settings.version;
+    version == 20 || version == 21
 }
 
 // Whether the kind is one that there is (refusal 2).
@@ -119,7 +111,7 @@ fn version_ok(settings: Settings) -> bool
 fn kind_ok(settings: Settings) -> bool
     ensures { result ≡ kind_ok settings }
 {
-    (settings.kind == 0) | (settings.kind == 1)
+    settings.kind == 0 || settings.kind == 1
 }
 
 // Both.
@@ -127,7 +119,7 @@ fn kind_ok(settings: Settings) -> bool
 pub fn reading_ok(settings: Settings) -> bool
     ensures { result ≡ reading_ok settings }
 {
-    version_ok(settings) & kind_ok(settings)
+    version_ok(settings) && kind_ok(settings)
 }
 
 // Whether the causes of a misaligned LR, SC, AMO or AMOCAS are ones that there are (refusal 2).
@@ -135,7 +127,7 @@ pub fn reading_ok(settings: Settings) -> bool
 pub fn misaligned_ok(settings: Settings) -> bool
     ensures { result ≡ misaligned_ok settings }
 {
-    (settings.misaligned == 0) | (settings.misaligned == 1)
+    settings.misaligned == 0 || settings.misaligned == 1
 }
 
 // Whether a settings file may have the board (refusal 23 there).
@@ -144,7 +136,7 @@ pub fn board_ok(board: Board) -> bool
     ensures { result ≡ board_ok board }
 {
     let settings = on_board(board, 0);
-    size_ok(settings) & (version_ok(settings) & misaligned_ok(settings))
+    size_ok(settings) && version_ok(settings) && misaligned_ok(settings)
 }
 
 // The cause of a misaligned LR.

@@ -8,7 +8,7 @@ ghost use Rattle.text.specs.Put.{Put};
 ghost use Rattle.text.specs.Number.{digits_from};
 ghost use Rattle.steplog.specs.Row.{row_of, between_ok, reading_of};
 
-use digits::{Digits, digit_table, read_number};
+use digits::read_number;
 use text::{put_byte, put_digits};
 
 // A row: hart, pc, word, rd, and the value in rd afterwards.
@@ -27,20 +27,11 @@ fn between(row: &[u8]) -> bool
     requires { length row.now ≡ 48 }
     ensures { result ≡ between_ok row.now }
 {
-    (row[1] == b' ')
-        & ((row[18] == b' ') & ((row[27] == b' ') & ((row[30] == b' ') & (row[47] == b'\n'))))
+    row[1] == b' ' && row[18] == b' ' && row[27] == b' ' && row[30] == b' ' && row[47] == b'\n'
 }
 
 // The row that a part of a log is; none where it is badly formed.
 pub fn read_row(part: &[u8], count: usize) -> Option<Row>
-    ensures { result ≡ reading_of count part.now }
-{
-    let table = digit_table();
-    read_row_by(&table, part, count)
-}
-
-// The same, with the table of the digits lent.
-pub fn read_row_by(table: &Digits, part: &[u8], count: usize) -> Option<Row>
     ensures { result ≡ reading_of count part.now }
 {
     if part.len() != 48 {
@@ -49,11 +40,11 @@ pub fn read_row_by(table: &Digits, part: &[u8], count: usize) -> Option<Row>
     if !between(part) {
         return None;
     }
-    let hart = read_number(table, &part[0..1], 10)? as usize;
-    let pc = read_number(table, &part[2..18], 16)?;
-    let word = read_number(table, &part[19..27], 16)? as u32;
-    let rd = read_number(table, &part[28..30], 10)? as usize;
-    let value = read_number(table, &part[31..47], 16)?;
+    let hart = read_number(&part[0..1], 10)? as usize;
+    let pc = read_number(&part[2..18], 16)?;
+    let word = read_number(&part[19..27], 16)? as u32;
+    let rd = read_number(&part[28..30], 10)? as usize;
+    let value = read_number(&part[31..47], 16)?;
     if count <= hart {
         return None;
     }

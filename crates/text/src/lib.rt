@@ -36,7 +36,7 @@ fn decimal_length(n: u64) -> usize
 }
 
 // The last k digits of n in a base, from the last back to the first. A table of their characters is faster than a test of each digit, and a base that the
-// compiler knows faster than one that is given.
+// compiler knows faster than one that is given. By place: what is left of n goes from the last place to the first.
 pub fn put_digits<const BASE: u64>(out: &mut [u8], at: usize, n: u64, k: usize) -> usize
     requires { (at + k ≤ length out.old) × (0 < BASE) × (BASE ≤ 16) }
     ensures put { Put out.old at (digits_from BASE k n) out.new result }
@@ -56,7 +56,7 @@ fn decimal_digit(d: u64) -> u8
     requires { d < 10 }
     ensures { result ≡ glyph d }
 {
-    48 + d as u8
+    b'0' + d as u8
 }
 
 // n in decimal, from its last digit back to its first, which is what is left of n below ten. Not by put_digits::<10>: a report of 2,715 events takes 5 percent

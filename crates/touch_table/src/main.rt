@@ -12,14 +12,13 @@ fn line(rt: &impl Print, b: u64, n: u64, c: u64, m: u64) -> io::Result<()> {
 }
 
 fn all(rt: &impl Print, pairs: &[u8]) -> io::Result<()> {
-    for i in 0..pairs.len() / 32 {
-        let at = 32 * i;
+    for pair in pairs.chunks_exact(32) {
         line(
             rt,
-            load_at(pairs, at, 8),
-            load_at(pairs, at + 8, 8),
-            load_at(pairs, at + 16, 8),
-            load_at(pairs, at + 24, 8),
+            load_at(pair, 0, 8),
+            load_at(pair, 8, 8),
+            load_at(pair, 16, 8),
+            load_at(pair, 24, 8),
         )?;
     }
     Ok(())

@@ -12,7 +12,7 @@ use reserve::Reservation;
 use rows::Stop;
 use std::io;
 use text::{put_bytes, put_digits};
-use word::bytes::load_at;
+use word::bytes::load_le;
 
 // The bytes of a file of case i, whose name is the case's number and what kind of file it is. One that can't be opened is told of, and has none.
 fn read_file(rt: &HostRuntime, i: u64, kind: &[u8], buf: &mut [u8]) -> io::Result<usize>
@@ -62,10 +62,10 @@ fn print_harts(rt: &impl Print, s: &State) -> io::Result<()> {
 }
 
 fn print_memory(rt: &impl Print, mem: &[u8]) -> io::Result<()> {
-    for i in 0..mem.len() / 8 {
-        let at = 8 * i;
-        let v = load_at(mem, at, 8);
+    for (i, word) in mem.chunks_exact(8).enumerate() {
+        let v = load_le(word);
         if v != 0 {
+            let at = 8 * i;
             println!(rt; "m {at} {v:016x}")?;
         }
     }

@@ -22,9 +22,9 @@ returns-then-file-lt8 c =
     let t = read_sound _ _ (sym (read_short _ c.if-file-lt8.true)) in
     record { value = t.0; kept = t.1 }
 
-pub returns-then-not-format : goal.returns-then-not-format
-returns-then-not-format c =
-    let t = read_sound _ _ (sym (read_format _ (omega arith) (ap format_ok (sym c.field-format.ensures.value) ∙ c.if-not-format.true))) in
+pub returns-then-not-format_ok : goal.returns-then-not-format_ok
+returns-then-not-format_ok c =
+    let t = read_sound _ _ (sym (read_format _ (omega arith) (ap format_ok (sym c.field-format.ensures.value) ∙ sym c.format_ok.ensures ∙ c.if-not-format_ok.true))) in
     record { value = t.0; kept = t.1 }
 
 pub returns-in_default : goal.returns-in_default
@@ -32,7 +32,7 @@ returns-in_default c =
     let e = c.field-format.ensures.value in
     let t =
     read_sound _ _
-    (sym (read_table _ (omega arith) (known _ _ e c.if-not-format.false) (asked _ _ _ _ e c.field-count.ensures.value c.in_default.ensures))) in
+    (sym (read_table _ (omega arith) (known _ _ e (sym c.format_ok.ensures ∙ c.if-not-format_ok.false)) (asked _ _ _ _ e c.field-count.ensures.value c.in_default.ensures))) in
     record { value = t.0; kept = t.1 }
 
 pub start_of-start-requires : goal.start_of-start-requires
@@ -48,7 +48,7 @@ returns-in-Some-first_bad c =
     let t =
     read_sound _ _
     (ap (refused_file 23) c.start_of-start.ensures
-    ∙ sym (read_by _ (omega arith) (known _ _ e c.if-not-format.false) (asked _ _ _ _ e f table.0) _ _ _ (table.2 ∙ e) (table.3 ∙ f)
+    ∙ sym (read_by _ (omega arith) (known _ _ e (sym c.format_ok.ensures ∙ c.if-not-format_ok.false)) (asked _ _ _ _ e f table.0) _ _ _ (table.2 ∙ e) (table.3 ∙ f)
     (sym c.in-Some-first_bad.is ∙ rw table.1 at c.first_bad.ensures))) in
     record { value = t.0; kept = t.1 }
 
@@ -62,6 +62,6 @@ returns c =
     let t =
     read_sound _ _
     (ap (λ (l : List Board). Ok (record { format = it.format; count = it.count; boards = l })) boards
-    ∙ sym (read_by _ (omega arith) (known _ _ e c.if-not-format.false) (asked _ _ _ _ e f table.0) _ _ _ (table.2 ∙ e) (table.3 ∙ f)
+    ∙ sym (read_by _ (omega arith) (known _ _ e (sym c.format_ok.ensures ∙ c.if-not-format_ok.false)) (asked _ _ _ _ e f table.0) _ _ _ (table.2 ∙ e) (table.3 ∙ f)
     (sym c.in_default-first_bad.is ∙ rw table.1 at c.first_bad.ensures))) in
     record { value = t.0; kept = t.1 }

@@ -1,9 +1,16 @@
-use Rattle.boards.proofs.FileLaws.{start_1, start_else}
-use mathlib.Core.Path.{sym}
+use native.Mathlib.Omega.{arith}
+use Rattle.boards.specs.File.{start_of}
+use Rattle.boards.proofs.FileLaws.{start_most}
 use Rattle.boards.proofs.start_of.Goals as goal
 
-pub returns-then-format-eq1 : goal.returns-then-format-eq1
-returns-then-format-eq1 c = sym (start_1 _ _ _ c.if-format-eq1.true)
+pub overflow_mul-result-2 : goal.overflow_mul-result-2
+unfolding start_of
+overflow_mul-result-2 c = let a = c.args in rw c.body_size.ensures (omega (arith, start_most a.format a.count a.k (omega arith) (omega arith)))
 
-pub returns-else-format-eq1 : goal.returns-else-format-eq1
-returns-else-format-eq1 c = sym (start_else _ _ _ c.if-format-eq1.false)
+pub overflow_add-result-2 : goal.overflow_add-result-2
+unfolding start_of
+overflow_add-result-2 c = let a = c.args in rw c.body_size.ensures (omega (arith, start_most a.format a.count a.k (omega arith) (omega arith)))
+
+pub returns : goal.returns
+unfolding start_of
+returns c = rw c.body_size.ensures

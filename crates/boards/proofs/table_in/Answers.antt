@@ -2,15 +2,15 @@ use mathlib.Core.Path.{refl, sym, ◌∙◌}
 use native.Mathlib.Omega.{arith}
 use Rattle.boards.proofs.FileLaws.{whole_table, table_few, table_many, table_long}
 use Rattle.boards.proofs.table_in.Goals as goal
+use Rattle.boards.proofs.table_in.Goals.{then-count-lt1-via-then-count-lt1, then-count-lt1-via-else-count-lt1+then-count-gt16, then-count-lt1-via-else-count-lt1+else-count-gt16+then-file-start_of}
 
 pub returns-then-count-lt1 : goal.returns-then-count-lt1
-returns-then-count-lt1 c = table_few _ _ _ c.if-count-lt1.true
-
-pub returns-then-count-gt16 : goal.returns-then-count-gt16
-returns-then-count-gt16 c = table_many _ _ _ c.if-count-gt16.true
-
-pub returns-then-file-start_of : goal.returns-then-file-start_of
-returns-then-file-start_of c = table_long _ _ _ (λ e. c.if-file-start_of.true (e ∙ sym c.start_of.ensures))
+returns-then-count-lt1 c =
+    elim c.then-count-lt1.branch [
+      | then-count-lt1-via-then-count-lt1 w ↦ table_few _ _ _ w.if-count-lt1.true
+      | then-count-lt1-via-else-count-lt1+then-count-gt16 w ↦ table_many _ _ _ w.if-count-gt16.true
+      | then-count-lt1-via-else-count-lt1+else-count-gt16+then-file-start_of w ↦ table_long _ _ _ (λ e. w.if-file-start_of.true (e ∙ sym w.start_of.ensures))
+    ]
 
 pub returns-then-entries_ok : goal.returns-then-entries_ok
 returns-then-entries_ok c =

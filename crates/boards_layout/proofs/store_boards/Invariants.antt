@@ -7,4 +7,4 @@ use Rattle.boards_layout.specs.Boards.{board_bytes}
 use Rattle.boards_layout.proofs.store_boards.Given as goal
 
 abbrev pub invariant-loop-k : goal.invariant-loop-k
-invariant-loop-k l = l.bytes ≡ splice l.initial.bytes 0 (blocks (λ j. board_bytes (get_or l.boards j no_board)) l.k)
+invariant-loop-k l = l.bytes ≡ splice l.initial.bytes 0 (blocks (λ j. board_bytes (get_or l.board-items j no_board)) l.k)

@@ -5,4 +5,4 @@ use Rattle.layout.specs.Layout.{reservation_at}
 use Rattle.layout.proofs.load_reservations.Given as goal
 
 abbrev pub invariant-loop-k : goal.invariant-loop-k
-invariant-loop-k l = l.res ≡ each (λ h _. reservation_at l.bytes (2120 + 24 * h)) l.k (replicate 8 None)
+invariant-loop-k l = l.held-items ≡ each (λ h _. reservation_at l.bytes (2120 + 24 * h)) l.k (replicate 8 None)

@@ -5,4 +5,4 @@ use Rattle.layout.proofs.store_reservations.Given as goal
 
 abbrev pub invariant-loop-k : goal.invariant-loop-k
 invariant-loop-k l =
-    (length l.bytes ≡ length l.initial.bytes) × (l.bytes ≡ splice l.initial.bytes 2120 (word_bytes (slot_words (take l.k l.res))))
+    (length l.bytes ≡ length l.initial.bytes) × (l.bytes ≡ splice l.initial.bytes 2120 (word_bytes (slot_words (take l.k l.used))))

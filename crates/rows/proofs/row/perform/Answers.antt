@@ -1,8 +1,8 @@
-use Rattle.std.proofs.Common.{ap, ◌∙◌, rules, arith}
+use Rattle.std.proofs.Common.{sym, ap, ◌∙◌, rules, arith}
 use Rattle.reach.specs.Back.{saved_of}
 use Rattle.reach.specs.declared.Saved.{Saved}
-use Rattle.rows.specs.Row.{stepped, after_row}
-use Rattle.rows.proofs.ToldLaws.{agrees}
+use Rattle.rows.specs.Row.{stepped}
+use Rattle.rows.proofs.ToldLaws.{stops, goes}
 use Rattle.rows.proofs.RowLaws.{row_told_lem, undone}
 use Rattle.rows.proofs.row.perform.Goals as goal
 
@@ -12,22 +12,21 @@ put_back-requires c =
     let hart = ap (λ (k : Saved). k.hart) c.save-saved.ensures.value in
     (omega (arith, hart, c.requires.valid.1.1, c.requires.counted), omega (arith, c.advance-reply.auto.mem, c.save-saved.ensures.room))
 
-pub returns-in-Err-clause-value : goal.returns-in-Err-clause-value
-returns-in-Err-clause-value c =
+pub returns-then-is_err-clause-value : goal.returns-then-is_err-clause-value
+returns-then-is_err-clause-value c =
     let after = c.advance-reply.ensures in
     row_told_lem _ _ _ c.requires c.save-saved.ensures.value after.machine after.outcome c.reg.ensures c.judge-told.ensures
 
-pub returns-in-Err-clause-after : goal.returns-in-Err-clause-after
-unfolding after_row
-returns-in-Err-clause-after c =
+pub returns-then-is_err-clause-after : goal.returns-then-is_err-clause-after
+returns-then-is_err-clause-after c =
     let back = undone _ _ _ c.requires c.save-saved.ensures.value c.advance-reply.ensures.machine (search rules) in
-    rw c.in-Err.is (c.put_back.ensures ∙ back)
+    c.put_back.ensures ∙ back ∙ stops _ _ _ _ (sym c.is_err.ensures.value ∙ c.if-is_err.true)
 
-pub returns-in_default-clause-value : goal.returns-in_default-clause-value
-returns-in_default-clause-value c =
+pub returns-else-is_err-clause-value : goal.returns-else-is_err-clause-value
+returns-else-is_err-clause-value c =
     let after = c.advance-reply.ensures in
     row_told_lem _ _ _ c.requires c.save-saved.ensures.value after.machine after.outcome c.reg.ensures c.judge-told.ensures
 
-pub returns-in_default-clause-after : goal.returns-in_default-clause-after
-unfolding after_row stepped
-returns-in_default-clause-after c = rw (agrees _ c.in_default.not-Err) c.advance-reply.ensures.machine
+pub returns-else-is_err-clause-after : goal.returns-else-is_err-clause-after
+unfolding stepped
+returns-else-is_err-clause-after c = c.advance-reply.ensures.machine ∙ goes _ _ _ _ (sym c.is_err.ensures.value ∙ c.if-is_err.false)

@@ -1,22 +1,17 @@
 use mathlib.Core.Path.{◌≡◌, sym, ap, ◌∙◌}
-use mathlib.Core.Bool.{Bool, false, cond, ◌&&◌}
-use mathlib.Core.List.{List, []}
+use mathlib.Core.Bool.{Bool, false, ◌&&◌}
+use mathlib.Core.List.{[]}
 use Prim.Native.Nat.{ℕ, suc, ◌+◌, ◌*◌, ◌^◌, ◌<◌, ◌≤◌}
 use native.Mathlib.Nat.{lt_of_lt_of_le}
 use native.Mathlib.Numerals.{add-one}
 use native.Mathlib.Omega.{arith}
-use Rattle.std.proofs.Common.{rules}
 use lib.ListN.{get_or, drop, drop_of_length-le}
 use Rattle.std.specs.Prelude.{Some}
-use Rattle.text.specs.Number.{digit_of, read_from}
+use Rattle.text.specs.Number.{read_from}
 use Rattle.steplog.specs.Digits.{is_digit, all_digits}
 use Rattle.steplog.proofs.DigitsLaws.{looked_up, not_looked_up, next_below, digits_room, read_turn, digits_turn, number_good, number_bad, digits_nil}
+use Rattle.steplog.proofs.TableLaws.{found}
 use Rattle.steplog.proofs.digits.read_number.Goals as goal
-
--- what the table has for a character
-found : (digits : List ℕ) (x : ℕ) (d : ℕ) → ((i : ℕ) → i < 256 → get_or digits i 0 ≡ cond (is_digit 16 i) (digit_of i) 16) → x < 256 → d ≡ get_or digits x 0
-    → d ≡ cond (is_digit 16 x) (digit_of x) 16
-found digits x d table fits said = said ∙ table x fits
 
 -- the next value is below the next power, and that fits 64 bits
 below : (base i value d : ℕ) → value < base ^ i → d < base → base ≤ 16 → i < 16 → value * base + d < 2 ^ 64
@@ -28,7 +23,7 @@ returns-then-base-d c =
     let x = c.args in
     let s = x.s.now in
     let i = turn.c-index in
-    let told = found x.digits.now.table (get_or s i 0) c.from-d.result (search rules) (c.type_inv.s i).fits c.from-d.ensures in
+    let told = found (get_or s i 0) _ c.from-d.result (c.type_inv.s i).fits c.from.ensures c.from-d.ensures in
     let bad : is_digit x.base (get_or s i 0) ≡ false = not_looked_up x.base (get_or s i 0) c.from-d.result (omega arith) told (omega arith) in
     sym
     (number_bad x.base s
@@ -47,7 +42,7 @@ loop-c-preserved c =
     let s = x.s.now in
     let i = turn.c-index in
     let d = c.from-d.result in
-    let told = found x.digits.now.table (get_or s i 0) d (search rules) (c.type_inv.s i).fits c.from-d.ensures in
+    let told = found (get_or s i 0) _ d (c.type_inv.s i).fits c.from.ensures c.from-d.ensures in
     let good = looked_up x.base (get_or s i 0) d (omega arith) told (omega arith) in (
       rw (add-one i) (next_below x.base i turn.value d turn.invariant.0 (omega arith)),
       turn.invariant.1 ∙ digits_turn x.base i s (omega arith) ∙ ap (λ (b : Bool). b && all_digits x.base (drop (i + 1) s)) good.0,

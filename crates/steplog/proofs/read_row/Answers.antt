@@ -6,7 +6,7 @@ use Rattle.word.proofs.MemoryLaws.{length_part}
 use Rattle.word.proofs.TestLaws.{contrary}
 use Rattle.steplog.proofs.DigitsLaws.{number_none, number_below}
 use Rattle.steplog.proofs.ReadLaws.{form_fails, digits_say, counts, field_is, row_read}
-use Rattle.steplog.proofs.read_row_by.Goals as goal
+use Rattle.steplog.proofs.read_row.Goals as goal
 
 pub returns-then-part-ne48 : goal.returns-then-part-ne48
 returns-then-part-ne48 c = form_fails _ _ (λ f. c.if-part-ne48.true f.long)
