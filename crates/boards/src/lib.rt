@@ -144,7 +144,7 @@ fn first_bad(table: Table) -> Option<usize>
     )
 }
 
-// The boards of the bodies.
+// The boards of the bodies. By number, since no slice is gone through.
 fn boards_in(table: Table) -> [Board; 16]
     ensures { result ≡ boards_in table.entry.file.now table.entry.format table.entry.count }
 {
@@ -209,7 +209,7 @@ fn put_entry(out: &mut [u8], place: usize, start: usize)
     store_at(out, place + 4, 4, 4);
 }
 
-// Writes the table.
+// Writes the table. By number, since no slice is gone through.
 fn put_entries(out: &mut [u8], count: usize)
     requires { (count ≤ 16) × (8 + 12 * count ≤ length out.old) }
     ensures { out.new ≡ splice out.old 8 (blocks (entry_bytes count) count) }

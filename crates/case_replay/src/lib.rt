@@ -31,7 +31,7 @@ pub fn replay_case_on(board: Board, file: &mut [u8], log: &[u8]) -> Replayed
     }
 }
 
-// The same where no board is given.
+// The same where no board is given. README and docs name it beside the one on a board.
 #[tactic(auto, using(settings::proofs::SettingsLaws::default_board_allowed))]
 pub fn replay_case(file: &mut [u8], log: &[u8]) -> Replayed
     ensures value { result ≡ (file_replay file.old log.now).replayed }

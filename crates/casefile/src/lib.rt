@@ -290,7 +290,7 @@ pub fn read_case_on(board: Board, file: &[u8]) -> Result<Case, Refusal>
     read_bodies(board, file, bodies)
 }
 
-// The case that a file is, or why it is none.
+// The case that a file is, or why it is none. README and docs name it: the one on a board, at the default board.
 #[tactic(auto, using(settings::proofs::SettingsLaws::default_board_allowed))]
 pub fn read_case(file: &[u8]) -> Result<Case, Refusal>
     ensures value { result ≡ case_of file.now }

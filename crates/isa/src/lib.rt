@@ -176,7 +176,8 @@ pub enum Instr {
     Amo(Atomic),
 }
 
-// The bits of a register's part that an atomic of this width moves.
+// The bits of a register's part that an atomic of this width moves. Two arms here and in the two below, as their definitions have them: a product of one of
+// them would be no shorter.
 pub fn bits_of(w: Width) -> u32
     ensures { (result ≡ bits_of w) × (0 < result) × (result ≤ 64) }
 {

@@ -18,7 +18,7 @@ use model::Outcome;
 use steplog::Row;
 use word::bytes::load_at;
 
-// Why a step has no row.
+// Why a step has no row. A refusal by its number, as the crate refusal says why.
 #[derive(Clone, Copy)]
 pub enum NoRow {
     Trap { cause: u64, value: u64 },

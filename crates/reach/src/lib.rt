@@ -64,7 +64,7 @@ pub fn reach_in(xlen: u32, word: u32, x: &[u64; 256], h: usize) -> Reach
     }
 }
 
-// Where 16 bytes of a memory start that hold those from a on.
+// Where 16 bytes of a memory start that hold those from a on. That there are 16 is a clause here and below: it is a fact of a place and a memory.
 #[tactic(auto, using(reserve::proofs::RangeLaws::inside_of_lem))]
 pub fn window(base: u64, len: usize, a: u64) -> usize
     requires { 16 ≤ len }

@@ -13,7 +13,7 @@ fn write_line(rt: &impl Print, settings: Settings, words: &[u8]) -> io::Result<(
     rt.write_all(&out[..r])
 }
 
-// A block that the input cuts short ends it.
+// A block that the input cuts short ends it. A while: how long a block says it is decides where the next begins.
 fn all(rt: &impl Print, blocks: &[u8]) -> io::Result<()> {
     let mut left = blocks;
     while let [version, kind, count, behind @ ..] = left {
