@@ -1015,6 +1015,15 @@ int main(int argc, char **argv)
 '''
 
 
+@unittest.skipUnless(shutil.which('nm') and os.path.exists(LIBRARY), 'no nm, or target/staticlib/libcapi.a is not built')
+class Needs(unittest.TestCase):
+    """What the library needs from outside, as the header says: a program without a C library gives it these two."""
+
+    def test_memcpy_and_memset(self):
+        run = subprocess.run(['nm', '-u', LIBRARY], stdout=subprocess.PIPE, check=True, text=True)
+        self.assertEqual(set(re.findall(r' U (\S+)', run.stdout)), {'memcpy', 'memset'})
+
+
 @unittest.skipUnless(CC and os.path.exists(LIBRARY), 'no C compiler, or target/staticlib/libcapi.a is not built')
 class Library(unittest.TestCase):
     def setUp(self):

@@ -23,6 +23,14 @@ module _ (m a b : ℕ) (h : a < m) where
   pub high_half : (a + m * b) / m ≡ b
   high_half = ap (λ (x : ℕ). x / m) turned ∙ digits_div b h
 
+-- one number has one pair of halves
+module _ (m a b c d : ℕ) (h : a < m) (k : c < m) (e : a + m * b ≡ c + m * d) where
+  pub same_low : a ≡ c
+  same_low = sym (low_half m a b h) ∙ ap (λ (v : ℕ). v % m) e ∙ low_half m c d k
+
+  pub same_high : b ≡ d
+  same_high = sym (high_half m a b h) ∙ ap (λ (v : ℕ). v / m) e ∙ high_half m c d k
+
 pub le_pair : (n : ℕ) (bs : List ℕ) → length bs ≡ n + n → le (part bs 0 n) + 256 ^ n * le (part bs n n) ≡ le bs
 unfolding part
 le_pair n bs l =

@@ -146,8 +146,8 @@ fn case<R: Read>(rt: &impl Print, reader: &mut R, item: &[u8; 24], line: u64) ->
 
 fn main(rt: HostRuntime) -> io::Result<()> {
     let mut item: [u8; 24] = [0; 24];
-    // A for, whose numbers no input gets through, since no contract of C's read says that an input ends.
-    for line in 1..u64::MAX {
+    // Fewer than a million cases: what stands behind them isn't read.
+    for line in 1..1000000 {
         if read_full(&mut rt.stdin(), &mut item)? != 24 {
             return Ok(());
         }

@@ -1,5 +1,5 @@
--- The numbers of events and runs are small. Assumes nothing.
-use mathlib.Core.Path.{sym, subst}
+-- The numbers of events and runs are small, and what is written is what an answer says. Assumes nothing.
+use mathlib.Core.Path.{◌≡◌, sym, ◌∙◌, subst}
 use mathlib.Core.Bool.{Bool, true, false, cond}
 use mathlib.Core.List.{List}
 use Prim.Native.Nat.{ℕ, ◌≤◌}
@@ -13,12 +13,14 @@ use Rattle.events.specs.Events.{Checked, checked_of}
 use Rattle.events.specs.declared.Event.{Event}
 use Rattle.model.specs.Perform.{answer_of}
 use Rattle.model.specs.Run.{run_checked, refused_run, result_of}
+use Rattle.model.specs.declared.Answer.{Answer}
+use Rattle.model.specs.declared.Ran.{Ran}
 use Rattle.model.specs.declared.Outcome.{Outcome}
 use Rattle.model.specs.declared.Outcome.TheVariants.{Retired, ScStored, ScFailed, Trap, Refused}
 use Rattle.model.specs.Retired.{IsRetired}
 use Rattle.answers.specs.Answered.{Answered, refused, trapped, retired}
 use Rattle.answers.proofs.Answers.{answered}
-use Rattle.capi.specs.Events.{Small, SmallVerdict}
+use Rattle.capi.specs.Events.{state_if, Small, is_retired, is_performed, SmallVerdict}
 
 small_retired : (o : Outcome) → IsRetired o → Small o
 small_retired Retired r = tt
@@ -59,3 +61,13 @@ module _ (base : ℕ) (mem : List ℕ) (s : State) where
           ).ran.verdict
       go true = small_checked (checked_of s.count base (length mem) body) body budget
       go false = omega (arith, small_refusal)
+
+-- the bytes of a state written if a flag says so, where the flag and the state are those of an answer
+module _ (state : List ℕ) where
+  pub event_written : (a b : Answer) → a ≡ b → (t : Bool) → t ≡ is_retired a.outcome → (new : List ℕ) → new ≡ state_if t state a.state
+      → new ≡ state_if (is_retired b.outcome) state b.state
+  event_written a b p t f new e = e ∙ rw (f, p)
+
+  pub run_written : (a b : Ran) → a ≡ b → (t : Bool) → t ≡ is_performed a.verdict → (new : List ℕ) → new ≡ state_if t state a.state
+      → new ≡ state_if (is_performed b.verdict) state b.state
+  run_written a b p t f new e = e ∙ rw (f, p)

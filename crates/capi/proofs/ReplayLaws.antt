@@ -1,7 +1,7 @@
--- The numbers of a replay are small. Assumes nothing.
+-- The numbers of a replay are small, and what is written is what an answer says. Assumes nothing.
 use Rattle.std.specs.Prelude.{Option, Some, None, Ok, Err}
-use mathlib.Core.Path.{refl}
-use mathlib.Core.Bool.{◌&&◌, not}
+use mathlib.Core.Path.{◌≡◌, refl, ◌∙◌}
+use mathlib.Core.Bool.{Bool, ◌&&◌, not}
 use mathlib.Core.List.{List, [], ◌∷◌}
 use Prim.Native.Nat.{ℕ, ◌/◌, ◌%◌}
 use native.Mathlib.Omega.{arith}
@@ -18,9 +18,12 @@ use Rattle.steplog.specs.declared.Row.{Row}
 use Rattle.rows.specs.Row.{Told, pc_at, word_at, fetchable, rd_at, value_after, told_as, told_by, told_by_word, told_by_pc, told_of, stepped}
 use Rattle.rows.specs.Replay.{readings, End, end_by, end_of, Result, ended, refused_replay, replay_of}
 use Rattle.rows.specs.declared.Stop.TheVariants as S
-use Rattle.capi.specs.Events.{Small}
-use Rattle.capi.specs.Replay.{SmallStop}
+use Rattle.rows.specs.declared.Replayed.{Replayed}
+use Rattle.capi.specs.Events.{state_if, Small}
+use Rattle.capi.specs.Replay.{is_replayed, SmallStop}
 use Rattle.capi.proofs.EventLaws.{small_answer, small_refusal}
+
+-- ---- the numbers are small
 
 abbrev SmallTold : Told → Type 0
 SmallTold (Ok x) = Unit {0}
@@ -79,3 +82,10 @@ module _ (base : ℕ) (mem : List ℕ) (s : State) (log : List ℕ) where
       (small_end base (record { state = s; mem = mem }) (readings s.count (length log / 48) log)))
       (omega arith, refl))
       (omega (arith, small_refusal base mem s), refl)
+
+-- ---- what is written
+
+-- the bytes of a state written if a flag says so, where the flag and the state are those of an answer
+pub replay_written : (state : List ℕ) (a b : Replayed) → a ≡ b → (t : Bool) → t ≡ is_replayed a.stop → (new : List ℕ)
+    → new ≡ state_if t state a.state → new ≡ state_if (is_replayed b.stop) state b.state
+replay_written state a b p t f new e = e ∙ rw (f, p)

@@ -32,6 +32,11 @@ abbrev pub read_boards : Result SettingsFile Refusal → List Board
 read_boards (Err r) = replicate 16 no_board
 read_boards (Ok f) = f.boards
 
+-- what keeps the answers small
+abbrev pub SmallRead : Result SettingsFile Refusal → Type 0
+SmallRead (Err r) = r.number ≤ 23
+SmallRead (Ok f) = Unit {0}
+
 -- What is left where the file is this: two numbers are told, the format, or the place of a refusal, and how many boards there are; sixteen boards are
 -- written, those of the file and zeros behind them.
 pub record SettingsTold (f : Result SettingsFile Refusal) (r : ℕ) (boards' told' : List ℕ) : Type 0 where

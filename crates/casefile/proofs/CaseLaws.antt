@@ -114,6 +114,9 @@ module _ (board : Board) where
   unfolding state_of
   case_settings_on file c read = ap (λ (k : Case). k.state.settings) ((accepted_exact_on board file c).0 read).0
 
+  pub read_sound : BoardRules board → (file : List ℕ) (r : Result Case Refusal) → r ≡ case_on board file → (r ≡ case_on board file) × SoundCase file r
+  read_sound ok file r h = (h, subst (λ (c : Result Case Refusal). SoundCase file c) (sym h) (case_sound_on ok file))
+
 -- where no board is given
 pub case_sound : (file : List ℕ) → SoundCase file (case_of file)
 case_sound = case_sound_on default_board default_board_allowed

@@ -17,8 +17,8 @@ use Rattle.word.specs.Each.{each, all_below}
 use Rattle.word.proofs.TestLaws.{and_both, or_either, bool_cases}
 use Rattle.word.proofs.EachLaws.{each_suc, each_at, each_past, length-each, all_at, all_intro}
 use Rattle.settings.proofs.SettingsLaws.{xlen_64, granule_power}
-use Rattle.settings.specs.Settings.{PowerOfTwo, xlen_of, granule_of}
-use Rattle.settings.specs.Boards.{BoardRules}
+use Rattle.settings.specs.Settings.{of_kind, PowerOfTwo, xlen_of, granule_of}
+use Rattle.settings.specs.Boards.{default_board, BoardRules}
 use Rattle.settings.specs.declared.Board.{Board}
 use Rattle.reserve.specs.declared.Reservation.{Reservation}
 use Rattle.machine.specs.Rules.{HartRules, UpperZero, StateRules, Shaped}
@@ -179,3 +179,10 @@ none_shaped = record { registers = length-replicate {A = ℕ} 256 0; pcs = lengt
 pub none_settings : (no_state.settings.size ≡ 64) × (no_state.settings.version ≡ 21) × (no_state.settings.misaligned ≡ 0)
 unfolding no_state
 none_settings = (refl, refl, refl)
+
+-- where no board is given, a case has the defaults but for its kind, and 9 and 10 ask for multiples of 64
+pub default_settings : (body : List ℕ) → settings_of default_board body ≡ of_kind 21 (kind_of body)
+default_settings body = refl
+
+pub default_granule : (body : List ℕ) → granule_of (settings_of default_board body) ≡ 64
+default_granule body = refl

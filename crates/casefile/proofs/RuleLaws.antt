@@ -43,7 +43,7 @@ from_place : {A : Type 0} (p q k : ℕ) → q ≡ k → (A → ⊥) → (k < p �
 from_place p q k e w a = bool_cases (ltb k p) (λ t. absurd (w (a (ltb-true k p t)))) (λ t. omega (arith, ltb-false k p t))
 
 module _ (settings : Settings) where
-  length_exact : (n : ℕ) → (length_ok settings n ≡ true) ↔ LengthRules settings n
+  pub length_exact : (n : ℕ) → (length_ok settings n ≡ true) ↔ LengthRules settings n
   unfolding length_ok
   length_exact n = (
     λ e.

@@ -17,7 +17,7 @@ ghost use Rattle.effect.specs.Execute.{reg_at, pair_at, exec_atomic, execute, ex
 use alu::integer::add;
 use alu::swap::Pair;
 use effect::{Effect, Trap};
-use exec::integer::{branch, compute, holds, jump};
+use exec::integer::{branch, computed, holds, jump};
 use exec::memory::{load, store};
 use exec::{Site, atomic};
 use isa::narrow::{lacks, op_if, pairs, width_if};
@@ -54,6 +54,7 @@ fn reg_pair(w: Width, x: &[u64; 256], h: usize, r: usize) -> Pair
 
 // An AMOCAS of a pair, each half of width w, by its registers.
 fn cas_pair(s: &State, site: Site, w: Width, m: Atomic, mem: &mut [u8]) -> Result<Effect, Trap>
+    requires { site.hart < 8 }
     ensures { Meets site.hart (exec_cas_pair site.xlen site.misaligned w m.rd (reg_at s.now.x site.hart m.rs1) (pair_at w (reg_at s.now.x site.hart) m.rd)
         (pair_at w (reg_at s.now.x site.hart) m.rs2) site.pc site.base mem.old) site.base mem.old result mem.new }
 {
@@ -74,7 +75,7 @@ fn atomic(
     m: Atomic,
     mem: &mut [u8],
 ) -> Result<Effect, Trap>
-    requires { SizeRules s.now.settings × (bits_of w ≤ site.xlen) }
+    requires { (site.hart < 8) × SizeRules s.now.settings × (bits_of w ≤ site.xlen) }
     ensures { Meets site.hart (exec_atomic site.xlen site.misaligned (with_op op w m) (reg_at s.now.x site.hart) site.pc site.base mem.old
         (covers_of s.now.settings (get_or s.now.res site.hart None))) site.base mem.old result mem.new }
 {
@@ -100,7 +101,7 @@ fn pairs_at(xlen: u32, m: Atomic) -> bool
 
 // The same with the operation and the width that it has where registers have xlen bits.
 fn atomic_at(s: &State, site: Site, m: Atomic, mem: &mut [u8]) -> Result<Effect, Trap>
-    requires { SizeRules s.now.settings × (bits_of (cond (eqb site.xlen 32 && pairs m) Width.Word m.width) ≤ site.xlen) }
+    requires { (site.hart < 8) × SizeRules s.now.settings × (bits_of (cond (eqb site.xlen 32 && pairs m) Width.Word m.width) ≤ site.xlen) }
     ensures { Meets site.hart (exec_atomic site.xlen site.misaligned (paired_if (eqb site.xlen 32 && pairs m) m) (reg_at s.now.x site.hart) site.pc site.base
         mem.old (covers_of s.now.settings (get_or s.now.res site.hart None))) site.base mem.old result mem.new }
 {
@@ -127,15 +128,15 @@ fn compute_at(xlen: u32, op: AluOp, a: u64, b: u64) -> u64
     ensures { result ≡ computed xlen xlen op a b }
 {
     if xlen == 64 {
-        return compute(64, op, 64, a, b);
+        return computed(64, op, 64, a, b);
     }
-    compute(32, op, 32, a, b)
+    computed(32, op, 32, a, b)
 }
 
 // An instruction that isn't lacked where registers have xlen bits. The word is the value of cause 2.
 #[tactic(auto, using(exec::proofs::MemoryByLaws::memory_by_jump, exec::proofs::MemoryByLaws::memory_by_branch, exec::proofs::MemoryByLaws::memory_by_load), unfolding(effect::specs::Execute::execute))]
 fn execute(s: &State, site: Site, i: Instr, word: u32, mem: &mut [u8]) -> Result<Effect, Trap>
-    requires { SizeRules s.now.settings × Fitting site.xlen (paired_at site.xlen i) }
+    requires { (site.hart < 8) × SizeRules s.now.settings × Xlen site.xlen × Fitting site.xlen (paired_at site.xlen i) }
     ensures { Meets site.hart (execute site.xlen site.misaligned (paired_at site.xlen i) word (reg_at s.now.x site.hart) site.pc site.base mem.old
         (covers_of s.now.settings (get_or s.now.res site.hart None))) site.base mem.old result mem.new }
 {
@@ -166,7 +167,7 @@ fn execute(s: &State, site: Site, i: Instr, word: u32, mem: &mut [u8]) -> Result
             site.retire(rd, v, Notice::Quiet)
         }
         Instr::OpImm32 { op, rd, rs1, imm } => {
-            let v = compute(64, op, 32, reg(x, h, rs1), imm);
+            let v = computed(64, op, 32, reg(x, h, rs1), imm);
             site.retire(rd, v, Notice::Quiet)
         }
         Instr::Op { op, rd, rs1, rs2 } => {
@@ -174,7 +175,7 @@ fn execute(s: &State, site: Site, i: Instr, word: u32, mem: &mut [u8]) -> Result
             site.retire(rd, v, Notice::Quiet)
         }
         Instr::Op32 { op, rd, rs1, rs2 } => {
-            let v = compute(64, op, 32, reg(x, h, rs1), reg(x, h, rs2));
+            let v = computed(64, op, 32, reg(x, h, rs1), reg(x, h, rs2));
             site.retire(rd, v, Notice::Quiet)
         }
         Instr::Fence { .. } => site.retire(0, 0, Notice::Quiet),

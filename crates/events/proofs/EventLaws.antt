@@ -1,14 +1,34 @@
 -- The events one after another. Assumes nothing.
 use mathlib.Core.Path.{◌≡◌, refl, sym, ap, ◌∙◌}
-use mathlib.Core.Bool.{cond}
+use mathlib.Core.Bool.{true, false, cond}
 use mathlib.Core.List.{List, [], ◌∷◌, ◌++◌}
-use Prim.Native.Nat.{ℕ, zero, suc, ◌+◌, ◌*◌, ◌/◌, ◌<◌}
+use Prim.Native.Nat.{ℕ, zero, suc, ◌+◌, ◌-◌, ◌*◌, ◌/◌, ◌<◌}
 use native.Mathlib.Omega.{arith}
 use lib.ListN.{length, take, drop, length-append}
 use lib.Seq.{take_at, drop_at, drop-drop}
 use Rattle.word.specs.Memory.{part}
 use Rattle.events.specs.Events.{event_of, good_event, first_bad, first_events, events_of}
 use Rattle.std.specs.Prelude.{Ok, Err}
+
+-- the first bad one of n events, one after another, wherever they stand
+module _ (count base len : ℕ) (body : List ℕ) where
+  pub first_bad_zero : (n at : ℕ) → n ≡ 0 → first_bad count base len body n at ≡ Ok tt
+  unfolding first_bad
+  first_bad_zero zero at h = refl
+  first_bad_zero (suc n) at h = absurd (omega arith)
+
+  pub first_bad_good : (n at : ℕ) → 0 < n → good_event count base len (part body at 24) ≡ true
+      → first_bad count base len body n at ≡ first_bad count base len body (n - 1) (at + 24)
+  unfolding first_bad
+  first_bad_good zero at h e = absurd (omega arith)
+  first_bad_good (suc n) at h e =
+      let l : suc n - 1 ≡ n = omega arith in
+      rw (e, l)
+
+  pub first_bad_bad : (n at : ℕ) → 0 < n → good_event count base len (part body at 24) ≡ false → first_bad count base len body n at ≡ Err at
+  unfolding first_bad
+  first_bad_bad zero at h e = absurd (omega arith)
+  first_bad_bad (suc n) at h e = rw e
 
 -- a body whose next event is cut off
 module _ (rest e left : List ℕ) (cut : rest ≡ e ++ left) (whole : length e ≡ 24) where

@@ -31,7 +31,7 @@ module _ (unaligned outside a n base len : ℕ) where
         go true t q = cc q
         go false t q = let no : Ok at ≡ Err t = q in absurd cc
 
-    passed : (e : Exec) → e ≡ checked unaligned outside a n base len e
+    pub passed : (e : Exec) → e ≡ checked unaligned outside a n base len e
     unfolding checked
     passed e = go (eqb (fault_of unaligned outside a n base len) 0) _ found
       where
@@ -46,7 +46,7 @@ module _ (unaligned outside a n base len : ℕ) where
 
   -- or it traps, and `?` returns the trap
   module _ {t : Trap} (found : Err t ≡ accessed unaligned outside a n base len) where
-    trapped : (e : Exec) → trap t.cause t.value ≡ checked unaligned outside a n base len e
+    pub trapped : (e : Exec) → trap t.cause t.value ≡ checked unaligned outside a n base len e
     unfolding checked
     trapped e = go (eqb (fault_of unaligned outside a n base len) 0) _ found
       where

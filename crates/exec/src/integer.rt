@@ -1,10 +1,10 @@
 // Integer operations, jumps and branches. They tell reservations nothing, so that the answer is the same for every hart h.
 ghost use Rattle.std.specs.Prelude.{◌≡◌, ℕ, ◌%◌, ◌≤◌, ◌<◌, cond, eqb};
 ghost use Rattle.word.specs.Word.{Xlen};
-ghost use Rattle.effect.specs.Effect.{trap, effect, one, nothing, done_of};
+ghost use Rattle.effect.specs.Effect.{trap, effect, one, nothing, done_of, sets};
 ghost use Rattle.effect.specs.Integer.{computed, exec_jump, holds_of, exec_branch};
 
-use crate::Site;
+use crate::{Site, retire};
 use alu::integer::{add, less};
 use effect::{Effect, Trap};
 use isa::{AluOp, BranchOp};
@@ -13,13 +13,29 @@ use word::num::{sign_extend, wrap};
 
 // OP and OP-IMM at xlen bits, OP-32 and OP-IMM-32 at 32: what the register gets.
 #[tactic(auto, using(word::proofs::WordLaws::low_lt), unfolding(effect::specs::Integer::computed))]
-pub fn compute(xlen: u32, op: AluOp, bits: u32, a: u64, b: u64) -> u64
+pub fn computed(xlen: u32, op: AluOp, bits: u32, a: u64, b: u64) -> u64
     requires { Xlen bits × (bits ≤ xlen) × (xlen ≤ 64) }
     ensures { result ≡ computed xlen bits op a b }
 {
     let x = wrap(a, bits);
     let y = wrap(b, bits);
     sign_extend(alu::integer::operate(op, bits, x, y), bits, xlen)
+}
+
+// The register set to that, and the next word comes next.
+pub fn compute(
+    xlen: u32,
+    op: AluOp,
+    bits: u32,
+    rd: usize,
+    a: u64,
+    b: u64,
+    pc: u64,
+) -> Result<Effect, Trap>
+    requires { Xlen bits × (bits ≤ xlen) × (xlen ≤ 64) }
+    ensures { (h : ℕ) → result ≡ done_of h (sets xlen rd (computed xlen bits op a b) pc) }
+{
+    retire(xlen, rd, computed(xlen, op, bits, a, b), pc, Notice::Quiet)
 }
 
 // A jump to a target, which sets one register, or its trap. The answer is the same for every hart h, as those below are.

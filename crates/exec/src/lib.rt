@@ -2,7 +2,8 @@
 // is written.
 #![tactic(auto)]
 
-ghost use Rattle.std.specs.Prelude.{◌≡◌, ◌<◌, ◌||◌, ◌==◌, true};
+ghost use Rattle.std.specs.Prelude.{◌≡◌, ◌≤◌};
+ghost use Rattle.effect.specs.Effect.{one, retired, next_pc};
 
 use alu::integer::add;
 use effect::{Effect, Trap};
@@ -21,17 +22,29 @@ pub struct Site {
     pub hart: usize,
     pub pc: u64,
     pub base: u64,
-    ghost width: { (xlen == 32 || xlen == 64) ≡ true },
-    ghost hart_bound: { hart < 8 },
+    ghost width: { xlen ≤ 64 },
+}
+
+// One register is set, and the next word comes next. Setting x0 is setting none.
+pub fn retire(xlen: u32, rd: usize, value: u64, pc: u64, notice: Notice) -> Result<Effect, Trap>
+    requires { xlen ≤ 64 }
+    ensures { result ≡ retired (one rd value) (next_pc xlen pc) notice }
+{
+    Ok(Effect {
+        rd,
+        value,
+        rd2: 0,
+        value2: 0,
+        next: add(pc, 4, xlen),
+        notice,
+    })
 }
 
 impl Site {
-    ghost use Rattle.std.specs.Prelude.{◌-◌, ◌+◌, ◌≤◌, cond, eqb, IfOk};
-    ghost use Rattle.effect.specs.Effect.{one, retired, next_pc};
+    ghost use Rattle.std.specs.Prelude.{◌-◌, ◌+◌, ◌<◌, ◌≤◌, cond, eqb, IfOk};
     ghost use Rattle.effect.specs.Memory.{fault_of};
 
-    // The place in a memory of len bytes of an access of n bytes at a, or its trap. The caller gives both causes: 4 and 5 for what loads, 6 and 7 for what
-    // stores; an atomic access has the first by its setting.
+    // The place in a memory of len bytes of an access of n bytes at a, or its trap.
     #[tactic(auto, using(reserve::proofs::RangeLaws::inside_of_lem), unfolding(effect::specs::Memory::fault_of))]
     fn access(
         self,
@@ -46,32 +59,17 @@ impl Site {
             result ≡ cond (eqb cause 0) (Ok (a - self.base)) (Err (record { cause = cause; value = a })) }
         ensures in_bounds { IfOk result (λ at. at + n ≤ len) }
     {
-        if a % (n as u64) != 0 {
-            return Err(Trap {
-                cause: unaligned,
-                value: a,
-            });
+        let cause = memory::fault(unaligned, outside, a, n, self.base, len);
+        if cause != 0 {
+            return Err(Trap { cause, value: a });
         }
-        if reserve::inside(self.base, len as u64, a, n as u64) {
-            return Ok((a - self.base) as usize);
-        }
-        Err(Trap {
-            cause: outside,
-            value: a,
-        })
+        Ok((a - self.base) as usize)
     }
 
-    // One register is set, and the next word comes next. Setting x0 is setting none.
+    // The same at this site.
     pub fn retire(self, rd: usize, value: u64, notice: Notice) -> Result<Effect, Trap>
         ensures { result ≡ retired (one rd value) (next_pc self.xlen self.pc) notice }
     {
-        Ok(Effect {
-            rd,
-            value,
-            rd2: 0,
-            value2: 0,
-            next: add(self.pc, 4, self.xlen),
-            notice,
-        })
+        retire(self.xlen, rd, value, self.pc, notice)
     }
 }

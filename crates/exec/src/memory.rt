@@ -1,7 +1,7 @@
 // Loads and stores.
 ghost use Rattle.std.specs.Prelude.{◌≡◌, ℕ, ◌*◌, ◌≤◌, ◌<◌, ◌^◌};
 ghost use Rattle.effect.specs.Effect.{done_of, Meets};
-ghost use Rattle.effect.specs.Memory.{load_bytes, extended, exec_load, store_bytes, exec_store};
+ghost use Rattle.effect.specs.Memory.{fault_of, load_bytes, extended, exec_load, store_bytes, exec_store};
 
 use crate::Site;
 use effect::{Effect, Trap};
@@ -9,6 +9,22 @@ use isa::{LoadOp, StoreOp};
 use reserve::Notice;
 use word::bytes::{load_at, store_at};
 use word::num::sign_extend;
+
+// The cause of an access of n bytes at a that traps, or 0. The caller gives both causes: 4 and 5 for what loads, 6 and 7 for what stores; an atomic access
+// has the first by its setting.
+#[tactic(auto, unfolding(effect::specs::Memory::fault_of))]
+pub fn fault(unaligned: u64, outside: u64, a: u64, n: usize, base: u64, len: usize) -> u64
+    requires { 0 < n }
+    ensures { result ≡ fault_of unaligned outside a n base len }
+{
+    if a % (n as u64) != 0 {
+        return unaligned;
+    }
+    if reserve::inside(base, len as u64, a, n as u64) {
+        return 0;
+    }
+    outside
+}
 
 fn load_bytes(op: LoadOp) -> usize
     ensures { (result ≡ load_bytes op) × (0 < result) × (result ≤ 8) }

@@ -5,3 +5,4 @@ pub mod NarrowLaws
 pub mod Legal32Laws
 pub mod EntryLaws
 pub mod TablesLaws
+pub mod ClassLaws

@@ -11,7 +11,7 @@ use Rattle.isa.specs.Fields.{bits, imm_b, imm_j, low_b, low_j}
 use Rattle.isa.specs.Decode.{decode_of}
 use Rattle.isa.specs.Narrow.{if_kept, kept_load, kept_store, kept_imm, even_pairs, with_op, narrowed_double, narrowed_atomic, narrowed, narrowed_at, decode_at}
 use Rattle.isa.specs.Narrow.{is_double, is_cas, lacks, paired_if, paired_by, paired_at}
-use Rattle.isa.specs.Wf.{Regs}
+use Rattle.isa.specs.Wf.{Regs, Imms}
 use Rattle.isa.specs.declared.AtomicOp.{AtomicOp}
 use Rattle.isa.specs.declared.AtomicOp.TheVariants.{Lr, Sc, Cas, CasPair, Rmw}
 use Rattle.isa.specs.declared.Width.{Width}
@@ -21,7 +21,7 @@ use Rattle.isa.specs.declared.Instr.{Instr}
 use Rattle.isa.specs.declared.Instr.TheVariants.{Illegal, Lui, Auipc, Jal, Jalr, Branch, Load, Store}
 use Rattle.isa.specs.declared.Instr.TheVariants.{OpImm, OpImm32, Op, Op32, Fence, Ecall, Ebreak, Amo}
 use Rattle.isa.proofs.OffsetLaws.{forward}
-use Rattle.isa.proofs.DecodeLaws.{decoded, regs_below}
+use Rattle.isa.proofs.DecodeLaws.{decoded, regs_below, imms_below}
 
 -- at 64 bits nothing is narrowed
 pub decode_64 : (w : ℕ) → decode_at 64 w ≡ decode_of w
@@ -157,6 +157,9 @@ module _ (P : Instr → Type 0) (illegal : P Illegal) (pair : (a : Atomic) → P
 
 pub regs_at : (xlen w : ℕ) → Regs (decode_at xlen w)
 regs_at xlen w = at_width Regs tt (λ a p. p) xlen w (regs_below w)
+
+pub imms_at : (xlen w : ℕ) → Imms (decode_at xlen w)
+imms_at xlen w = at_width Imms tt (λ a p. tt) xlen w (imms_below w)
 
 -- what leads forward by this offset leads less than 2 ^ 21 bytes away
 abbrev pub Short : ℕ → Type 0

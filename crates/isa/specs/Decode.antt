@@ -54,6 +54,24 @@ class_at n = select n classes Some None
 unfoldable pub class_of : ℕ → Option Class
 class_of w = cond (eqb (bits 1 0 w) 3) (class_at (bits 6 2 w)) None
 
+-- the classes numbered in the map's order, from 1; 0 is no class
+abbrev pub class_number : Option Class → ℕ
+class_number None = 0
+class_number (Some C.Load) = 1
+class_number (Some C.MiscMem) = 2
+class_number (Some C.OpImm) = 3
+class_number (Some C.Auipc) = 4
+class_number (Some C.OpImm32) = 5
+class_number (Some C.Store) = 6
+class_number (Some C.Amo) = 7
+class_number (Some C.Op) = 8
+class_number (Some C.Lui) = 9
+class_number (Some C.Op32) = 10
+class_number (Some C.Branch) = 11
+class_number (Some C.Jalr) = 12
+class_number (Some C.Jal) = 13
+class_number (Some C.System) = 14
+
 -- LUI, AUIPC, JAL
 abbrev pub lui_of : ℕ → Instr
 lui_of w = Lui (rd_of w) (imm_u w)

@@ -24,7 +24,7 @@ use Rattle.machine.specs.Rules.{LentRules, TopRules, MemoryRules, WrongMemory, b
 use Rattle.machine.specs.Rules.{ReservationRules, UpperZero, HartRules, StateRules}
 use Rattle.machine.specs.declared.State.{State}
 
-width_exact : (w : ℕ) → ((eqb w 4 || eqb w 8) ≡ true) ↔ ((w ≡ 4) ⊎ (w ≡ 8))
+pub width_exact : (w : ℕ) → ((eqb w 4 || eqb w 8) ≡ true) ↔ ((w ≡ 4) ⊎ (w ≡ 8))
 width_exact w = (
   λ e. ⊎_elim (λ (t : eqb w 4 ≡ true). inl (eqb-true w 4 t)) (λ (t : eqb w 8 ≡ true). inr (eqb-true w 8 t)) (or_either (eqb w 4) (eqb w 8) e),
   λ q. ⊎_elim (λ (e : w ≡ 4). rw e) (λ (e : w ≡ 8). rw e) q,

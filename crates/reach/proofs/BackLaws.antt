@@ -67,7 +67,7 @@ module _ (h d : ℕ) (x : List ℕ) where
       ∙ back_one v
 
   -- whatever the step sets, that puts it back
-  registers_back : (a : ℕ) (e : Exec) → Reaches d a e → back (registers_after (of_exec h e) x) ≡ x
+  pub registers_back : (a : ℕ) (e : Exec) → Reaches d a e → back (registers_after (of_exec h e) x) ≡ x
   registers_back a (trap cause value) s = back_none
   registers_back a (effect none to t) s = back_none
   registers_back a (effect (one r v) to t) s = ap (λ (k : ℕ). back (set_reg h k v x)) s.0 ∙ back_one v
@@ -77,7 +77,7 @@ module _ (h d : ℕ) (x : List ℕ) where
       ∙ back_pair v v2 (subst (λ (k : ℕ). k < 32) s.0.0 s.0.1)
 
 -- and the pc
-pcs_back : (h : ℕ) (pc : List ℕ) (e : Exec) → set (pcs_after (of_exec h e) pc) h (get_or pc h 0) ≡ pc
+pub pcs_back : (h : ℕ) (pc : List ℕ) (e : Exec) → set (pcs_after (of_exec h e) pc) h (get_or pc h 0) ≡ pc
 pcs_back h pc (trap cause value) = set-get_or pc h 0
 pcs_back h pc (effect ws to t) = set-set pc h to (get_or pc h 0) ∙ set-get_or pc h 0
 
@@ -134,7 +134,7 @@ module _ (mem : List ℕ) where
       ap (λ (n : ℕ). to_le n (le (part mem at 8))) (sym (length_part mem at 8 fit)) ∙ to_le-le (part mem at 8) (bytes_part mem at 8 bytes)
 
   -- 16 bytes put back, as two numbers, where only they have changed
-  sixteen_back : (at : ℕ) (m : List ℕ) → IsBytes mem → at + 16 ≤ length mem → Outside mem at (at + 16) m
+  pub sixteen_back : (at : ℕ) (m : List ℕ) → IsBytes mem → at + 16 ≤ length mem → Outside mem at (at + 16) m
       → splice (splice m at (to_le 8 (le (part mem at 8)))) (at + 8) (to_le 8 (le (part mem (at + 8) 8))) ≡ mem
   sixteen_back at m bytes fit o =
       let first = outside_back at (at + 16) 8 m (omega arith) fit o in
@@ -173,7 +173,7 @@ module _ (base : ℕ) (mem : List ℕ) (a : ℕ) (enough : 16 ≤ length mem) wh
   exec_window d (effect ws to t) o h = access_window t o.1 h.1
 
   -- a step undone: the window's 16 bytes from before, put back
-  undone : (d : ℕ) (e : Exec) → IsBytes mem → Sound base (length mem) e → Reaches d a e
+  pub undone : (d : ℕ) (e : Exec) → IsBytes mem → Sound base (length mem) e → Reaches d a e
       → (let at = window_of base (length mem) a in
       splice (splice (memory_by base mem e) at (to_le 8 (le (part mem at 8)))) (at + 8) (to_le 8 (le (part mem (at + 8) 8))) ≡ mem)
   undone d e bytes o h = sixteen_back mem _ (memory_by base mem e) bytes window_room (exec_window d e o h)

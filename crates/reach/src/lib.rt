@@ -3,11 +3,11 @@
 #![tactic(auto)]
 
 ghost use Rattle.std.specs.Prelude.{◌≡◌, ◌+◌, ◌<◌, ◌≤◌, length};
-ghost use Rattle.word.specs.Bytes.{le};
-ghost use Rattle.word.specs.Memory.{part};
+ghost use Rattle.word.specs.Bytes.{le, to_le};
+ghost use Rattle.word.specs.Memory.{part, splice};
 ghost use Rattle.effect.specs.Execute.{reg_at};
 ghost use Rattle.reach.specs.Reach.{window_of, reach_in};
-ghost use Rattle.reach.specs.Back.{saved_of, put_back};
+ghost use Rattle.reach.specs.Back.{saved_at, saved_of, put_back};
 
 use alu::integer::add;
 use dispatch::reg;
@@ -77,16 +77,39 @@ pub fn window(base: u64, len: usize, a: u64) -> usize
     }
 }
 
-// What the word may change that hart h is to step on.
-#[tactic(auto, using(settings::proofs::SettingsLaws::xlen_is, word::proofs::WordLaws::xlen_bounds), unfolding(crate::specs::Back::saved_of))]
-pub fn save(s: &State, h: usize, word: u32, base: u64, mem: &[u8]) -> Saved
-    requires { (h < 8) × (16 ≤ length mem.now) }
-    ensures value { result ≡ saved_of base (record { state = s.now; mem = mem.now }) h word }
-    ensures room { result.at + 16 ≤ length mem.now }
+// 16 bytes of memory, as two numbers.
+#[derive(Clone, Copy)]
+pub struct Sixteen {
+    pub low: u64,
+    pub high: u64,
+}
+
+// Those from at on, wherever they lie.
+pub fn sixteen_at(mem: &[u8], at: usize) -> Sixteen
+    requires { at + 16 ≤ length mem.now }
+    ensures { result ≡ record { low = le (part mem.now at 8); high = le (part mem.now (at + 8) 8) } }
 {
-    let reach = reach_in(settings::xlen(s.settings), word, &s.x, h);
-    let rd = reach.rd;
-    let at = window(base, mem.len(), reach.at);
+    Sixteen {
+        low: load_at(mem, at, 8),
+        high: load_at(mem, at + 8, 8),
+    }
+}
+
+// 16 bytes put there.
+pub fn put_sixteen(mem: &mut [u8], at: usize, bytes: Sixteen)
+    requires { at + 16 ≤ length mem.old }
+    ensures { mem.new ≡ splice (splice mem.old at (to_le 8 bytes.low)) (at + 8) (to_le 8 bytes.high) }
+{
+    store_at(mem, at, 8, bytes.low);
+    store_at(mem, at + 8, 8, bytes.high);
+}
+
+// Of hart h, register rd and the one behind it, the pc, the reservations, and 16 bytes of memory, wherever they lie.
+pub fn save_at(s: &State, h: usize, rd: usize, at: usize, mem: &[u8]) -> Saved
+    requires { (h < 8) × (at + 16 ≤ length mem.now) }
+    ensures { result ≡ saved_at at (record { state = s.now; mem = mem.now }) h rd }
+{
+    let bytes = sixteen_at(mem, at);
     Saved {
         hart: h,
         rd,
@@ -95,9 +118,21 @@ pub fn save(s: &State, h: usize, word: u32, base: u64, mem: &[u8]) -> Saved
         pc: s.pc[h],
         res: s.res,
         at,
-        low: load_at(mem, at, 8),
-        high: load_at(mem, at + 8, 8),
+        low: bytes.low,
+        high: bytes.high,
     }
+}
+
+// What the word may change that hart h is to step on.
+#[tactic(auto, using(settings::proofs::SettingsLaws::xlen_is, word::proofs::WordLaws::xlen_bounds), unfolding(crate::specs::Back::saved_of))]
+pub fn save(s: &State, h: usize, word: u32, base: u64, mem: &[u8]) -> Saved
+    requires { (h < 8) × (16 ≤ length mem.now) }
+    ensures value { result ≡ saved_of base (record { state = s.now; mem = mem.now }) h word }
+    ensures room { result.at + 16 ≤ length mem.now }
+{
+    let reach = reach_in(settings::xlen(s.settings), word, &s.x, h);
+    let at = window(base, mem.len(), reach.at);
+    save_at(s, h, reach.rd, at, mem)
 }
 
 // All that is not saved stays.
@@ -110,6 +145,9 @@ pub fn put_back(s: &mut State, mem: &mut [u8], k: &Saved)
     set_reg(&mut s.x, k.hart, k.rd % 32 + 1, k.second);
     s.pc[k.hart] = k.pc;
     s.res = k.res;
-    store_at(mem, k.at, 8, k.low);
-    store_at(mem, k.at + 8, 8, k.high);
+    let bytes = Sixteen {
+        low: k.low,
+        high: k.high,
+    };
+    put_sixteen(mem, k.at, bytes);
 }

@@ -2,10 +2,12 @@
 use mathlib.Core.Path.{◌≡◌, refl, ap}
 use Rattle.std.specs.Prelude.{Ok, Err, Option, None, Some}
 use mathlib.Core.List.{List, ◌∷◌, ◌++◌}
-use Prim.Native.Nat.{ℕ, suc, ◌+◌, ◌/◌}
+use Prim.Native.Nat.{ℕ, suc, ◌+◌, ◌-◌, ◌*◌, ◌/◌, ◌<◌}
 use native.Mathlib.Omega.{arith}
-use lib.ListN.{length, length-append}
-use lib.Seq.{take_at, drop_at}
+use lib.ListN.{length, take, drop, length-append}
+use lib.Seq.{take_at, drop_at, drop-drop}
+use Rattle.word.specs.Memory.{part}
+use Rattle.word.proofs.MemoryLaws.{lent_part}
 use Rattle.events.specs.declared.Event.TheVariants.{Step}
 use Rattle.model.specs.Perform.{Machine}
 use Rattle.model.specs.Valid.{Valid}
@@ -24,14 +26,29 @@ further k e = record { stop = e.stop; rows = k + e.rows; machine = e.machine }
 pub further_none : (e : End) → further 0 e ≡ e
 further_none e = ap (λ (k : ℕ). record { stop = e.stop; rows = k; machine = e.machine }) (omega arith)
 
+-- a row whose bytes are cut out of a log
+pub row_cut : (i : ℕ) (log : List ℕ) → take (i * 48 + 48 - i * 48) (drop (i * 48) log) ≡ take 48 (drop (i * 48) log)
+unfolding part
+row_cut i log = lent_part log (i * 48) 48
+
+-- one row more of a log
+pub readings_more : (count n i : ℕ) (log : List ℕ) → i < n
+    → readings count (n - i) (drop (i * 48) log)
+    ≡ reading_of count (take 48 (drop (i * 48) log)) ∷ readings count (n - (i + 1)) (drop ((i + 1) * 48) log)
+unfolding readings
+readings_more count n i log h =
+    let e : n - i ≡ suc (n - (i + 1)) = omega arith in
+    let f : (i + 1) * 48 ≡ i * 48 + 48 = omega arith in
+    rw (e, f, drop-drop 48 (i * 48) log)
+
 -- the first row of a log, and the rows behind it
 pub one_more : (row more : List ℕ) → length row ≡ 48 → length (row ++ more) / 48 ≡ suc (length more / 48)
 one_more row more h = omega (arith, length-append row more, h)
 
-pub readings_more : (count : ℕ) (row more : List ℕ) → length row ≡ 48
+pub readings_next : (count : ℕ) (row more : List ℕ) → length row ≡ 48
     → readings count (length (row ++ more) / 48) (row ++ more) ≡ reading_of count row ∷ readings count (length more / 48) more
 unfolding readings
-readings_more count row more h = rw (one_more row more h, take_at row more 48 h, drop_at row more 48 h)
+readings_next count row more h = rw (one_more row more h, take_at row more 48 h, drop_at row more 48 h)
 
 module _ (base : ℕ) (m : Machine) (r : Option Row) (rs : List (Option Row)) (i : ℕ) where
   -- a row that agrees, and those behind it

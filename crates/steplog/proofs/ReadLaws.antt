@@ -3,17 +3,19 @@ use Rattle.std.specs.Prelude.{Some, None}
 use mathlib.Core.Path.{◌≡◌, sym, ap, ap₂, ◌∙◌}
 use mathlib.Core.Bool.{Bool, true, false, cond, ◌&&◌}
 use mathlib.Core.List.{List}
-use Prim.Native.Nat.{ℕ, ◌<◌}
-use borrow.Author.Tests.{eq-eqb, eqb-true, lt-ltb, ltb-true}
+use Prim.Native.Nat.{ℕ, ◌^◌, ◌<◌}
+use native.Mathlib.Omega.{arith}
+use borrow.Author.Tests.{eq-eqb, ne_eqb, eqb-true, lt-ltb, ltb-true}
 use lib.Dec.{ltb, eqb}
 use lib.ListN.{length, get_or}
 use Rattle.word.specs.Memory.{part}
+use Rattle.word.proofs.MemoryLaws.{length_part}
 use Rattle.word.proofs.TestLaws.{bool_cases, and_both}
 use Rattle.text.specs.Number.{read_from}
 use Rattle.steplog.specs.Digits.{all_digits, number_of}
 use Rattle.steplog.specs.Row.{between_ok, digits_ok, row_in, form_ok, reading_of}
 use Rattle.steplog.specs.declared.Row.{Row}
-use Rattle.steplog.proofs.DigitsLaws.{number_says}
+use Rattle.steplog.proofs.DigitsLaws.{digits_below, number_says}
 
 pub reading_row : (count : ℕ) (bytes : List ℕ) → form_ok count bytes ≡ true → reading_of count bytes ≡ Some (row_in bytes)
 unfolding reading_of
@@ -22,6 +24,11 @@ reading_row count bytes e = ap (λ (t : Bool). cond t (Some (row_in bytes)) None
 pub reading_form : (count : ℕ) (bytes : List ℕ) → form_ok count bytes ≡ false → reading_of count bytes ≡ None
 unfolding reading_of
 reading_form count bytes e = ap (λ (t : Bool). cond t (Some (row_in bytes)) None) e
+
+-- a part of another length
+pub form_length : (count : ℕ) (bytes : List ℕ) → (length bytes ≡ 48 → ⊥) → form_ok count bytes ≡ false
+unfolding form_ok
+form_length count bytes h = ap (λ (t : Bool). t && (between_ok bytes && (digits_ok bytes && ltb (row_in bytes).hart count))) (ne_eqb (length bytes) 48 h)
 
 -- the tests of a well-formed row, one by one
 pub record Formed (count : ℕ) (bytes : List ℕ) : Type 0 where
@@ -108,6 +115,12 @@ pub record FieldIs (bytes : List ℕ) (base place k n : ℕ) : Type 0 where
 
 pub field_is : (bytes : List ℕ) (base place k n : ℕ) → number_of base (part bytes place k) ≡ Some n → FieldIs bytes base place k n
 field_is bytes base place k n e = let s = number_says base (part bytes place k) n e in record { digits = s.0; value = s.1 }
+
+-- a word of 8 digits fits 32 bits
+pub word_below : (bytes : List ℕ) (word : ℕ) → length bytes ≡ 48 → FieldIs bytes 16 19 8 word → word < 2 ^ 32
+word_below bytes word long is =
+    let few : length (part bytes 19 8) ≡ 8 = length_part bytes 19 8 (omega (arith, long)) in
+    rw is.value (rw few at (digits_below 16 (part bytes 19 8) is.digits))
 
 -- the hart that its digit is
 pub counts : (count : ℕ) (bytes : List ℕ) (hart : ℕ) → Formed count bytes → FieldIs bytes 10 0 1 hart → hart < count

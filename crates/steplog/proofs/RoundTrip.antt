@@ -200,6 +200,9 @@ module _ (count : ℕ) (bytes : List ℕ) (f : Formed count bytes) where
         value = below bytes 16 31 16 (room 47 (lit≤ tt)) digits.value;
       }
 
+pub form_is_no_row : (r : Row) → None ≡ Some r → ⊥
+form_is_no_row r e = cc
+
 -- what is read was written: bytes that are read as a row are that row's text, and the row fits
 pub read_was_written : (count : ℕ) (bytes : List ℕ) (r : Row) → reading_of count bytes ≡ Some r → Fits count r × (bytes ≡ row_of r)
 read_was_written count bytes r e =

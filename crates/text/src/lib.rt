@@ -20,9 +20,11 @@ pub fn put_bytes(out: &mut [u8], at: usize, s: &[u8]) -> usize
     requires { at + length s.now ≤ length out.old }
     ensures { Put out.old at s.now out.new result }
 {
-    let past = at + s.len();
-    out[at..past].copy_from_slice(s);
-    past
+    // A loop and no copy_from_slice: that calls memmove, and the library for C needs only memcpy and memset.
+    for i in 0..s.len() {
+        out[at + i] = s[i];
+    }
+    at + s.len()
 }
 
 // How many digits n has in decimal.

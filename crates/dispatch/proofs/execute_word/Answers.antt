@@ -1,9 +1,7 @@
-use Rattle.std.proofs.Common.{◌≡◌, refl, sym, ◌∙◌, ℕ, true, ◌||◌, ◌==◌}
-use lib.Dec.{eqb}
-use Rattle.settings.specs.Settings.{xlen_of}
+use Rattle.std.proofs.Common.{refl, sym, ◌∙◌}
 use Rattle.settings.proofs.SettingsLaws.{xlen_is}
 use Rattle.effect.specs.Execute.{execute}
-use Rattle.word.proofs.ChooseLaws.{cond_all}
+use Rattle.word.proofs.WordLaws.{xlen_bounds}
 use Rattle.dispatch.proofs.NarrowedLaws.{met_as, lacked_word, had_word, had_fits}
 use Rattle.dispatch.proofs.execute_word.Goals as goal
 
@@ -14,15 +12,15 @@ returns-then-lacked_at c =
     met_as (lacked_word _ _ _ c.decode-i.ensures gone _ _ _ _ _ _) (rw c.from.ensures (record { answer = refl; memory = refl }))
 
 pub invariant_of-site : goal.invariant_of-site
-unfolding xlen_of
-invariant_of-site c = record {
-  width = rw c.xlen.ensures (cond_all (λ (k : ℕ). (k == 32 || k == 64) ≡ true) (eqb c.args.s.now.settings.kind 1) 32 64 refl refl);
-  hart_bound = c.requires.0;
-}
+invariant_of-site c = record { width = rw c.xlen.ensures (xlen_bounds _ (xlen_is _)).1 }
 
 pub execute-requires : goal.execute-requires
-execute-requires c =
-    (c.requires.1, had_fits _ _ _ c.decode-i.ensures (sym c.lacked_at.ensures ∙ c.if-lacked_at.false) (rw c.xlen.ensures (xlen_is _)))
+execute-requires c = (
+  c.requires.0,
+  c.requires.1,
+  rw c.xlen.ensures (xlen_is _),
+  had_fits _ _ _ c.decode-i.ensures (sym c.lacked_at.ensures ∙ c.if-lacked_at.false) (rw c.xlen.ensures (xlen_is _)),
+)
 
 pub returns : goal.returns
 returns c =

@@ -10,7 +10,7 @@ use Rattle.rows.specs.Row.{told_of, after_row}
 use Rattle.rows.specs.Replay.{readings, end_of, ended}
 use Rattle.rows.specs.declared.Stop.TheVariants.{Agreed}
 use Rattle.rows.proofs.ToldLaws.{agrees}
-use Rattle.rows.proofs.ReplayLaws.{further, further_none, readings_more, end_more, end_stop, valid_stepped, count_stepped}
+use Rattle.rows.proofs.ReplayLaws.{further, further_none, readings_next, end_more, end_stop, valid_stepped, count_stepped}
 use Rattle.rows.proofs.replay_rows.Goals as goal
 
 pub loop-i-init : goal.loop-i-init
@@ -37,7 +37,7 @@ loop-i-preserved c =
     let long = step.0.1.1 ∙ l.invariant.size in
     let next = step.2 in
     let rows = readings count (length rest / 48) rest in
-    let all = ap (λ (log : List ℕ). readings count (length log / 48) log) cuts ∙ readings_more count part rest long in
+    let all = ap (λ (log : List ℕ). readings count (length log / 48) log) cuts ∙ readings_next count part rest long in
     let cut = ap (λ (k : ℕ). reading_of k part) l.invariant.count in
     let told = agrees _ c.in_default.not-Err in
     let agreed = ap (told_of a.base here) (sym cut) ∙ sym c.compare.ensures.value ∙ told in
@@ -65,7 +65,7 @@ returns-in-Err c =
     let step = c.in-Some.ensures.steps in
     let rest = chunks_exact_rest (enumerate_source c.next.new.self) in
     let long = step.0.1.1 ∙ l.invariant.size in
-    let all = ap (λ (log : List ℕ). readings count (length log / 48) log) step.0.1.0 ∙ readings_more count part rest long in
+    let all = ap (λ (log : List ℕ). readings count (length log / 48) log) step.0.1.0 ∙ readings_next count part rest long in
     let cut = ap (λ (k : ℕ). reading_of k part) l.invariant.count in
     let stops = ap (told_of a.base here) (sym cut) ∙ sym c.compare.ensures.value ∙ c.in-Err.is in
     let same = rw c.in-Err.is at c.compare.ensures.after in
