@@ -8,7 +8,7 @@ use Rattle.model.specs.Perform.{Machine, xlen}
 use Rattle.reach.specs.Reach.{window_of, reach_in}
 use Rattle.reach.specs.declared.Saved.{Saved}
 
--- of hart h of machine m: the register c.rd and the one behind it, its pc, the reservations, and 16 bytes that hold those from c.at on, from place at on
+-- of hart h of machine m: register rd and the one behind it, its pc, the reservations, and the 16 bytes from place at on
 abbrev pub saved_at : ℕ → Machine → ℕ → ℕ → Saved
 saved_at at m h rd =
     record {

@@ -2,10 +2,11 @@
 // most 16 bytes, from one address on.
 #![tactic(auto)]
 
-ghost use Rattle.std.specs.Prelude.{◌≡◌, ◌+◌, ◌<◌, ◌≤◌, length};
+ghost use Rattle.std.specs.Prelude.{◌≡◌, ◌+◌, ◌%◌, ◌<◌, ◌≤◌, length, set};
 ghost use Rattle.word.specs.Bytes.{le, to_le};
 ghost use Rattle.word.specs.Memory.{part, splice};
 ghost use Rattle.effect.specs.Execute.{reg_at};
+ghost use Rattle.model.specs.Act.{set_reg};
 ghost use Rattle.reach.specs.Reach.{window_of, reach_in};
 ghost use Rattle.reach.specs.Back.{saved_at, saved_of, put_back};
 
@@ -135,15 +136,32 @@ pub fn save(s: &State, h: usize, word: u32, base: u64, mem: &[u8]) -> Saved
     save_at(s, h, reach.rd, at, mem)
 }
 
+// Registers rd and the one behind it, and the pc, of hart h.
+pub fn put_hart_back(
+    x: &mut [u64; 256],
+    pc: &mut [u64; 8],
+    h: usize,
+    rd: usize,
+    first: u64,
+    second: u64,
+    at: u64,
+)
+    requires { h < 8 }
+    ensures x_after { x.new ≡ set_reg h (rd % 32 + 1) second (set_reg h rd first x.old) }
+    ensures pc_after { pc.new ≡ set pc.old h at }
+{
+    set_reg(x, h, rd, first);
+    set_reg(x, h, rd % 32 + 1, second);
+    pc[h] = at;
+}
+
 // All that is not saved stays.
 #[tactic(auto, unfolding(crate::specs::Back::put_back))]
 pub fn put_back(s: &mut State, mem: &mut [u8], k: &Saved)
     requires { (k.now.hart < 8) × (k.now.at + 16 ≤ length mem.old) }
     ensures { record { state = s.new; mem = mem.new } ≡ put_back k.now (record { state = s.old; mem = mem.old }) }
 {
-    set_reg(&mut s.x, k.hart, k.rd, k.first);
-    set_reg(&mut s.x, k.hart, k.rd % 32 + 1, k.second);
-    s.pc[k.hart] = k.pc;
+    put_hart_back(&mut s.x, &mut s.pc, k.hart, k.rd, k.first, k.second, k.pc);
     s.res = k.res;
     let bytes = Sixteen {
         low: k.low,
