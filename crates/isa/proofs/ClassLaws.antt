@@ -1,8 +1,8 @@
 -- Classes and their numbers. Assumes nothing.
 use Rattle.std.proofs.Common.{◌≡◌, ℕ, List, sym, refl, ap, ◌∙◌, Option, Some, None}
-use mathlib.Core.List.{[], ◌∷◌}
+use mathlib.Core.List.{map, [], ◌∷◌}
 use Rattle.word.specs.Choose.{Row, ◌⇒◌, select}
-use Rattle.isa.specs.Decode.{class_number}
+use Rattle.isa.specs.Decode.{classes, class_number}
 use Rattle.isa.specs.declared.class.Class.{Class}
 use Rattle.isa.specs.declared.class.Class.TheVariants as C
 
@@ -47,3 +47,10 @@ back (Some C.System) = refl
 -- no two classes have one number, and none has 0
 pub class_numbers : (c d : Option Class) → class_number c ≡ class_number d → c ≡ d
 class_numbers c d e = sym (back c) ∙ ap class_numbered e ∙ back d
+
+abbrev pub number_in : Row Class → ℕ
+number_in (n ⇒ c) = class_number (Some c)
+
+-- in the map's order the classes have the numbers from 1 to 14
+pub numbered_in_order : map number_in classes ≡ 1 ∷ 2 ∷ 3 ∷ 4 ∷ 5 ∷ 6 ∷ 7 ∷ 8 ∷ 9 ∷ 10 ∷ 11 ∷ 12 ∷ 13 ∷ 14 ∷ []
+numbered_in_order = refl
