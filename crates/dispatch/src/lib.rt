@@ -19,7 +19,7 @@ use alu::swap::Pair;
 use effect::{Effect, Trap};
 use exec::integer::{branch, computed, holds, jump};
 use exec::memory::{load, store};
-use exec::{Site, atomic};
+use exec::{Site, StepSite, atomic};
 use isa::narrow::{lacks, op_if, pairs, width_if};
 use isa::{AluOp, Atomic, AtomicOp, BranchOp, Instr, Width};
 use machine::State;
@@ -135,11 +135,12 @@ fn compute_at(xlen: u32, op: AluOp, a: u64, b: u64) -> u64
 
 // An instruction that isn't lacked where registers have xlen bits. The word is the value of cause 2.
 #[tactic(auto, using(exec::proofs::MemoryByLaws::memory_by_jump, exec::proofs::MemoryByLaws::memory_by_branch, exec::proofs::MemoryByLaws::memory_by_load), unfolding(effect::specs::Execute::execute))]
-fn execute(s: &State, site: Site, i: Instr, word: u32, mem: &mut [u8]) -> Result<Effect, Trap>
-    requires { (site.hart < 8) × SizeRules s.now.settings × Xlen site.xlen × Fitting site.xlen (paired_at site.xlen i) }
-    ensures { Meets site.hart (execute site.xlen site.misaligned (paired_at site.xlen i) word (reg_at s.now.x site.hart) site.pc site.base mem.old
-        (covers_of s.now.settings (get_or s.now.res site.hart None))) site.base mem.old result mem.new }
+fn execute(s: &State, step: StepSite, i: Instr, word: u32, mem: &mut [u8]) -> Result<Effect, Trap>
+    requires { SizeRules s.now.settings × Fitting step.site.xlen (paired_at step.site.xlen i) }
+    ensures { Meets step.site.hart (execute step.site.xlen step.site.misaligned (paired_at step.site.xlen i) word (reg_at s.now.x step.site.hart)
+        step.site.pc step.site.base mem.old (covers_of s.now.settings (get_or s.now.res step.site.hart None))) step.site.base mem.old result mem.new }
 {
+    let site = step.site;
     let xlen = site.xlen;
     let pc = site.pc;
     let h = site.hart;
@@ -194,6 +195,7 @@ fn lacked_at(xlen: u32, i: Instr) -> bool
 
 // What a word does as the next instruction of hart h. What RV32 lacks is asked for once, before the classes: a test, and a second way out, in each of them
 // takes the 64-bit core's time too.
+#[tactic(auto, using(settings::proofs::SettingsLaws::xlen_is, word::proofs::WordLaws::xlen_bounds))]
 pub fn execute_word(
     s: &State,
     h: usize,
@@ -212,6 +214,7 @@ pub fn execute_word(
         pc: s.pc[h],
         base,
     };
+    let step = StepSite { site };
     let i = isa::decode(word);
     if lacked_at(site.xlen, i) {
         return Err(Trap {
@@ -219,5 +222,5 @@ pub fn execute_word(
             value: u64::from(word),
         });
     }
-    execute(s, site, i, word, mem)
+    execute(s, step, i, word, mem)
 }

@@ -2,7 +2,7 @@
 // is written.
 #![tactic(auto)]
 
-ghost use Rattle.std.specs.Prelude.{◌≡◌, ◌≤◌};
+ghost use Rattle.std.specs.Prelude.{◌≡◌, ◌<◌, ◌≤◌, ◌||◌, ◌==◌, true};
 ghost use Rattle.effect.specs.Effect.{one, retired, next_pc};
 
 use alu::integer::add;
@@ -23,6 +23,14 @@ pub struct Site {
     pub pc: u64,
     pub base: u64,
     ghost width: { xlen ≤ 64 },
+}
+
+// The site of a step of the machine: its registers have 32 or 64 bits, and its hart is one of eight.
+#[derive(Clone, Copy)]
+pub struct StepSite {
+    pub site: Site,
+    ghost width: { (site.xlen == 32 || site.xlen == 64) ≡ true },
+    ghost hart_bound: { site.hart < 8 },
 }
 
 // One register is set, and the next word comes next. Setting x0 is setting none.

@@ -1,9 +1,18 @@
-use Rattle.std.proofs.Common.{refl, sym, ◌∙◌}
+use Rattle.std.proofs.Common.{◌≡◌, refl, sym, ◌∙◌, ℕ, true, ◌||◌, ◌==◌}
+use lib.Dec.{eqb}
+use Rattle.settings.specs.Settings.{xlen_of}
 use Rattle.settings.proofs.SettingsLaws.{xlen_is}
 use Rattle.effect.specs.Execute.{execute}
-use Rattle.word.proofs.WordLaws.{xlen_bounds}
+use Rattle.word.proofs.ChooseLaws.{cond_all}
 use Rattle.dispatch.proofs.NarrowedLaws.{met_as, lacked_word, had_word, had_fits}
 use Rattle.dispatch.proofs.execute_word.Goals as goal
+
+pub invariant_of-step : goal.invariant_of-step
+unfolding xlen_of
+invariant_of-step c = record {
+  width = rw c.xlen.ensures (cond_all (λ (k : ℕ). (k == 32 || k == 64) ≡ true) (eqb c.args.s.now.settings.kind 1) 32 64 refl refl);
+  hart_bound = c.requires.0;
+}
 
 pub returns-then-lacked_at : goal.returns-then-lacked_at
 unfolding execute
@@ -11,16 +20,9 @@ returns-then-lacked_at c =
     let gone = rw c.xlen.ensures at (sym c.lacked_at.ensures ∙ c.if-lacked_at.true) in
     met_as (lacked_word _ _ _ c.decode-i.ensures gone _ _ _ _ _ _) (rw c.from.ensures (record { answer = refl; memory = refl }))
 
-pub invariant_of-site : goal.invariant_of-site
-invariant_of-site c = record { width = rw c.xlen.ensures (xlen_bounds _ (xlen_is _)).1 }
-
 pub execute-requires : goal.execute-requires
-execute-requires c = (
-  c.requires.0,
-  c.requires.1,
-  rw c.xlen.ensures (xlen_is _),
-  had_fits _ _ _ c.decode-i.ensures (sym c.lacked_at.ensures ∙ c.if-lacked_at.false) (rw c.xlen.ensures (xlen_is _)),
-)
+execute-requires c =
+    (c.requires.1, had_fits _ _ _ c.decode-i.ensures (sym c.lacked_at.ensures ∙ c.if-lacked_at.false) (rw c.xlen.ensures (xlen_is _)))
 
 pub returns : goal.returns
 returns c =
