@@ -1,18 +1,19 @@
-use Rattle.std.proofs.Common.{◌≡◌, refl, sym, ◌∙◌, ℕ, true, ◌||◌, ◌==◌}
-use lib.Dec.{eqb}
+use Rattle.std.proofs.Common.{◌≡◌, refl, sym, ◌∙◌}
+use mathlib.Core.Logic.{⊎_elim}
+use native.Mathlib.Omega.{arith}
 use Rattle.settings.specs.Settings.{xlen_of}
 use Rattle.settings.proofs.SettingsLaws.{xlen_is}
 use Rattle.effect.specs.Execute.{execute}
-use Rattle.word.proofs.ChooseLaws.{cond_all}
 use Rattle.dispatch.proofs.NarrowedLaws.{met_as, lacked_word, had_word, had_fits}
 use Rattle.dispatch.proofs.execute_word.Goals as goal
 
-pub invariant_of-step : goal.invariant_of-step
-unfolding xlen_of
-invariant_of-step c = record {
-  width = rw c.xlen.ensures (cond_all (λ (k : ℕ). (k == 32 || k == 64) ≡ true) (eqb c.args.s.now.settings.kind 1) 32 64 refl refl);
-  hart_bound = c.requires.0;
-}
+pub invariant_of-step-clause-width : goal.invariant_of-step-clause-width
+invariant_of-step-clause-width c =
+    ⊎_elim (λ (e : xlen_of c.args.s.now.settings ≡ 32). rw (c.xlen.ensures, e) refl)
+    (λ (e : xlen_of c.args.s.now.settings ≡ 64). rw (c.xlen.ensures, e) refl) (xlen_is c.args.s.now.settings)
+
+pub invariant_of-step-clause-hart_bound : goal.invariant_of-step-clause-hart_bound
+invariant_of-step-clause-hart_bound c = omega (arith, c.requires.0)
 
 pub returns-then-lacked_at : goal.returns-then-lacked_at
 unfolding execute
